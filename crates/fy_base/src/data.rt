@@ -1,0 +1,90 @@
+//! Data, operators, places, and how runs end.
+
+/// A place in a source text. Both numbers count from 1: a line ends at byte 10, and a column counts bytes.
+#[derive(Clone, Copy, PartialEq, Eq, Debug)]
+pub struct Place {
+    pub line: u32,
+    pub col: u32,
+}
+
+/// Why a program faults.
+#[derive(Clone, Copy, PartialEq, Eq, Debug)]
+pub enum FaultKind {
+    /// A result outside the integers of 64 bits.
+    Overflow,
+    /// A division by zero.
+    Zero,
+    /// A number that is no character's, or an index outside a sequence.
+    Range,
+}
+
+/// Why the machine traps.
+#[derive(Clone, Copy, PartialEq, Eq, Debug)]
+pub enum TrapKind {
+    Illegal,
+    FetchAlign,
+    FetchRange,
+    LoadAlign,
+    LoadRange,
+    StoreAlign,
+    StoreRange,
+    Service,
+}
+
+/// A datum of one of the three data types.
+#[derive(Clone, Copy, PartialEq, Eq, Debug)]
+pub enum Datum {
+    Int(i64),
+    Bool(bool),
+    Char(u8),
+}
+
+/// The operators on one datum.
+#[derive(Clone, Copy, PartialEq, Eq, Debug)]
+pub enum UnOp {
+    Neg,
+    Not,
+    Ord,
+    Chr,
+}
+
+/// The operators on two data.
+#[derive(Clone, Copy, PartialEq, Eq, Debug)]
+pub enum BinOp {
+    Add,
+    Sub,
+    Mul,
+    Div,
+    Rem,
+    Eq,
+    Ne,
+    Lt,
+    Le,
+    Gt,
+    Ge,
+    And,
+    Or,
+}
+
+/// What an output statement writes.
+#[derive(Clone, Copy, PartialEq, Eq, Debug)]
+pub enum PutKind {
+    Int,
+    Char,
+    Bool,
+}
+
+/// How a run ends.
+#[derive(Clone, Copy, PartialEq, Eq, Debug)]
+pub enum Ending {
+    Ended,
+    Fault { kind: FaultKind, place: Place },
+    Exhausted,
+    Spent,
+    TooBig,
+    Stuck,
+    Gone,
+    Trap(TrapKind),
+    InputFault,
+    OutputFault,
+}

@@ -1,0 +1,113 @@
+//! What a call may ask of the outside: a source of bytes, a sink, and files by name.
+
+ghost use Rattle.std.specs.Prelude.{◌≡◌, ℕ, ◌<◌, ◌≤◌, length, take, IfOk, OnOk, OnErr, IsErrOf, Some};
+ghost use Rattle.std.specs.declared.option.Option.{Option};
+ghost use Rattle.fy_base.specs.Outside.{Bytes, Folder, Rose, HasCause, Gave, IsAtEnd, Gained, GainedPart, Tells, IsLong, Kept, OthersStay, NoneFalls};
+
+use std::alloc::Global;
+
+/// A source or a sink failed.
+#[derive(Clone, Copy, PartialEq, Eq, Debug)]
+pub struct Failed;
+
+/// Why a file wasn't fetched.
+#[derive(Clone, Copy, PartialEq, Eq, Debug)]
+pub enum FetchError {
+    /// There is no such file. The name's count of `fetch` rose.
+    Missing,
+    /// The file could not be read. The name's count of `fetch` rose.
+    Failed,
+    /// The content is longer than the limit.
+    TooLong,
+    OutOfMemory,
+}
+
+/// Why a file wasn't kept.
+#[derive(Clone, Copy, PartialEq, Eq, Debug)]
+pub enum KeepError {
+    /// The file could not be written, and what it holds is unknown. The name's count of `keep` rose.
+    Failed,
+    /// All files are as before.
+    OutOfMemory,
+}
+
+/// A source of bytes.
+pub trait Source {
+    /// The bytes left, where the source tells them.
+    ghost left: { Self → Option Bytes };
+
+    /// How often it failed; the count stands still at 2^64 - 1.
+    ghost faults: { Self → ℕ };
+
+    /// Fills a beginning of the room with the first bytes left and answers their number. For a
+    /// room that isn't empty 0 is the end of input.
+    ///
+    /// # Errors
+    ///
+    /// `Failed` comes only where the count of faults rose. Then no byte was taken.
+    fn take(&mut self, room: &mut [u8]) -> Result<usize, Failed>
+        ensures bound { IfOk result (λ n. n ≤ length room.new) }
+        ensures taken { IfOk result (λ n. Gave (left self.old) (left self.new) (take n room.new)) }
+        ensures end { IfOk result (λ n. n ≡ 0 → 0 < length room.new → IsAtEnd (left self.old)) }
+        ensures none { OnErr result (left self.new ≡ left self.old) }
+        ensures cause { HasCause (faults self.old) (faults self.new) result };
+}
+
+/// A sink of bytes.
+pub trait Sink {
+    /// The bytes held, where the sink tells them.
+    ghost held: { Self → Option Bytes };
+
+    /// How often it failed; the count stands still at 2^64 - 1.
+    ghost faults: { Self → ℕ };
+
+    /// Appends the piece.
+    ///
+    /// # Errors
+    ///
+    /// `Failed` comes only where the count of faults rose. Then a prefix of the piece was appended.
+    fn put(&mut self, piece: &[u8]) -> Result<(), Failed>
+        ensures gained { OnOk result (Gained (held self.old) (held self.new) piece.now) }
+        ensures part { OnErr result (GainedPart (held self.old) (held self.new) piece.now) }
+        ensures cause { HasCause (faults self.old) (faults self.new) result };
+}
+
+/// Files by name. Each name has a count of faults of `fetch` and one of `keep`.
+pub trait Files {
+    /// The files, where they are told.
+    ghost held: { Self → Option Folder };
+
+    ghost fetch_faults: { Self → Bytes → ℕ };
+
+    ghost keep_faults: { Self → Bytes → ℕ };
+
+    /// The content of the named file. Whatever it answers, all files stay.
+    ///
+    /// # Errors
+    ///
+    /// `Missing` and `Failed` come only where the `fetch` count of this name rose. `TooLong` comes
+    /// exactly where neither of them comes and the content is longer than `limit`.
+    fn fetch(&mut self, alloc: Global, name: &str, limit: usize) -> Result<Vec<u8>, FetchError>
+        ensures content { IfOk result (λ bytes. Tells (held self.old) name.now (Some bytes.items)) }
+        ensures within { IfOk result (λ bytes. length bytes.items ≤ limit) }
+        ensures long { IsErrOf result FetchError.TooLong → IsLong (held self.old) name.now limit }
+        ensures missing { IsErrOf result FetchError.Missing → Rose (fetch_faults self.old name.now) (fetch_faults self.new name.now) }
+        ensures failed { IsErrOf result FetchError.Failed → Rose (fetch_faults self.old name.now) (fetch_faults self.new name.now) }
+        ensures fetches { NoneFalls (fetch_faults self.old) (fetch_faults self.new) }
+        ensures keeps { NoneFalls (keep_faults self.old) (keep_faults self.new) }
+        ensures files { held self.new ≡ held self.old };
+
+    /// Makes the named file hold the bytes; all others stay.
+    ///
+    /// # Errors
+    ///
+    /// `Failed` comes only where the `keep` count of this name rose; then the named file is unknown
+    /// and all others stay. After `OutOfMemory` all files stay.
+    fn keep(&mut self, alloc: Global, name: &str, bytes: &[u8]) -> Result<(), KeepError>
+        ensures kept { OnOk result (Kept (held self.old) (held self.new) name.now bytes.now) }
+        ensures unknown { IsErrOf result KeepError.Failed → OthersStay (held self.old) (held self.new) name.now }
+        ensures failed { IsErrOf result KeepError.Failed → Rose (keep_faults self.old name.now) (keep_faults self.new name.now) }
+        ensures memory { IsErrOf result KeepError.OutOfMemory → held self.new ≡ held self.old }
+        ensures fetches { NoneFalls (fetch_faults self.old) (fetch_faults self.new) }
+        ensures keeps { NoneFalls (keep_faults self.old) (keep_faults self.new) };
+}
