@@ -1,1 +1,3 @@
 pub mod Outside
+pub mod Arithmetic
+pub mod Memory
