@@ -1,6 +1,6 @@
 //! Sources, sinks and files in memory.
 
-ghost use Rattle.std.specs.Prelude.{◌≡◌, ℕ, ◌<◌, ◌≤◌, ◌+◌, ◌↔◌, IsTrue, IsErr, min, List, [], ◌++◌, length, take, drop, Some, OnOk, OnErr, IfOk, IsErrOf, vec_capacity, vec_len};
+ghost use Rattle.std.specs.Prelude.{◌≡◌, ℕ, ◌<◌, ◌≤◌, ◌+◌, ◌↔◌, IsTrue, IsErr, min, List, [], ◌++◌, length, take, drop, Some, false, OnOk, OnErr, IfOk, IsErrOf, vec_capacity, vec_len};
 ghost use Rattle.std.specs.Option.{option_copied, option_map};
 ghost use Rattle.fy_base.specs.Outside.{Bytes, Gave, IsAtEnd, Gained, GainedPart, HasCause, Kept};
 ghost use Rattle.fy_base.specs.Memory.{folder_of, pair_of, is_to_fail, faults_of, misses_of};
@@ -88,7 +88,8 @@ pub struct MemorySource {
 impl MemorySource {
     /// A source of these bytes, whose calls of these numbers fail.
     pub fn new(bytes: Vec<u8>, failing: Vec<u64>) -> MemorySource
-        ensures { ⟦<MemorySource as Source>⟧.left result ≡ Some bytes.items }
+        ensures left { ⟦<MemorySource as Source>⟧.left result ≡ Some bytes.items }
+        ensures failing { (result.calls.failing.items ≡ failing.items) × (result.calls.made ≡ 0) }
     {
         MemorySource {
             steady: SteadySource::new(bytes),
@@ -134,7 +135,8 @@ pub struct SteadySink {
 impl SteadySink {
     /// A sink with room for so many bytes. It takes all memory that there will be.
     pub fn new(alloc: Global, room: usize) -> Result<SteadySink, OutOfMemory>
-        ensures { IfOk result (λ s. ⟦<SteadySink as Sink>⟧.held s ≡ Some []) }
+        ensures held { IfOk result (λ s. ⟦<SteadySink as Sink>⟧.held s ≡ Some []) }
+        ensures room { IfOk result (λ s. s.room ≡ room) }
     {
         let bytes = Vec::with_capacity(alloc, room)?;
         Ok(SteadySink {
@@ -186,7 +188,9 @@ impl MemorySink {
     /// A sink with room for so many bytes, whose calls of these numbers fail. It takes all memory
     /// that there will be.
     pub fn new(alloc: Global, room: usize, failing: Vec<u64>) -> Result<MemorySink, OutOfMemory>
-        ensures { IfOk result (λ s. ⟦<MemorySink as Sink>⟧.held s ≡ Some []) }
+        ensures held { IfOk result (λ s. ⟦<MemorySink as Sink>⟧.held s ≡ Some []) }
+        ensures room { IfOk result (λ s. s.steady.room ≡ room) }
+        ensures failing { IfOk result (λ s. (s.calls.failing.items ≡ failing.items) × (s.calls.made ≡ 0)) }
     {
         let steady = SteadySink::new(alloc, room)?;
         Ok(MemorySink {
@@ -209,7 +213,14 @@ impl Sink for MemorySink {
 
     ghost faults = { λ s. s.faults };
 
-    fn put(&mut self, piece: &[u8]) -> Result<(), Failed> {
+    fn put(&mut self, piece: &[u8]) -> Result<(), Failed>
+        ensures gained { OnOk result (Gained (Some self.old.steady.bytes.items) (Some self.new.steady.bytes.items) piece.now) }
+        ensures part { OnErr result (GainedPart (Some self.old.steady.bytes.items) (Some self.new.steady.bytes.items) piece.now) }
+        ensures nothing { OnErr result (self.new.steady.bytes.items ≡ self.old.steady.bytes.items) }
+        ensures cause { HasCause self.old.faults self.new.faults result }
+        ensures as_told { IsTrue (is_to_fail self.old.calls.failing.items self.old.calls.made) → IsErr result }
+        ensures otherwise { IsErr result → is_to_fail self.old.calls.failing.items self.old.calls.made ≡ false → self.old.steady.room < vec_len self.old.steady.bytes + length piece.now }
+    {
         if !self.calls.next_fails() && self.steady.put(piece).is_ok() {
             return Ok(());
         }
@@ -317,7 +328,8 @@ pub struct MemoryFiles {
 impl MemoryFiles {
     /// No files, and calls of these numbers fail.
     pub fn new(alloc: Global, failing: Vec<u64>) -> MemoryFiles
-        ensures { ⟦<MemoryFiles as Files>⟧.held result ≡ Some (folder_of []) }
+        ensures held { ⟦<MemoryFiles as Files>⟧.held result ≡ Some (folder_of []) }
+        ensures failing { (result.calls.failing.items ≡ failing.items) × (result.calls.made ≡ 0) }
     {
         MemoryFiles {
             entries: Vec::new(alloc),
@@ -406,6 +418,7 @@ impl SteadyFiles {
         ensures ok { OnOk result (Kept (⟦<SteadyFiles as Files>⟧.held self.old) (⟦<SteadyFiles as Files>⟧.held self.new) name.now bytes.now) }
         ensures err { OnErr result (⟦<SteadyFiles as Files>⟧.held self.new ≡ ⟦<SteadyFiles as Files>⟧.held self.old) }
         ensures none_kept { self.new.kept.items ≡ [] }
+        ensures misses { self.new.misses ≡ self.old.misses }
     {
         add_entry(alloc, &mut self.made_with, name, bytes)
     }

@@ -1,4 +1,4 @@
-use Rattle.std.proofs.Common.{◌∙◌, sym, ap}
+use Rattle.std.proofs.Common.{◌∙◌}
 use Rattle.fy_base.proofs.Folders.{both_some, both_none}
 use Rattle.fy_base.proofs.memory.find_in_both.Goals as goal
 

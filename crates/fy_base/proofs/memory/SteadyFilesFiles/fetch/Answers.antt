@@ -1,4 +1,4 @@
-use Rattle.std.proofs.Common.{◌≡◌, ℕ, None, ap, sym, ◌∙◌, subst, arith, is_some, if◌then◌else◌}
+use Rattle.std.proofs.Common.{◌≡◌, ℕ, None, ap, sym, subst, arith, is_some, if◌then◌else◌}
 use Rattle.std.specs.FinMap.{get}
 use Rattle.fy_base.specs.Outside.{Rose}
 use Rattle.fy_base.specs.Memory.{folder_of, misses_of}

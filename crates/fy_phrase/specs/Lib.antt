@@ -1,0 +1,6 @@
+pub mod Tree
+pub mod Reads
+pub mod Sizes
+pub mod Contexts
+pub mod Copy
+pub mod Bounds
