@@ -1,3 +1,7 @@
 pub mod Step
 pub mod Run
 pub mod Start
+pub mod State
+pub mod View
+pub mod Ends
+pub mod Turn

@@ -2,5 +2,10 @@
 #![tactic(auto)]
 
 mod event;
+mod machine;
+mod run;
+mod step;
 
 pub use event::{Event, Status};
+pub use machine::Machine;
+pub use run::{MachineRun, run_machine};

@@ -1,0 +1,4 @@
+pub mod Instructions
+pub mod Loading
+pub mod Runs
+pub mod Turns
