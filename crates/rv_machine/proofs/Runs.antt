@@ -1,9 +1,11 @@
 -- Runs, instruction by instruction.
-use Rattle.std.proofs.Common.{◌≡◌, ◌≢◌, ℕ, zero, suc, ◌+◌, ◌-◌, ◌≤◌, [], ◌∷◌, ◌++◌, sym, ap, ◌∙◌, refl, arith, add-one, append_assoc}
+use Rattle.std.proofs.Common.{◌≡◌, ◌≢◌, ℕ, zero, suc, ◌+◌, ◌-◌, ◌≤◌, [], ◌∷◌, ◌++◌, sym, ap, ◌∙◌, refl, arith, add-one, append_assoc, inl, inr}
 use Rattle.std.proofs.lemmas.List.{append-nil}
+use Rattle.std.proofs.lemmas.Bool.{cases_lt}
 use Rattle.fy_base.specs.Outside.{Bytes, IsPrefix}
 use Rattle.rv_machine.specs.Step.{Program, Core, instruction_step}
 use Rattle.rv_machine.specs.Run.{World, run, tick, tick_from, settle}
+use Rattle.rv_machine.specs.Ends.{StandsAt}
 use Rattle.rv_machine.specs.declared.event.Event.{Event}
 use Rattle.rv_machine.specs.declared.event.Event.TheVariants.{Going, Put, WantByte, Ended, Fault, Exhausted, Trap}
 
@@ -83,3 +85,20 @@ outputs_grow program n m world le =
     let grown = world_grows program (m - n) (run program n world) in
     let e : m ≡ n + (m - n) = omega arith in
     record { rest = grown.0; is = ap (λ k. (run program k world).output) e ∙ ap (λ w. w.output) (run_split program n (m - n) world) ∙ grown.1 }
+
+-- a run that stands over at a count stands so at each later one
+pub stands_stays : (program : Program) (world : World) (n m : ℕ) (event : Event) → event ≢ Going → StandsAt program world n event → n ≤ m → run program m world ≡ run program n world
+stands_stays program world n m event over stands le = run_stays program n m world (λ going. over (sym stands.here ∙ going)) le
+
+-- a run goes on at no count from where it is over
+pub stands_over : (program : Program) (world : World) (n m : ℕ) (event : Event) → event ≢ Going → StandsAt program world n event → n ≤ m → (run program m world).ending ≢ Going
+stands_over program world n m event over stands le = λ going. over (sym stands.here ∙ ap (λ w. w.ending) (sym (stands_stays program world n m event over stands le)) ∙ going)
+
+-- a run is over by one event, at one count
+pub stands_once : (program : Program) (world : World) (n m : ℕ) (event other : Event) → event ≢ Going → other ≢ Going → StandsAt program world n event → StandsAt program world m other → (n ≡ m) × (event ≡ other)
+stands_once program world n m event other over off stands also =
+    let same : n ≡ m = elim (cases_lt n m) [
+      | inl less ↦ absurd (over (sym stands.here ∙ also.below n less))
+      | inr more ↦ elim (cases_lt m n) [ inl less ↦ absurd (off (sym also.here ∙ stands.below m less)) | inr both ↦ omega arith ]
+    ] in
+    (same, sym stands.here ∙ ap (λ k. (run program k world).ending) same ∙ also.here)

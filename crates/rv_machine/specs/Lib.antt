@@ -5,3 +5,4 @@ pub mod State
 pub mod View
 pub mod Ends
 pub mod Turn
+pub mod Words
