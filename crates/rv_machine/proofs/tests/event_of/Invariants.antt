@@ -1,0 +1,6 @@
+use Rattle.std.proofs.Common.{◌≡◌}
+use Rattle.rv_machine.specs.declared.event.Status.TheVariants.{Running}
+use Rattle.rv_machine.proofs.tests.event_of.Given as goal
+
+abbrev pub invariant-loop : goal.invariant-loop
+invariant-loop l = l.m.core.status ≡ Running

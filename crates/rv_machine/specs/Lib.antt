@@ -1,0 +1,8 @@
+pub mod Step
+pub mod Run
+pub mod Start
+pub mod State
+pub mod View
+pub mod Ends
+pub mod Turn
+pub mod Words
