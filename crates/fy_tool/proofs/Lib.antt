@@ -1,3 +1,5 @@
 pub mod Numbers
 pub mod TokenLemmas
 pub mod StatementLemmas
+pub mod Sequences
+pub mod Programs
