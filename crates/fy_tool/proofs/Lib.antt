@@ -3,3 +3,4 @@ pub mod TokenLemmas
 pub mod StatementLemmas
 pub mod Sequences
 pub mod Programs
+pub mod CopyRuns
