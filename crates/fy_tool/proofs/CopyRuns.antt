@@ -92,10 +92,12 @@ right_of x at o = record o { contexts = (record { base = o.load; context = op_r 
 -- the right operand's value is there
 last_step : (b : Bool) (x y : ℤ) (here at : Place) (o : Round) → is_int (x +ℤ y) ≡ b → (k : ℕ) (r : CopyRun) → Leads r k (run_at (lit (datum.Int y) here) (right_of x at o)) → (e : Tree) → r ≡ run_at e o
     → Yields (cond b (Ok (x +ℤ y)) (Err at)) e o (k + 1)
-last_step true x y here at o is k r leads e same =
-    (at, subst (λ r. Leads r (k + 1) (run_at (lit (datum.Int (x +ℤ y)) at) o)) same
-    (then r (run_at (lit (datum.Int y) here) (right_of x at o)) (run_at (lit (datum.Int (x +ℤ y)) at) o) k 1 (k + 1) (omega arith) leads
-    (step (run_at (lit (datum.Int y) here) (right_of x at o)) (run_at (lit (datum.Int (x +ℤ y)) at) o) (rw is refl))))
+last_step true x y here at o is k r leads e same = (
+  at,
+  subst (λ r. Leads r (k + 1) (run_at (lit (datum.Int (x +ℤ y)) at) o)) same
+      (then r (run_at (lit (datum.Int y) here) (right_of x at o)) (run_at (lit (datum.Int (x +ℤ y)) at) o) k 1 (k + 1) (omega arith) leads
+      (step (run_at (lit (datum.Int y) here) (right_of x at o)) (run_at (lit (datum.Int (x +ℤ y)) at) o) (rw is refl))),
+)
 last_step false x y here at o is k r leads e same =
     subst (λ r. Fails r (k + 1) at o.input o.output) same
     (fails_then r (run_at (lit (datum.Int y) here) (right_of x at o)) k 1 (k + 1) at o.input o.output (omega arith) leads
@@ -165,9 +167,11 @@ nothing_more p o = ap (λ out. run_at p (record o { output = out })) (sym (appen
 
 put_does : (u : Result ℤ Place) (e : Tree) (at : Place) (o : Round) → Yields u e (put_of o) (3 * nodes e) → Does (said_value u).fault (said_value u).text (put kinds.Int e at) o (3 * (1 + nodes e))
 put_does (Ok v) e at o y =
-    let first = leads_step (run_at (put kinds.Int e at) o) (run_at e (put_of o)) (run_at (lit (datum.Int v) y.0) (put_of o)) (3 * nodes e) (3 * nodes e + 1) (omega arith) refl y.1 in
-    (y.0, then (run_at (put kinds.Int e at) o) (run_at (lit (datum.Int v) y.0) (put_of o)) (run_at (skip y.0) (with_output o (signed_decimal v))) (3 * nodes e + 1) 1 _ (omega arith) first
-    (step (run_at (lit (datum.Int v) y.0) (put_of o)) (run_at (skip y.0) (with_output o (signed_decimal v))) refl))
+    let first = leads_step (run_at (put kinds.Int e at) o) (run_at e (put_of o)) (run_at (lit (datum.Int v) y.0) (put_of o)) (3 * nodes e) (3 * nodes e + 1) (omega arith) refl y.1 in (
+      y.0,
+      then (run_at (put kinds.Int e at) o) (run_at (lit (datum.Int v) y.0) (put_of o)) (run_at (skip y.0) (with_output o (signed_decimal v))) (3 * nodes e + 1) 1 _ (omega arith) first
+          (step (run_at (lit (datum.Int v) y.0) (put_of o)) (run_at (skip y.0) (with_output o (signed_decimal v))) refl),
+    )
 put_does (Err a) e at o y =
     subst (λ out. Fails (run_at (put kinds.Int e at) o) (3 * (1 + nodes e)) a o.input out) (sym (append-nil o.output))
     (fails_step (run_at (put kinds.Int e at) o) (run_at e (put_of o)) (3 * nodes e) _ a o.input o.output (omega arith) refl y)

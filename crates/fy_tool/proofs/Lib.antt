@@ -4,3 +4,11 @@ pub mod StatementLemmas
 pub mod Sequences
 pub mod Programs
 pub mod CopyRuns
+pub mod Contents
+pub mod Lines
+pub mod Judging
+pub mod Running
+pub mod Parts
+pub mod Executing
+pub mod Serving
+pub mod Answering

@@ -1,3 +1,9 @@
 pub mod Small
 pub mod Reading
 pub mod Said
+pub mod World
+pub mod Note
+pub mod Order
+pub mod Due
+pub mod Answers
+pub mod Working

@@ -1,5 +1,5 @@
 -- What a phrase of the small texts writes and how it ends, and the image that the selector makes of it.
-use Rattle.std.specs.Prelude.{◌≡◌, ℕ, ◌+◌, ◌<◌, All, ℤ, pos, ◌+ℤ◌, List, [], ◌∷◌, ◌++◌, length, map, Some, None, Ok, Err, if◌then◌else◌}
+use Rattle.std.specs.Prelude.{◌≡◌, ℕ, ◌+◌, IsTrue, ℤ, pos, ◌+ℤ◌, List, [], ◌∷◌, ◌++◌, length, map, Some, None, Ok, Err, if◌then◌else◌}
 use Rattle.std.specs.Fmt.{signed_decimal}
 use Rattle.std.specs.declared.option.Option.{Option}
 use Rattle.std.specs.declared.result.Result.{Result}
@@ -59,7 +59,7 @@ said (skip at) = record { text = []; fault = None }
 
 -- sums of integer literals, and commands made of them; the places of the sums are places
 abbrev pub IsIntDatum : Datum → Type 0
-IsIntDatum (datum.Int v) = Unit {0}
+IsIntDatum (datum.Int v) = IsTrue (is_int v)
 IsIntDatum (datum.Bool b) = ⊥
 IsIntDatum (datum.Char c) = ⊥
 
@@ -92,11 +92,18 @@ abbrev pub places_of : Option Place → List Place
 places_of None = []
 places_of (Some at) = at ∷ []
 
--- an image whose code puts a text byte by byte, and then ends or faults
-pub record Writes (image : Image) (s : Said) : Type 0 where
-  pub code : image.code ≡ code_of (map put_block s.text ++ last_block s.fault ∷ [])
-  pub places : image.places ≡ places_of s.fault
-  pub bytes : All (λ b. b < 256) s.text
+-- the image of what is said: its code puts the text byte by byte, and then ends or faults
+abbrev pub image_saying : Said → Image
+image_saying s = record {
+  stack_words = 1048576;
+  code = code_of (map put_block s.text ++ last_block s.fault ∷ []);
+  table = [];
+  places = places_of s.fault;
+}
+
+-- the image of a phrase
+abbrev pub image_of : Tree → Image
+image_of p = image_saying (said p)
 
 -- the last so many of some phrases were taken off, and are this sequence
 pub record TookLast (old new : List Phrase) (count : ℕ) (p : Tree) : Type 0 where

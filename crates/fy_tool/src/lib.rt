@@ -1,4 +1,12 @@
 //! The call behind the program: its words, files, input, output and notes.
 #![tactic(auto)]
 
+mod command;
+mod commands;
+mod note;
 mod small;
+mod top;
+mod world;
+
+pub use command::{Command, command_of};
+pub use top::forsythe;

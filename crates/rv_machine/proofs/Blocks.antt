@@ -123,16 +123,16 @@ block_puts program world k block puts has at =
     }
 
 -- a block that ends the program
-pub block_ends : (program : Program) (world : World) (k : ℕ) (block : Block) → block.service ≡ 0 → HasBlock program k block → AtBlock world k → ((run program 4 world).ending ≡ Ended) × ((run program 4 world).output ≡ world.output)
+pub block_ends : (program : Program) (world : World) (k : ℕ) (block : Block) → block.service ≡ 0 → HasBlock program k block → AtBlock world k → ((run program 4 world).ending ≡ Ended) × ((run program 4 world).output ≡ world.output) × ((run program 4 world).input ≡ world.input)
 unfolding run
 block_ends program world k block ends has at =
     let there = ap (λ w. tick program w) (block_3 program world k block has at)
     ∙ tick_end program (loaded world block) (4 * k + 3) at.goes has.word_3 (omega (arith, at.pc_is)) (reads_17 world.core.regs block.first block.second block.service at.regs_are ∙ ends) in
-    (ap (λ w. w.ending) there, ap (λ w. w.output) there)
+    (ap (λ w. w.ending) there, ap (λ w. w.output) there, ap (λ w. w.input) there)
 
 -- a block that faults with an overflow at a place
 pub block_overflows : (program : Program) (world : World) (k : ℕ) (block : Block) (place : Place) → block.service ≡ 3 → block.first ≡ 1 → slice_get program.places block.second ≡ Some place
-    → HasBlock program k block → AtBlock world k → ((run program 4 world).ending ≡ Fault Overflow place) × ((run program 4 world).output ≡ world.output)
+    → HasBlock program k block → AtBlock world k → ((run program 4 world).ending ≡ Fault Overflow place) × ((run program 4 world).output ≡ world.output) × ((run program 4 world).input ≡ world.input)
 unfolding run
 block_overflows program world k block place faults kind named has at =
     let regs = world.core.regs in
@@ -140,4 +140,4 @@ block_overflows program world k block place faults kind named has at =
     ∙ tick_overflow program (loaded world block) (4 * k + 3) place at.goes has.word_3 (omega (arith, at.pc_is)) (reads_17 regs block.first block.second block.service at.regs_are ∙ faults)
     (reads_10 regs block.first block.second block.service at.regs_are ∙ kind)
     (ap (λ n. slice_get program.places n) (reads_11 regs block.first block.second block.service at.regs_are) ∙ named) in
-    (ap (λ w. w.ending) there, ap (λ w. w.output) there)
+    (ap (λ w. w.ending) there, ap (λ w. w.output) there, ap (λ w. w.input) there)

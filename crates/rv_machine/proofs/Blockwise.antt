@@ -128,9 +128,10 @@ take_whole (b ∷ bytes) = ap (λ t. b ∷ t) (take_whole bytes)
 pub record Stops (program : Program) (world : World) (bytes : Bytes) (event : Event) : Type 0 where
   pub stands : StandsAt program world (4 * length bytes + 4) event
   pub output : (run program (4 * length bytes + 4) world).output ≡ world.output ++ bytes
+  pub input : (run program (4 * length bytes + 4) world).input ≡ world.input
 
 stops : (program : Program) (world : World) (bytes : Bytes) (block : Block) (event : Event) → HasBlock program (length bytes) block → Reaches program world bytes (length bytes)
-    → (AtBlock (run program (4 * length bytes) world) (length bytes) → ((run program 4 (run program (4 * length bytes) world)).ending ≡ event) × ((run program 4 (run program (4 * length bytes) world)).output ≡ (run program (4 * length bytes) world).output)) → Stops program world bytes event
+    → (AtBlock (run program (4 * length bytes) world) (length bytes) → ((run program 4 (run program (4 * length bytes) world)).ending ≡ event) × ((run program 4 (run program (4 * length bytes) world)).output ≡ (run program (4 * length bytes) world).output) × ((run program 4 (run program (4 * length bytes) world)).input ≡ (run program (4 * length bytes) world).input)) → Stops program world bytes event
 stops program world bytes block event has reached last =
     let n : ℕ = length bytes in
     let there = run program (4 * n) world in
@@ -142,6 +143,7 @@ stops program world bytes block event has reached last =
         here = ap (λ w. w.ending) same ∙ end.0;
       };
       output = ap (λ w. w.output) same ∙ end.1 ∙ reached.output ∙ ap (λ o. world.output ++ o) (take_whole bytes);
+      input = ap (λ w. w.input) same ∙ end.2 ∙ reached.input;
     }
 
 -- blocks that put bytes, and then a block that ends

@@ -2,9 +2,8 @@
 
 ghost use Rattle.std.specs.Prelude.{◌≡◌, ◌≤◌, ◌<◌, ◌*◌, ◌+◌, [], ◌∷◌, ◌++◌, All, length, map, IfOk};
 ghost use Rattle.fy_phrase.specs.Reads.{reads};
-ghost use Rattle.fy_image.specs.Ranges.{IsImage};
 ghost use Rattle.rv_machine.specs.Words.{Block, addi_word, block_words, code_of, put_block, end_block, overflow_block};
-ghost use Rattle.fy_tool.specs.Said.{IsCommand, said, int_of, value_of, puts_of, last_block, places_of, Writes};
+ghost use Rattle.fy_tool.specs.Said.{said, int_of, value_of, last_block, places_of, image_of};
 
 use fy_base::{Datum, DoubleList, OutOfMemory, Place, PlaceList, WordList};
 use fy_image::Image;
@@ -44,7 +43,6 @@ fn value_of(sum: &Phrase) -> Result<i64, Place>
 fn say(alloc: Global, p: &Phrase, text: &mut Vec<u8>) -> Result<Option<Place>, OutOfMemory>
     ensures fault { IfOk result (λ fault. fault ≡ (said (reads p.now)).fault) }
     ensures text { IfOk result (λ fault. text.new.items ≡ text.old.items ++ (said (reads p.now)).text) }
-    ensures short { IfOk result (λ fault. length text.new.items ≤ length text.old.items + 40 * puts_of (reads p.now)) }
 {
     match p {
         Phrase::Put(_, sum, _) => match value_of(sum) {
@@ -120,11 +118,7 @@ fn places_of(alloc: Global, fault: Option<Place>) -> Result<PlaceList, OutOfMemo
 
 /// The image of a phrase.
 pub fn compile(alloc: Global, p: &Phrase) -> Result<Image, OutOfMemory>
-    requires few { puts_of (reads p.now) ≤ 4096 }
-    requires command { IsCommand (reads p.now) }
-    ensures ranges { IfOk result IsImage }
-    ensures writes { IfOk result (λ image. Writes image (said (reads p.now))) }
-    ensures short { IfOk result (λ image. length (said (reads p.now)).text ≤ 163840) }
+    ensures { IfOk result (λ image. image ≡ image_of (reads p.now)) }
 {
     let mut text = Vec::new(alloc);
     let fault = say(alloc, p, &mut text)?;

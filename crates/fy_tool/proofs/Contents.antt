@@ -1,0 +1,34 @@
+-- What the objects hold, step by step.
+use Rattle.std.proofs.Common.{◌≡◌, ℕ, [], ◌++◌, sym, ap, ◌∙◌, refl, arith, append_assoc, Some, None}
+use Rattle.std.proofs.lemmas.List.{append-nil}
+use Rattle.std.specs.declared.option.Option.{Option}
+use Rattle.fy_base.specs.Outside.{Bytes, appended, Gained, GainedPart}
+use Rattle.fy_tool.specs.World.{Contents, Counts, Later}
+
+pub later_more : (a b c : Counts) → Later a b → Later b c → Later a c
+later_more a b c h k = record {
+  fetches = λ name. let x = h.fetches name in let y = k.fetches name in omega arith;
+  keeps = λ name. let x = h.keeps name in let y = k.keeps name in omega arith;
+  input = let x = h.input in let y = k.input in omega arith;
+  output = let x = h.output in let y = k.output in omega arith;
+  notes = let x = h.notes in let y = k.notes in omega arith;
+}
+
+pub appended-appended : (held : Option Bytes) (x y : Bytes) → appended (appended held x) y ≡ appended held (x ++ y)
+appended-appended None x y = refl
+appended-appended (Some h) x y = ap (λ t. Some t) (append_assoc h x y)
+
+pub appended-nil : (held : Option Bytes) → appended held [] ≡ held
+appended-nil None = refl
+appended-nil (Some h) = ap (λ t. Some t) (append-nil h)
+
+-- nothing is a beginning of any bytes, and all of them are one
+pub nothing : (held : Option Bytes) (bytes : Bytes) → GainedPart held held bytes
+nothing held bytes = record { part = []; gained = sym (appended-nil held); begins = record { rest = bytes; is = refl } }
+
+pub all_gained : (held : Option Bytes) (bytes : Bytes) → GainedPart held (appended held bytes) bytes
+all_gained held bytes = record { part = bytes; gained = refl; begins = record { rest = []; is = sym (append-nil bytes) } }
+
+-- two gains, one after another
+pub gained_both : (b c d : Option Bytes) (x y : Bytes) → Gained b c x → Gained c d y → Gained b d (x ++ y)
+gained_both b c d x y g h = h ∙ ap (λ c. appended c y) g ∙ appended-appended b x y

@@ -1,0 +1,14 @@
+use Rattle.fy_phrase.specs.Reads.{reads}
+use Rattle.fy_tool.proofs.Executing.{works_unbegun, works_faulted, works_told, works_told_part}
+use Rattle.fy_tool.proofs.commands.execute.Goals as goal
+
+pub returns-in-Err-clause-works : goal.returns-in-Err-clause-works
+returns-in-Err-clause-works g c = works_unbegun (reads c.args.p.now) _ c.in-Err.stop c.requires.command c.requires.few
+
+pub returns-in-InputFault-clause-works : goal.returns-in-InputFault-clause-works
+returns-in-InputFault-clause-works g c =
+    works_faulted (reads c.args.p.now) _ (g.W.World.holds c.run-run.new.self) _ c.in-Ok.machine c.run-run.result _ c.requires.command c.requires.few c.in-Ok.ensures.start c.run-run.ensures.did c.run-run.ensures.rest
+
+pub returns-in-OutputFault-clause-works : goal.returns-in-OutputFault-clause-works
+returns-in-OutputFault-clause-works g c =
+    works_faulted (reads c.args.p.now) _ (g.W.World.holds c.run-run.new.self) _ c.in-Ok.machine c.run-run.result _ c.requires.command c.requires.few c.in-Ok.ensures.start c.run-run.ensures.did c.run-run.ensures.rest

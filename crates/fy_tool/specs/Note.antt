@@ -1,0 +1,52 @@
+-- The text of each note.
+use Rattle.std.specs.Prelude.{List, [], ◌∷◌, ◌++◌, codes, map}
+use Rattle.std.specs.Fmt.{decimal}
+use Rattle.fy_base.specs.Outside.{Bytes}
+use Rattle.fy_base.specs.declared.data.Place.{Place}
+use Rattle.fy_base.specs.declared.data.FaultKind.{FaultKind}
+use Rattle.fy_base.specs.declared.data.FaultKind.TheVariants.{Overflow, Zero, Range}
+use Rattle.fy_base.specs.declared.data.TrapKind.{TrapKind}
+use Rattle.fy_base.specs.declared.data.TrapKind.TheVariants.{Illegal, FetchAlign, FetchRange, LoadAlign, LoadRange, StoreAlign, StoreRange, Service}
+use Rattle.fy_tool.specs.declared.note.Note.{Note}
+use Rattle.fy_tool.specs.declared.note.Note.TheVariants.{Fault, StackExhausted, StepsSpent, Trapped, Unbuilt, Usage, OutsideFiles, OutsideInput, OutsideOutput, Memory, Instructions}
+
+-- a place, as it is printed: line, colon, column
+abbrev pub place_text : Place → Bytes
+place_text place = decimal place.line ++ 58 ∷ decimal place.col
+
+abbrev pub fault_name : FaultKind → Bytes
+fault_name Overflow = codes "fault overflow "
+fault_name Zero = codes "fault zero "
+fault_name Range = codes "fault range "
+
+abbrev pub trap_name : TrapKind → Bytes
+trap_name Illegal = codes "trap illegal"
+trap_name FetchAlign = codes "trap fetch-align"
+trap_name FetchRange = codes "trap fetch-range"
+trap_name LoadAlign = codes "trap load-align"
+trap_name LoadRange = codes "trap load-range"
+trap_name StoreAlign = codes "trap store-align"
+trap_name StoreRange = codes "trap store-range"
+trap_name Service = codes "trap service"
+
+abbrev pub note_text : Note → Bytes
+note_text (Fault kind place) = fault_name kind ++ place_text place
+note_text StackExhausted = codes "stack exhausted"
+note_text StepsSpent = codes "steps spent"
+note_text (Trapped kind) = trap_name kind
+note_text Unbuilt = codes "unbuilt"
+note_text Usage = codes "usage"
+note_text OutsideFiles = codes "outside files"
+note_text OutsideInput = codes "outside input"
+note_text OutsideOutput = codes "outside output"
+note_text Memory = codes "memory"
+note_text (Instructions count) = codes "instructions " ++ decimal count
+
+-- each line with its end, byte 10
+abbrev pub ended_lines : List Bytes → Bytes
+ended_lines [] = []
+ended_lines (line ∷ lines) = line ++ 10 ∷ ended_lines lines
+
+-- the lines of these notes
+abbrev pub lines : List Note → Bytes
+lines notes = ended_lines (map note_text notes)

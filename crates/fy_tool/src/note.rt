@@ -1,0 +1,114 @@
+//! The notes of a call, a line each.
+
+ghost use Rattle.std.specs.Prelude.{◌≡◌, ◌≤◌, ◌+◌, [], ◌∷◌, ◌++◌, length};
+ghost use Rattle.std.specs.Fmt.{decimal};
+ghost use Rattle.fy_tool.specs.Note.{note_text, place_text, fault_name, trap_name};
+
+use arrayvec::ArrayString;
+use fy_base::{FaultKind, Place, TrapKind};
+
+/// A note.
+#[derive(Clone, Copy, PartialEq, Eq, Debug)]
+pub enum Note {
+    /// The program faulted.
+    Fault { kind: FaultKind, place: Place },
+    /// The stack was exhausted.
+    StackExhausted,
+    /// All the instructions that were allowed are spent.
+    StepsSpent,
+    /// The machine trapped.
+    Trapped(TrapKind),
+    /// The text is too long, or none of those that can be built yet.
+    Unbuilt,
+    /// The words are no command.
+    Usage,
+    OutsideFiles,
+    OutsideInput,
+    OutsideOutput,
+    Memory,
+    /// How many instructions a run executed.
+    Instructions(u64),
+}
+
+/// A line of text with its end.
+pub type Line = ArrayString<96>;
+
+fn begun(words: &str) -> Line
+    requires { length words.now ≤ 20 }
+    ensures { result.bytes ≡ words.now }
+{
+    let mut line = ArrayString::new();
+    line.push_str(words);
+    line
+}
+
+fn push_number(line: &mut Line, number: u64)
+    requires { length line.old.bytes ≤ 60 }
+    ensures text { line.new.bytes ≡ line.old.bytes ++ decimal number }
+    ensures length { length line.new.bytes ≤ length line.old.bytes + 20 }
+{
+    line.push_str(itoa::Buffer::new().format(number));
+}
+
+fn push_place(line: &mut Line, place: Place)
+    requires { length line.old.bytes ≤ 20 }
+    ensures text { line.new.bytes ≡ line.old.bytes ++ place_text place }
+    ensures length { length line.new.bytes ≤ length line.old.bytes + 41 }
+{
+    push_number(line, place.line.into());
+    line.push_str(":");
+    push_number(line, place.col.into());
+}
+
+fn fault_name(kind: FaultKind) -> &'static str
+    ensures name { result.now ≡ fault_name kind }
+    ensures length { length result.now ≤ 20 }
+{
+    match kind {
+        FaultKind::Overflow => "fault overflow ",
+        FaultKind::Zero => "fault zero ",
+        FaultKind::Range => "fault range ",
+    }
+}
+
+fn trap_name(kind: TrapKind) -> &'static str
+    ensures name { result.now ≡ trap_name kind }
+    ensures length { length result.now ≤ 20 }
+{
+    match kind {
+        TrapKind::Illegal => "trap illegal",
+        TrapKind::FetchAlign => "trap fetch-align",
+        TrapKind::FetchRange => "trap fetch-range",
+        TrapKind::LoadAlign => "trap load-align",
+        TrapKind::LoadRange => "trap load-range",
+        TrapKind::StoreAlign => "trap store-align",
+        TrapKind::StoreRange => "trap store-range",
+        TrapKind::Service => "trap service",
+    }
+}
+
+/// The text of a note and byte 10.
+pub fn line_of(note: Note) -> Line
+    ensures { result.bytes ≡ note_text note ++ 10 ∷ [] }
+{
+    let mut line = match note {
+        Note::Fault { kind, .. } => begun(fault_name(kind)),
+        Note::StackExhausted => begun("stack exhausted"),
+        Note::StepsSpent => begun("steps spent"),
+        Note::Trapped(kind) => begun(trap_name(kind)),
+        Note::Unbuilt => begun("unbuilt"),
+        Note::Usage => begun("usage"),
+        Note::OutsideFiles => begun("outside files"),
+        Note::OutsideInput => begun("outside input"),
+        Note::OutsideOutput => begun("outside output"),
+        Note::Memory => begun("memory"),
+        Note::Instructions(_) => begun("instructions "),
+    };
+    match note {
+        Note::Fault { place, .. } => push_place(&mut line, place),
+        Note::Instructions(count) => push_number(&mut line, count),
+        _ => {}
+    }
+    line.push_str("\n");
+    line
+}

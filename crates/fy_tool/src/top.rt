@@ -1,0 +1,63 @@
+//! The top call.
+
+ghost use Rattle.std.specs.Prelude.{◌≡◌, map, string_bytes};
+ghost use Rattle.std.specs.Option.{option_map};
+ghost use Rattle.fy_tool.specs.Order.{command_from, order_of};
+ghost use Rattle.fy_tool.specs.Answers.{Answers};
+
+use crate::command::{Command, command_of};
+use crate::commands::{conclude, refuse, serve};
+use crate::note::Note;
+use crate::world::{Outside, World};
+use fy_base::{Files, Sink, Source};
+use std::alloc::Global;
+
+// Answers a command, or words that are none.
+fn answer<W: World>(alloc: Global, command: Option<Command>, world: &mut W) -> u8
+    ensures answers { Answers (option_map order_of command.entry) (W.holds world.old) (W.holds world.new) (W.counts world.old) (W.counts world.new) result }
+    ensures same { W.names world.new ≡ W.names world.old }
+{
+    match command {
+        None => {
+            let work = refuse(5, Note::Usage, world);
+            conclude(work, world)
+        }
+        Some(command) => {
+            let work = serve(alloc, command, world);
+            conclude(work, world)
+        }
+    }
+}
+
+/// Does what the words ask for, over files, an input, an output and notes, and answers the status.
+///
+/// | Status | Comes where |
+/// |---|---|
+/// | 0, 1 | the program ended, or faulted |
+/// | 2 | the text has over 4,096 bytes or isn't of the grammar |
+/// | 5 | the words are no command |
+/// | 7 | a count of faults rose |
+/// | 9 | memory was wanting |
+pub fn forsythe<F: Files, I: Source, O: Sink, N: Sink>(
+    alloc: Global,
+    words: &[String],
+    files: &mut F,
+    input: &mut I,
+    output: &mut O,
+    notes: &mut N,
+) -> u8
+    ensures { Answers (command_from (map string_bytes words.now))
+        (record { files = F.held files.old; input = I.left input.old; output = O.held output.old; notes = N.held notes.old })
+        (record { files = F.held files.new; input = I.left input.new; output = O.held output.new; notes = N.held notes.new })
+        (record { fetches = F.fetch_faults files.old; keeps = F.keep_faults files.old; input = I.faults input.old; output = O.faults output.old; notes = N.faults notes.old })
+        (record { fetches = F.fetch_faults files.new; keeps = F.keep_faults files.new; input = I.faults input.new; output = O.faults output.new; notes = N.faults notes.new })
+        result }
+{
+    let mut outside = Outside {
+        files,
+        input,
+        output,
+        notes,
+    };
+    answer(alloc, command_of(words), &mut outside)
+}
