@@ -1,0 +1,12 @@
+//! The instructions of RV64IM: their words and their prints. What a step of the machine does with
+//! them is defined in `specs/`.
+#![tactic(auto)]
+
+mod codes;
+mod decoding;
+mod encoding;
+mod instructions;
+
+pub use decoding::decode;
+pub use encoding::{encode, is_encodable};
+pub use instructions::{BranchOp, ImmOp, Insn, LoadOp, RegOp, ShiftOp, StoreOp};
