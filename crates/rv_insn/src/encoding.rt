@@ -20,30 +20,15 @@ pub fn is_encodable(insn: &Insn) -> bool
             rd < 32 && (-1048576..1048576).contains(&offset) && offset % 2 == 0
         }
         Insn::Branch {
-            op: _,
             rs1,
             rs2,
             offset,
-        } => rs1 < 32 && rs2 < 32 && (-4096..4096).contains(&offset) && offset % 2 == 0,
+            ..
+        } => { rs1 < 32 && rs2 < 32 && (-4096..4096).contains(&offset) && offset % 2 == 0 }
         Insn::Jalr { rd, base, imm } => rd < 32 && base < 32 && is_immediate(imm),
-        Insn::Load {
-            op: _,
-            rd,
-            base,
-            imm,
-        } => rd < 32 && base < 32 && is_immediate(imm),
-        Insn::Store {
-            op: _,
-            rs2,
-            base,
-            imm,
-        } => rs2 < 32 && base < 32 && is_immediate(imm),
-        Insn::Imm {
-            op: _,
-            rd,
-            rs1,
-            imm,
-        } => rd < 32 && rs1 < 32 && is_immediate(imm),
+        Insn::Load { rd, base, imm, .. } => rd < 32 && base < 32 && is_immediate(imm),
+        Insn::Store { rs2, base, imm, .. } => rs2 < 32 && base < 32 && is_immediate(imm),
+        Insn::Imm { rd, rs1, imm, .. } => rd < 32 && rs1 < 32 && is_immediate(imm),
         Insn::Fence { rd, rs1, imm } => rd < 32 && rs1 < 32 && is_immediate(imm),
         Insn::Shift {
             op,
@@ -51,12 +36,7 @@ pub fn is_encodable(insn: &Insn) -> bool
             rs1,
             amount,
         } => rd < 32 && rs1 < 32 && amount < op.amounts(),
-        Insn::Reg {
-            op: _,
-            rd,
-            rs1,
-            rs2,
-        } => rd < 32 && rs1 < 32 && rs2 < 32,
+        Insn::Reg { rd, rs1, rs2, .. } => rd < 32 && rs1 < 32 && rs2 < 32,
         Insn::Ecall => true,
     }
 }

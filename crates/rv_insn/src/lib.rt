@@ -6,7 +6,9 @@ mod codes;
 mod decoding;
 mod encoding;
 mod instructions;
+mod prints;
 
 pub use decoding::decode;
 pub use encoding::{encode, is_encodable};
 pub use instructions::{BranchOp, ImmOp, Insn, LoadOp, RegOp, ShiftOp, StoreOp};
+pub use prints::print_insn;
