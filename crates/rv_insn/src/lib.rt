@@ -5,10 +5,12 @@
 mod codes;
 mod decoding;
 mod encoding;
+mod events;
 mod instructions;
 mod prints;
 
 pub use decoding::decode;
 pub use encoding::{encode, is_encodable};
+pub use events::{Event, Status};
 pub use instructions::{BranchOp, ImmOp, Insn, LoadOp, RegOp, ShiftOp, StoreOp};
 pub use prints::print_insn;
