@@ -5,3 +5,4 @@ pub mod Operations
 pub mod Memory
 pub mod Step
 pub mod Run
+pub mod Laws

@@ -7,10 +7,12 @@ mod decoding;
 mod encoding;
 mod events;
 mod instructions;
+mod laws;
 mod prints;
 
 pub use decoding::decode;
 pub use encoding::{encode, is_encodable};
 pub use events::{Event, Status};
 pub use instructions::{BranchOp, ImmOp, Insn, LoadOp, RegOp, ShiftOp, StoreOp};
+pub use laws::words_are_unambiguous;
 pub use prints::print_insn;

@@ -1,0 +1,3 @@
+pub mod FixedFields
+pub mod FormOfWord
+pub mod OneInstruction
