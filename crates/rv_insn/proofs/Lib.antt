@@ -5,3 +5,7 @@ pub mod WordFields
 pub mod OneWord
 pub mod SomeWord
 pub mod OnlyEncodable
+pub mod Runs
+pub mod Standing
+pub mod Shape
+pub mod Reading

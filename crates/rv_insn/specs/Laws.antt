@@ -1,7 +1,13 @@
--- Laws of the encoding.
-use Rattle.std.specs.Prelude.{◌≡◌, ℕ}
+-- Laws of the encoding, of the step and of runs.
+use Rattle.std.specs.Prelude.{◌≡◌, ◌≢◌, ℕ, ◌+◌, List, length, Option}
+use Rattle.fy_base.specs.Outside.{IsPrefix}
+use Rattle.rv_insn.specs.declared.events.Event.TheVariants.{Going}
+use Rattle.rv_insn.specs.declared.events.Status.TheVariants.{Running}
 use Rattle.rv_insn.specs.declared.instructions.Insn.{Insn}
 use Rattle.rv_insn.specs.Encoding.{IsWordOf, IsEncodable}
+use Rattle.rv_insn.specs.Memory.{Program}
+use Rattle.rv_insn.specs.Step.{Core, reg, AreRead, instruction_step, status_after}
+use Rattle.rv_insn.specs.Run.{World, run}
 
 -- each word is at most one instruction's
 abbrev pub WordsAreUnambiguous : Type 0
@@ -20,3 +26,34 @@ EncodableHaveOneWord = (insn : Insn) → IsEncodable insn → HasOneWord insn
 -- no other instruction has a word
 abbrev pub OnlyEncodableHaveWords : Type 0
 OnlyEncodableHaveWords = (insn : Insn) (word : ℕ) → IsWordOf insn word → IsEncodable insn
+
+-- n + m instructions are n and then m
+abbrev pub RunsSplit : Type 0
+RunsSplit = (program : Program) (n m : ℕ) (world : World) → run program (n + m) world ≡ run program m (run program n world)
+
+-- the output only grows
+abbrev pub OutputGrows : Type 0
+OutputGrows = (program : Program) (n m : ℕ) (world : World) → IsPrefix (run program n world).output (run program (n + m) world).output
+
+-- a run that has ended stays as it is
+abbrev pub EndedRunsStay : Type 0
+EndedRunsStay = (program : Program) (n : ℕ) (world : World) → world.ending ≢ Going → run program n world ≡ world
+
+-- a machine that ran stands after a step as the step's event says
+abbrev pub StatusFollows : Type 0
+StatusFollows =
+    (program : Program) (core : Core) → core.status ≡ Running
+    → (instruction_step program core).core.status ≡ status_after (instruction_step program core).event
+
+-- what no run changes of a machine: how many registers it has, x0, and the size of the stack
+pub record KeepsShape (before now : Core) : Type 0 where
+  pub count : length now.regs ≡ length before.regs
+  pub zero : reg now 0 ≡ reg before 0
+  pub size : length now.stack ≡ length before.stack
+
+abbrev pub RunsKeepShape : Type 0
+RunsKeepShape = (program : Program) (n : ℕ) (world : World) → KeepsShape world.core (run program n world).core
+
+-- the words of the code tell its instructions
+abbrev pub ReadingsAreUnique : Type 0
+ReadingsAreUnique = (words : List ℕ) (first second : List (Option Insn)) → AreRead words first → AreRead words second → first ≡ second

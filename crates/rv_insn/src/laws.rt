@@ -1,6 +1,6 @@
-//! Laws of the encoding, each the contract of a function that does nothing.
+//! Laws of the encoding, of the step and of runs, each the contract of a function that does nothing.
 
-ghost use Rattle.rv_insn.specs.Laws.{WordsAreUnambiguous, EncodableHaveOneWord, OnlyEncodableHaveWords};
+ghost use Rattle.rv_insn.specs.Laws.{WordsAreUnambiguous, EncodableHaveOneWord, OnlyEncodableHaveWords, ReadingsAreUnique, RunsSplit, OutputGrows, EndedRunsStay, StatusFollows, RunsKeepShape};
 
 /// Each word is at most one instruction's.
 pub fn words_are_unambiguous()
@@ -17,5 +17,41 @@ pub fn encodable_have_one_word()
 /// What has a word is encodable.
 pub fn only_encodable_have_words()
     ensures { OnlyEncodableHaveWords }
+{
+}
+
+/// The words of the code tell its instructions.
+pub fn readings_are_unique()
+    ensures { ReadingsAreUnique }
+{
+}
+
+/// n + m instructions are n and then m.
+pub fn runs_split()
+    ensures { RunsSplit }
+{
+}
+
+/// The output of a run only grows.
+pub fn output_grows()
+    ensures { OutputGrows }
+{
+}
+
+/// A run that has ended stays as it is.
+pub fn ended_runs_stay()
+    ensures { EndedRunsStay }
+{
+}
+
+/// A machine that ran stands after a step as the step's event says.
+pub fn status_follows()
+    ensures { StatusFollows }
+{
+}
+
+/// No run changes the number of registers, x0 or the size of the stack.
+pub fn runs_keep_shape()
+    ensures { RunsKeepShape }
 {
 }
