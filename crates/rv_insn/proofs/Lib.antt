@@ -9,3 +9,4 @@ pub mod Runs
 pub mod Standing
 pub mod Shape
 pub mod Reading
+pub mod Doublewords

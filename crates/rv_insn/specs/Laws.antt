@@ -1,11 +1,13 @@
 -- Laws of the encoding, of the step and of runs.
-use Rattle.std.specs.Prelude.{◌≡◌, ◌≢◌, ℕ, ◌+◌, List, length, Option}
+use Rattle.std.specs.Prelude.{◌≡◌, ◌≢◌, ℕ, ◌+◌, ◌*◌, ◌^◌, ◌<◌, ◌≤◌, List, length, slice_index, slice_set, Option, Ok}
 use Rattle.fy_base.specs.Outside.{IsPrefix}
 use Rattle.rv_insn.specs.declared.events.Event.TheVariants.{Going}
 use Rattle.rv_insn.specs.declared.events.Status.TheVariants.{Running}
 use Rattle.rv_insn.specs.declared.instructions.Insn.{Insn}
 use Rattle.rv_insn.specs.Encoding.{IsWordOf, IsEncodable}
-use Rattle.rv_insn.specs.Memory.{Program}
+use Rattle.rv_insn.specs.declared.instructions.LoadOp.TheVariants.{Ld}
+use Rattle.rv_insn.specs.declared.instructions.StoreOp.TheVariants.{Sd}
+use Rattle.rv_insn.specs.Memory.{Program, stack_start, load, store, doublewords}
 use Rattle.rv_insn.specs.Step.{Core, reg, AreRead, instruction_step, status_after}
 use Rattle.rv_insn.specs.Run.{World, run}
 
@@ -57,3 +59,19 @@ RunsKeepShape = (program : Program) (n : ℕ) (world : World) → KeepsShape wor
 -- the words of the code tell its instructions
 abbrev pub ReadingsAreUnique : Type 0
 ReadingsAreUnique = (words : List ℕ) (first second : List (Option Insn)) → AreRead words first → AreRead words second → first ≡ second
+
+-- a load of an aligned doubleword of the stack reads one of its doublewords
+abbrev pub LoadsReadDoublewords : Type 0
+LoadsReadDoublewords =
+    (program : Program) (stack : List ℕ) (k : ℕ) → 8 * k + 8 ≤ length stack
+    → load program stack Ld (stack_start + 8 * k) ≡ Ok (slice_index (doublewords stack) k)
+
+-- a store of one leads to a stack in which it alone is replaced
+pub record StoresDoubleword (stack : List ℕ) (k v : ℕ) : Type 0 where
+  pub now : List ℕ
+  pub stored : store stack Sd (stack_start + 8 * k) v ≡ Ok now
+  pub size : length now ≡ length stack
+  pub replaced : doublewords now ≡ slice_set (doublewords stack) k v
+
+abbrev pub StoresReplaceDoublewords : Type 0
+StoresReplaceDoublewords = (stack : List ℕ) (k v : ℕ) → 8 * k + 8 ≤ length stack → v < 2 ^ 64 → StoresDoubleword stack k v

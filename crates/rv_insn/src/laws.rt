@@ -1,6 +1,6 @@
 //! Laws of the encoding, of the step and of runs, each the contract of a function that does nothing.
 
-ghost use Rattle.rv_insn.specs.Laws.{WordsAreUnambiguous, EncodableHaveOneWord, OnlyEncodableHaveWords, ReadingsAreUnique, RunsSplit, OutputGrows, EndedRunsStay, StatusFollows, RunsKeepShape};
+ghost use Rattle.rv_insn.specs.Laws.{WordsAreUnambiguous, EncodableHaveOneWord, OnlyEncodableHaveWords, ReadingsAreUnique, RunsSplit, OutputGrows, EndedRunsStay, StatusFollows, RunsKeepShape, LoadsReadDoublewords, StoresReplaceDoublewords};
 
 /// Each word is at most one instruction's.
 pub fn words_are_unambiguous()
@@ -53,5 +53,17 @@ pub fn status_follows()
 /// No run changes the number of registers, x0 or the size of the stack.
 pub fn runs_keep_shape()
     ensures { RunsKeepShape }
+{
+}
+
+/// A load of an aligned doubleword of the stack reads one of its doublewords.
+pub fn loads_read_doublewords()
+    ensures { LoadsReadDoublewords }
+{
+}
+
+/// A store of an aligned doubleword replaces one of the stack's doublewords and no other.
+pub fn stores_replace_doublewords()
+    ensures { StoresReplaceDoublewords }
 {
 }
