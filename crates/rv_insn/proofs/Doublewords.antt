@@ -31,9 +31,9 @@ overwritten_behind place bytes list m h above =
     let rest : List ℕ = drop (place + count) list in
     let e : place + count + (m - place - count) ≡ m = omega arith in
     get_or-append_right (take place list) (bytes ++ rest) place m 0 (length-take-le place list h) (omega arith)
-      ∙ get_or-append_right bytes rest count (m - place) 0 refl (omega arith)
-      ∙ get_or-drop (place + count) list (m - place - count) 0
-      ∙ ap (λ n. slice_index list n) e
+    ∙ get_or-append_right bytes rest count (m - place) 0 refl (omega arith)
+    ∙ get_or-drop (place + count) list (m - place - count) 0
+    ∙ ap (λ n. slice_index list n) e
 
 pub length-overwritten : (place : ℕ) (bytes list : List ℕ) → place + length bytes ≤ length list → length (overwritten place bytes list) ≡ length list
 length-overwritten place bytes list h =
@@ -52,12 +52,12 @@ doubleword_kept stack k j v h other =
     let bytes : List ℕ = little_bytes 8 v in
     let now : List ℕ = overwritten (8 * k) bytes stack in
     let outside : (m : ℕ) → m < 8 → slice_index now (8 * j + m) ≡ slice_index stack (8 * j + m) = λ m below.
-      elim (cases_lt j k) [
-        | inl before ↦ overwritten_before (8 * k) bytes stack (8 * j + m) (omega arith) (omega arith)
-        | inr behind ↦ overwritten_behind (8 * k) bytes stack (8 * j + m) (omega arith) (omega arith)
-      ] in
+    elim (cases_lt j k) [
+      | inl before ↦ overwritten_before (8 * k) bytes stack (8 * j + m) (omega arith) (omega arith)
+      | inr behind ↦ overwritten_behind (8 * k) bytes stack (8 * j + m) (omega arith) (omega arith)
+    ] in
     same_number 8 0 (drop (8 * j) now) (drop (8 * j) stack)
-      (λ m low high. get_or-drop (8 * j) now m 0 ∙ outside m high ∙ sym (get_or-drop (8 * j) stack m 0))
+    (λ m low high. get_or-drop (8 * j) now m 0 ∙ outside m high ∙ sym (get_or-drop (8 * j) stack m 0))
 
 pub doublewords_at : (bytes : List ℕ) (k : ℕ) → 8 * k + 8 ≤ length bytes → slice_index (doublewords bytes) k ≡ doubleword bytes k
 doublewords_at bytes k h = get_or-map-range_with_len (doubleword bytes) 0 (length bytes / 8) k k 0 (omega arith) (omega arith)
@@ -90,12 +90,12 @@ store_doubleword stack k v h fits =
     let words : List ℕ = doublewords stack in
     let count = length-doublewords stack in
     let at : (j : ℕ) → j < length (doublewords now) → slice_index (doublewords now) j ≡ slice_index (slice_set words k v) j = λ j below.
-      let in_now : 8 * j + 8 ≤ length now = omega (arith, length-doublewords now) in
-      let in_stack : 8 * j + 8 ≤ length stack = omega arith in
-      doublewords_at now j in_now ∙ elim (cases_eq j k) [
-        | inl same ↦ ap (doubleword now) same ∙ doubleword_stored stack k v h fits ∙ sym (get_or-set_same words k v 0 (omega arith)) ∙ ap (slice_index (slice_set words k v)) (sym same)
-        | inr other ↦ doubleword_kept stack k j v h other ∙ sym (doublewords_at stack j in_stack) ∙ sym (get_or-set_other words k j v 0 other)
-      ] in
+    let in_now : 8 * j + 8 ≤ length now = omega (arith, length-doublewords now) in
+    let in_stack : 8 * j + 8 ≤ length stack = omega arith in
+    doublewords_at now j in_now ∙ elim (cases_eq j k) [
+      | inl same ↦ ap (doubleword now) same ∙ doubleword_stored stack k v h fits ∙ sym (get_or-set_same words k v 0 (omega arith)) ∙ ap (slice_index (slice_set words k v)) (sym same)
+      | inr other ↦ doubleword_kept stack k j v h other ∙ sym (doublewords_at stack j in_stack) ∙ sym (get_or-set_other words k j v 0 other)
+    ] in
     record {
       now = now;
       stored = store_is stack k v h;

@@ -21,7 +21,7 @@ same_s v w a b c d s m =
     let funct3 : funct3_of v ≡ funct3_of w = ap (λ x. x.funct3) c in
     let opcode : opcode_of v ≡ opcode_of w = ap (λ x. x.opcode) c in
     let parts : bits v 31 25 * 2 ^ 5 + bits v 11 7 ≡ bits w 31 25 * 2 ^ 5 + bits w 11 7 =
-        same_12 (bits v 31 25 * 2 ^ 5 + bits v 11 7) (bits w 31 25 * 2 ^ 5 + bits w 11 7) (omega arith) (omega arith) m in
+    same_12 (bits v 31 25 * 2 ^ 5 + bits v 11 7) (bits w 31 25 * 2 ^ 5 + bits w 11 7) (omega arith) (omega arith) m in
     omega arith
 
 abbrev raw_b : ℕ → ℕ

@@ -66,9 +66,9 @@ pub store_keeps : (stack : List ℕ) (op : StoreOp) (address v : ℕ) → KeepsS
 unfolding store
 store_keeps stack op address v =
     sized (not (nat_eq (address % store_size op) 0)) (lies_in stack_start (length stack) address (store_size op)) stack
-      (overwritten (address - stack_start) (store_bytes op v) stack) StoreAlign StoreRange
-      (λ inside. let l = lies_below stack_start (length stack) address (store_size op) inside in
-        length-overwritten (address - stack_start) (store_bytes op v) stack (omega (arith, l.0, l.1, length-store_bytes op v)))
+    (overwritten (address - stack_start) (store_bytes op v) stack) StoreAlign StoreRange
+    (λ inside. let l = lies_below stack_start (length stack) address (store_size op) inside in
+    length-overwritten (address - stack_start) (store_bytes op v) stack (omega (arith, l.0, l.1, length-store_bytes op v)))
 
 stored : (r : Result (List ℕ) TrapKind) (c : Core) → KeepsSize c.stack r → KeepsShape c (after_store r c).core
 stored (Ok stack) c h = record { count = refl; zero = refl; size = h }

@@ -132,19 +132,35 @@ full_word : (op : ShiftOp) (top funct3 rd rs1 amount : ℕ) → top < 2 ^ 6 → 
 full_word op top funct3 rd rs1 amount t f d s a n c =
     let q = has_these (top * 2 + amount / 2 ^ 5) (amount % 2 ^ 5) rs1 funct3 rd 0b0010011 (omega arith) (omega arith) s f d (lit< tt) in
     let w : ℕ = word_of (top * 2 + amount / 2 ^ 5) (amount % 2 ^ 5) rs1 funct3 rd 0b0010011 in
-    let p = shift_parts top amount w t a q.fits q.funct7_is q.rs2_is in
-    (w, record { fits = q.fits; fields = (
-      ap (λ k. shift_code_of k w) n ∙ code_is (bits w 31 26) (funct3_of w) (opcode_of w) top funct3 0b0010011 p.0 q.funct3_is q.opcode_is ∙ sym c,
-      q.rd_is, q.rs1_is, ap (λ k. bits w (19 + k) 20) n ∙ p.1) })
+    let p = shift_parts top amount w t a q.fits q.funct7_is q.rs2_is in (
+      w,
+      record {
+        fits = q.fits;
+        fields = (
+          ap (λ k. shift_code_of k w) n ∙ code_is (bits w 31 26) (funct3_of w) (opcode_of w) top funct3 0b0010011 p.0 q.funct3_is q.opcode_is ∙ sym c,
+          q.rd_is,
+          q.rs1_is,
+          ap (λ k. bits w (19 + k) 20) n ∙ p.1,
+        );
+      },
+    )
 
 short_word : (op : ShiftOp) (top funct3 rd rs1 amount : ℕ) → top < 2 ^ 7 → funct3 < 2 ^ 3 → rd < 32 → rs1 < 32 → amount < 2 ^ 5 → amount_bits op ≡ 5 → shift_code op ≡ code top funct3 0b0011011
     → (w : ℕ) × IsWordOf (Shift op rd rs1 amount) w
 short_word op top funct3 rd rs1 amount t f d s a n c =
     let q = has_these top amount rs1 funct3 rd 0b0011011 t a s f d (lit< tt) in
-    let w : ℕ = word_of top amount rs1 funct3 rd 0b0011011 in
-    (w, record { fits = q.fits; fields = (
-      ap (λ k. shift_code_of k w) n ∙ code_is (bits w 31 25) (funct3_of w) (opcode_of w) top funct3 0b0011011 q.funct7_is q.funct3_is q.opcode_is ∙ sym c,
-      q.rd_is, q.rs1_is, ap (λ k. bits w (19 + k) 20) n ∙ q.rs2_is) })
+    let w : ℕ = word_of top amount rs1 funct3 rd 0b0011011 in (
+      w,
+      record {
+        fits = q.fits;
+        fields = (
+          ap (λ k. shift_code_of k w) n ∙ code_is (bits w 31 25) (funct3_of w) (opcode_of w) top funct3 0b0011011 q.funct7_is q.funct3_is q.opcode_is ∙ sym c,
+          q.rd_is,
+          q.rs1_is,
+          ap (λ k. bits w (19 + k) 20) n ∙ q.rs2_is,
+        );
+      },
+    )
 
 shift_word : (op : ShiftOp) (rd rs1 amount : ℕ) → rd < 32 → rs1 < 32 → amount < 2 ^ amount_bits op → (w : ℕ) × IsWordOf (Shift op rd rs1 amount) w
 shift_word Slli rd rs1 amount d s a = full_word Slli 0b000000 0b001 rd rs1 amount (lit< tt) (lit< tt) d s a refl refl

@@ -20,3 +20,6 @@ pub use laws::{
     stores_replace_doublewords, words_are_unambiguous,
 };
 pub use prints::print_insn;
+
+#[cfg(test)]
+mod tests;
