@@ -1,6 +1,6 @@
 -- The stack's bytes, seen as doublewords.
-use Rattle.std.proofs.Common.{◌≡◌, ◌≢◌, ℕ, zero, suc, ◌+◌, ◌-◌, ◌*◌, ◌/◌, ◌%◌, ◌^◌, ◌<◌, ◌≤◌, ◌⊎◌, inl, inr, Bool, true, List, ◌++◌, length, take, drop, map, Ok, refl, sym, ◌∙◌, ap, arith}
-use Rattle.std.specs.List.{slice_index, slice_set, range_with_len}
+use Rattle.std.proofs.Common.{◌≡◌, ◌≢◌, ℕ, zero, suc, ◌+◌, ◌-◌, ◌*◌, ◌/◌, ◌%◌, ◌^◌, ◌<◌, ◌≤◌, inl, inr, true, List, ◌++◌, length, take, drop, Ok, refl, sym, ◌∙◌, ap, arith}
+use Rattle.std.specs.List.{slice_index, slice_set}
 use Rattle.std.proofs.Math.ListN.{get_or-append}
 use Rattle.std.proofs.lemmas.List.{get_or-append_right, get_or-take, get_or-drop, get_or-set_same, get_or-set_other, length-take-le, length-append, length-drop, length-set, drop_at, ext_get_or}
 use Rattle.std.proofs.lemmas.List.FromFn.{length-map-range_with_len, get_or-map-range_with_len}
@@ -9,7 +9,8 @@ use Rattle.byteorder.specs.Endian.{little_from, little_number, little_bytes}
 use Rattle.byteorder.specs.Numbers.{little_number-reads_back}
 use Rattle.rv_insn.specs.declared.instructions.LoadOp.TheVariants.{Ld}
 use Rattle.rv_insn.specs.declared.instructions.StoreOp.TheVariants.{Sd}
-use Rattle.rv_insn.specs.Memory.{Program, stack_start, lies_in, load, load_size, load_value, store, store_size, store_bytes, overwritten, doubleword, doublewords}
+use Rattle.rv_insn.specs.Program.{Program, stack_start}
+use Rattle.rv_insn.specs.Memory.{lies_in, load, load_size, load_value, store, store_size, store_bytes, overwritten, doubleword, doublewords}
 use Rattle.rv_insn.specs.Laws.{StoresDoubleword}
 
 -- two lists that agree at n places from i on have the same number there

@@ -1,5 +1,5 @@
 -- No two operations have the same fixed fields.
-use Rattle.std.proofs.Common.{◌≡◌, ℕ, Bool, ◌&&◌, if◌then◌else◌, nat_eq, List, [], ◌∷◌, Option, Some, None, refl, sym, ap, ◌∙◌}
+use Rattle.std.proofs.Common.{◌≡◌, ℕ, Bool, ◌&&◌, if◌then◌else◌, nat_eq, [], ◌∷◌, Option, Some, refl, ap}
 use Rattle.std.specs.List.{find}
 use Rattle.rv_insn.specs.declared.instructions.RegOp.{RegOp}
 use Rattle.rv_insn.specs.declared.instructions.RegOp.TheVariants.{Add, Sub, Sll, Slt, Sltu, Xor, Srl, Sra, Or, And, Addw, Subw, Sllw, Srlw, Sraw, Mul, Mulh, Mulhsu, Mulhu, Div, Divu, Rem, Remu, Mulw, Divw, Divuw, Remw, Remuw}

@@ -1,17 +1,17 @@
 -- The form of an instruction, as its opcode and funct3 tell it.
-use Rattle.std.proofs.Common.{◌≡◌, ℕ, ◌%◌, Bool, ◌||◌, if◌then◌else◌, nat_eq, refl, sym, ap, ◌∙◌}
+use Rattle.std.proofs.Common.{◌≡◌, ℕ, ◌%◌, ◌||◌, if◌then◌else◌, nat_eq, refl, ap, ◌∙◌}
 use Rattle.rv_insn.specs.declared.instructions.RegOp.{RegOp}
-use Rattle.rv_insn.specs.declared.instructions.RegOp.TheVariants.{Add, Sub, Sll, Slt, Sltu, Xor, Srl, Sra, Or, And, Addw, Subw, Sllw, Srlw, Sraw, Mul, Mulh, Mulhsu, Mulhu, Div, Divu, Rem, Remu, Mulw, Divw, Divuw, Remw, Remuw}
+use Rattle.rv_insn.specs.declared.instructions.RegOp.TheVariants.{Add}
 use Rattle.rv_insn.specs.declared.instructions.ShiftOp.{ShiftOp}
-use Rattle.rv_insn.specs.declared.instructions.ShiftOp.TheVariants.{Slli, Srli, Srai, Slliw, Srliw, Sraiw}
+use Rattle.rv_insn.specs.declared.instructions.ShiftOp.TheVariants.{Slli}
 use Rattle.rv_insn.specs.declared.instructions.ImmOp.{ImmOp}
-use Rattle.rv_insn.specs.declared.instructions.ImmOp.TheVariants.{Addi, Slti, Sltiu, Xori, Ori, Andi, Addiw}
+use Rattle.rv_insn.specs.declared.instructions.ImmOp.TheVariants.{Addi}
 use Rattle.rv_insn.specs.declared.instructions.LoadOp.{LoadOp}
-use Rattle.rv_insn.specs.declared.instructions.LoadOp.TheVariants.{Lb, Lh, Lw, Ld, Lbu, Lhu, Lwu}
+use Rattle.rv_insn.specs.declared.instructions.LoadOp.TheVariants.{Lb}
 use Rattle.rv_insn.specs.declared.instructions.StoreOp.{StoreOp}
-use Rattle.rv_insn.specs.declared.instructions.StoreOp.TheVariants.{Sb, Sh, Sw, Sd}
+use Rattle.rv_insn.specs.declared.instructions.StoreOp.TheVariants.{Sb}
 use Rattle.rv_insn.specs.declared.instructions.BranchOp.{BranchOp}
-use Rattle.rv_insn.specs.declared.instructions.BranchOp.TheVariants.{Beq, Bne, Blt, Bge, Bltu, Bgeu}
+use Rattle.rv_insn.specs.declared.instructions.BranchOp.TheVariants.{Beq}
 use Rattle.rv_insn.specs.declared.instructions.Insn.{Insn}
 use Rattle.rv_insn.specs.declared.instructions.Insn.TheVariants.{Reg, Imm, Shift, Load, Store, Branch, Lui, Auipc, Jal, Jalr, Fence, Ecall}
 use Rattle.rv_insn.specs.Fields.{opcode_of, funct3_of}

@@ -10,3 +10,4 @@ pub mod Standing
 pub mod Shape
 pub mod Reading
 pub mod Doublewords
+pub mod Regions

@@ -1,9 +1,9 @@
 -- Each word is at most one instruction's.
-use Rattle.std.proofs.Common.{◌≡◌, ℕ, ◌+◌, refl, sym, ap, ◌∙◌, subst}
+use Rattle.std.proofs.Common.{◌≡◌, ℕ, ◌+◌, refl, sym, ap, ◌∙◌}
 use Rattle.rv_insn.specs.declared.instructions.Insn.{Insn}
 use Rattle.rv_insn.specs.declared.instructions.Insn.TheVariants.{Reg, Imm, Shift, Load, Store, Branch, Lui, Auipc, Jal, Jalr, Fence, Ecall}
 use Rattle.rv_insn.specs.declared.instructions.ShiftOp.{ShiftOp}
-use Rattle.rv_insn.specs.Fields.{bits, opcode_of}
+use Rattle.rv_insn.specs.Fields.{bits}
 use Rattle.rv_insn.specs.Encoding.{IsWordOf, amount_bits, shift_code, shift_code_of}
 use Rattle.rv_insn.proofs.FixedFields.{reg_code_injective, shift_code_injective, imm_code_injective, load_code_injective, store_code_injective, branch_code_injective, bits_by_opcode, amount_bits_is}
 use Rattle.rv_insn.proofs.FormOfWord.{form, form_is}

@@ -3,9 +3,9 @@ use Rattle.std.proofs.Common.{◌≡◌, ℕ, ◌+◌, ◌*◌, ◌/◌, ◌%◌
 use Rattle.rv_insn.specs.declared.instructions.Insn.{Insn}
 use Rattle.rv_insn.specs.declared.instructions.Insn.TheVariants.{Reg, Imm, Shift, Load, Store, Branch, Lui, Auipc, Jal, Jalr, Fence, Ecall}
 use Rattle.rv_insn.specs.declared.instructions.ShiftOp.{ShiftOp}
-use Rattle.rv_insn.specs.declared.instructions.ShiftOp.TheVariants.{Slli, Srli, Srai, Slliw, Srliw, Sraiw}
+use Rattle.rv_insn.specs.declared.instructions.ShiftOp.TheVariants.{Slli, Srli, Srai}
 use Rattle.rv_insn.specs.Fields.{bits, opcode_of, rd_of, funct3_of, rs1_of, rs2_of, funct7_of, i_immediate, s_immediate, b_immediate, j_immediate}
-use Rattle.rv_insn.specs.Encoding.{IsWordOf, ShortCode, short_code_of, Code, code_of, amount_bits, shift_code, shift_code_of}
+use Rattle.rv_insn.specs.Encoding.{IsWordOf, short_code_of, code_of, amount_bits, shift_code_of}
 use Rattle.rv_insn.proofs.WordFields.{same_12, same_13, same_21}
 
 -- two words of format I

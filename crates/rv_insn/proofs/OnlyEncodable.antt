@@ -1,9 +1,9 @@
 -- What has a word is encodable.
-use Rattle.std.proofs.Common.{◌≡◌, ℕ, ◌+◌, ◌*◌, ◌%◌, ◌^◌, ◌<◌, ℤ, sym, subst, arith}
+use Rattle.std.proofs.Common.{◌≡◌, ℕ, ◌+◌, ◌*◌, ◌%◌, ◌^◌, ◌<◌, ℤ, subst, arith}
 use Rattle.rv_insn.specs.declared.instructions.Insn.{Insn}
 use Rattle.rv_insn.specs.declared.instructions.Insn.TheVariants.{Reg, Imm, Shift, Load, Store, Branch, Lui, Auipc, Jal, Jalr, Fence, Ecall}
 use Rattle.rv_insn.specs.declared.instructions.ShiftOp.{ShiftOp}
-use Rattle.rv_insn.specs.declared.instructions.ShiftOp.TheVariants.{Slli, Srli, Srai, Slliw, Srliw, Sraiw}
+use Rattle.rv_insn.specs.declared.instructions.ShiftOp.TheVariants.{Slli}
 use Rattle.rv_insn.specs.Fields.{bits, twos_complement}
 use Rattle.rv_insn.specs.Encoding.{IsWordOf, IsEncodable, IsWithin, IsEven, amount_bits}
 

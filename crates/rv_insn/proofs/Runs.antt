@@ -3,8 +3,8 @@ use Rattle.std.proofs.Common.{◌≡◌, ◌≢◌, ℕ, zero, suc, ◌+◌, Lis
 use Rattle.std.proofs.lemmas.List.{append-nil}
 use Rattle.fy_base.specs.Outside.{IsPrefix}
 use Rattle.rv_insn.specs.declared.events.Event.{Event}
-use Rattle.rv_insn.specs.declared.events.Event.TheVariants.{Going, Put, WantByte, Ended, Fault, Exhausted, Trap}
-use Rattle.rv_insn.specs.Memory.{Program}
+use Rattle.rv_insn.specs.declared.events.Event.TheVariants.{Going, Put}
+use Rattle.rv_insn.specs.Program.{Program}
 use Rattle.rv_insn.specs.Step.{Core, instruction_step}
 use Rattle.rv_insn.specs.Run.{World, settled, tick_from, tick, run}
 

@@ -1,20 +1,21 @@
 -- What a step keeps of a machine: its number of registers, x0, and the size of its stack.
-use Rattle.std.proofs.Common.{◌≡◌, ◌≢◌, ℕ, zero, suc, Bool, true, false, not, nat_lt, nat_le, nat_eq, ◌&&◌, if◌then◌else◌, Option, Some, None, ◌+◌, ◌-◌, ◌*◌, ◌/◌, ◌%◌, ◌^◌, ◌<◌, ◌≤◌, List, ◌++◌, length, take, drop, Result, Ok, Err, refl, sym, ◌∙◌, ap, arith}
+use Rattle.std.proofs.Common.{◌≡◌, ℕ, zero, suc, Bool, true, false, not, nat_eq, if◌then◌else◌, Option, Some, None, ◌+◌, ◌-◌, ◌/◌, ◌%◌, ◌≤◌, List, ◌++◌, length, take, drop, Result, Ok, Err, refl, ◌∙◌, ap, arith}
 use Rattle.std.specs.List.{slice_get, slice_index, slice_set}
 use Rattle.std.proofs.lemmas.List.{get_or-set_other, length-set, length-drop, length-append, length-take}
 use Rattle.fy_base.specs.declared.data.Place.{Place}
 use Rattle.fy_base.specs.declared.data.TrapKind.{TrapKind}
 use Rattle.fy_base.specs.declared.data.TrapKind.TheVariants.{StoreAlign, StoreRange}
 use Rattle.rv_insn.specs.declared.events.Event.{Event}
-use Rattle.rv_insn.specs.declared.events.Event.TheVariants.{Going, Put, WantByte, Ended, Fault, Exhausted, Trap}
+use Rattle.rv_insn.specs.declared.events.Event.TheVariants.{Going, WantByte}
 use Rattle.rv_insn.specs.declared.instructions.Insn.{Insn}
 use Rattle.rv_insn.specs.declared.instructions.Insn.TheVariants.{Reg, Imm, Shift, Load, Store, Branch, Lui, Auipc, Jal, Jalr, Fence, Ecall}
 use Rattle.rv_insn.specs.declared.instructions.StoreOp.{StoreOp}
-use Rattle.rv_insn.specs.declared.instructions.StoreOp.TheVariants.{Sb, Sh, Sw, Sd}
+use Rattle.rv_insn.specs.declared.instructions.StoreOp.TheVariants.{Sb}
 use Rattle.rv_insn.specs.Operations.{is_taken}
-use Rattle.rv_insn.specs.Memory.{Program, load, store, store_size, store_bytes, code_start, stack_start, lies_in, overwritten}
-use Rattle.rv_insn.specs.Step.{Core, Outcome, reg, set_reg, displaced, jumped, advanced, stopped, going, given, after_load, after_store, fault_at, service, execute, after_fetch, instruction_step}
-use Rattle.rv_insn.specs.Run.{World, settled, tick_from, tick, run}
+use Rattle.rv_insn.specs.Program.{Program, code_start, stack_start}
+use Rattle.rv_insn.specs.Memory.{load, store, store_size, store_bytes, lies_in, overwritten}
+use Rattle.rv_insn.specs.Step.{Core, reg, set_reg, displaced, jumped, advanced, given, after_load, after_store, fault_at, service, execute, after_fetch, instruction_step}
+use Rattle.rv_insn.specs.Run.{World, settled, tick_from, run}
 use Rattle.rv_insn.specs.Laws.{KeepsShape}
 
 length-set_reg : (regs : List ℕ) (rd v : ℕ) → length (set_reg regs rd v) ≡ length regs

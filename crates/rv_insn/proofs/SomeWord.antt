@@ -3,20 +3,20 @@ use Rattle.std.proofs.Common.{◌≡◌, ℕ, ◌+◌, ◌*◌, ◌/◌, ◌%◌
 use Rattle.rv_insn.specs.declared.instructions.Insn.{Insn}
 use Rattle.rv_insn.specs.declared.instructions.Insn.TheVariants.{Reg, Imm, Shift, Load, Store, Branch, Lui, Auipc, Jal, Jalr, Fence, Ecall}
 use Rattle.rv_insn.specs.declared.instructions.RegOp.{RegOp}
-use Rattle.rv_insn.specs.declared.instructions.RegOp.TheVariants.{Add, Sub, Sll, Slt, Sltu, Xor, Srl, Sra, Or, And, Addw, Subw, Sllw, Srlw, Sraw, Mul, Mulh, Mulhsu, Mulhu, Div, Divu, Rem, Remu, Mulw, Divw, Divuw, Remw, Remuw}
+use Rattle.rv_insn.specs.declared.instructions.RegOp.TheVariants.{Add}
 use Rattle.rv_insn.specs.declared.instructions.ShiftOp.{ShiftOp}
 use Rattle.rv_insn.specs.declared.instructions.ShiftOp.TheVariants.{Slli, Srli, Srai, Slliw, Srliw, Sraiw}
 use Rattle.rv_insn.specs.declared.instructions.ImmOp.{ImmOp}
-use Rattle.rv_insn.specs.declared.instructions.ImmOp.TheVariants.{Addi, Slti, Sltiu, Xori, Ori, Andi, Addiw}
+use Rattle.rv_insn.specs.declared.instructions.ImmOp.TheVariants.{Addi}
 use Rattle.rv_insn.specs.declared.instructions.LoadOp.{LoadOp}
-use Rattle.rv_insn.specs.declared.instructions.LoadOp.TheVariants.{Lb, Lh, Lw, Ld, Lbu, Lhu, Lwu}
+use Rattle.rv_insn.specs.declared.instructions.LoadOp.TheVariants.{Lb}
 use Rattle.rv_insn.specs.declared.instructions.StoreOp.{StoreOp}
-use Rattle.rv_insn.specs.declared.instructions.StoreOp.TheVariants.{Sb, Sh, Sw, Sd}
+use Rattle.rv_insn.specs.declared.instructions.StoreOp.TheVariants.{Sb}
 use Rattle.rv_insn.specs.declared.instructions.BranchOp.{BranchOp}
-use Rattle.rv_insn.specs.declared.instructions.BranchOp.TheVariants.{Beq, Bne, Blt, Bge, Bltu, Bgeu}
-use Rattle.rv_insn.specs.Fields.{bits, twos_complement, opcode_of, rd_of, funct3_of, rs1_of, rs2_of, funct7_of, i_immediate, s_immediate, b_immediate, u_immediate, j_immediate}
-use Rattle.rv_insn.specs.Encoding.{IsWordOf, IsEncodable, IsWithin, IsEven, Code, code, ShortCode, short_code, code_of, short_code_of, shift_code_of, amount_bits, reg_code, shift_code, imm_code, load_code, store_code, branch_code}
-use Rattle.rv_insn.proofs.WordFields.{HasThese, has_these, word_of, low_bits, low_12, low_13, low_21}
+use Rattle.rv_insn.specs.declared.instructions.BranchOp.TheVariants.{Beq}
+use Rattle.rv_insn.specs.Fields.{bits, twos_complement, opcode_of, rd_of, funct3_of, rs1_of, rs2_of, funct7_of, i_immediate, s_immediate, b_immediate, u_immediate}
+use Rattle.rv_insn.specs.Encoding.{IsWordOf, IsEncodable, IsWithin, IsEven, Code, code, ShortCode, short_code, short_code_of, shift_code_of, amount_bits, reg_code, shift_code, imm_code, load_code, store_code, branch_code}
+use Rattle.rv_insn.proofs.WordFields.{has_these, word_of, low_bits, low_12, low_13, low_21}
 
 -- the fixed fields of an operation fit
 record Fits (c : Code) : Type 0 where

@@ -1,18 +1,15 @@
 -- How a machine stands after a step.
-use Rattle.std.proofs.Common.{◌≡◌, ℕ, Bool, true, false, not, nat_lt, nat_eq, if◌then◌else◌, Option, Some, None, ◌+◌, ◌-◌, ◌*◌, ◌/◌, ◌%◌, ◌^◌, List, Result, Ok, Err, refl, arith}
+use Rattle.std.proofs.Common.{◌≡◌, ℕ, Bool, true, false, if◌then◌else◌, Option, Some, None, ◌-◌, ◌/◌, List, Result, Ok, Err, refl, arith}
 use Rattle.std.specs.List.{slice_get}
 use Rattle.fy_base.specs.declared.data.Place.{Place}
 use Rattle.fy_base.specs.declared.data.TrapKind.{TrapKind}
-use Rattle.fy_base.specs.declared.data.TrapKind.TheVariants.{Service, FetchAlign, FetchRange, Illegal}
-use Rattle.fy_base.specs.declared.data.FaultKind.TheVariants.{Overflow, Zero, Range}
-use Rattle.rv_insn.specs.declared.events.Event.{Event}
-use Rattle.rv_insn.specs.declared.events.Event.TheVariants.{Going, Put, WantByte, Ended, Fault, Exhausted, Trap}
-use Rattle.rv_insn.specs.declared.events.Status.TheVariants.{Running, Waiting}
+use Rattle.rv_insn.specs.declared.events.Status.TheVariants.{Running}
 use Rattle.rv_insn.specs.declared.instructions.Insn.{Insn}
-use Rattle.rv_insn.specs.declared.instructions.Insn.TheVariants.{Reg, Imm, Shift, Load, Store, Branch, Lui, Auipc, Jal, Jalr, Fence, Ecall}
+use Rattle.rv_insn.specs.declared.instructions.Insn.TheVariants.{Load, Store, Branch, Ecall}
 use Rattle.rv_insn.specs.Operations.{is_taken}
-use Rattle.rv_insn.specs.Memory.{Program, code_start, load, store}
-use Rattle.rv_insn.specs.Step.{Core, Outcome, reg, displaced, jumped, advanced, stopped, going, after_load, after_store, fault_at, service, execute, after_fetch, instruction_step, status_after}
+use Rattle.rv_insn.specs.Program.{Program, code_start}
+use Rattle.rv_insn.specs.Memory.{load, store}
+use Rattle.rv_insn.specs.Step.{Core, Outcome, reg, displaced, jumped, advanced, going, after_load, after_store, fault_at, service, execute, after_fetch, instruction_step, status_after}
 
 record Follows (o : Outcome) : Type 0 where
   is : o.core.status ≡ status_after o.event

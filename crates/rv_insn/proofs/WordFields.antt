@@ -1,6 +1,6 @@
 -- A word and its fields: a word of 32 bits is told by them, and each choice of fields has one.
-use Rattle.std.proofs.Common.{◌≡◌, ℕ, suc, ◌+◌, ◌-◌, ◌*◌, ◌/◌, ◌%◌, ◌^◌, ◌<◌, ℤ, pos, negsuc, nat_lt, if◌then◌else◌, arith}
-use Rattle.rv_insn.specs.Fields.{bits, twos_complement, opcode_of, rd_of, funct3_of, rs1_of, rs2_of, funct7_of, i_immediate, s_immediate, b_immediate, u_immediate, j_immediate}
+use Rattle.std.proofs.Common.{◌≡◌, ℕ, suc, ◌+◌, ◌-◌, ◌*◌, ◌%◌, ◌^◌, ◌<◌, ℤ, pos, negsuc, arith}
+use Rattle.rv_insn.specs.Fields.{twos_complement, opcode_of, rd_of, funct3_of, rs1_of, rs2_of, funct7_of}
 use Rattle.rv_insn.specs.Encoding.{IsWithin, IsEven}
 
 -- the word with these fields

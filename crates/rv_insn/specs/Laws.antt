@@ -7,8 +7,9 @@ use Rattle.rv_insn.specs.declared.instructions.Insn.{Insn}
 use Rattle.rv_insn.specs.Encoding.{IsWordOf, IsEncodable}
 use Rattle.rv_insn.specs.declared.instructions.LoadOp.TheVariants.{Ld}
 use Rattle.rv_insn.specs.declared.instructions.StoreOp.TheVariants.{Sd}
-use Rattle.rv_insn.specs.Memory.{Program, stack_start, load, store, doublewords}
-use Rattle.rv_insn.specs.Step.{Core, reg, AreRead, instruction_step, status_after}
+use Rattle.rv_insn.specs.Program.{Program, table_start, stack_start, AreRead}
+use Rattle.rv_insn.specs.Memory.{load, store, doublewords}
+use Rattle.rv_insn.specs.Step.{Core, reg, instruction_step, status_after}
 use Rattle.rv_insn.specs.Run.{World, run}
 
 -- each word is at most one instruction's
@@ -66,7 +67,13 @@ LoadsReadDoublewords =
     (program : Program) (stack : List ℕ) (k : ℕ) → 8 * k + 8 ≤ length stack
     → load program stack Ld (stack_start + 8 * k) ≡ Ok (slice_index (doublewords stack) k)
 
--- a store of one leads to a stack in which it alone is replaced
+-- a load of an aligned doubleword of the table reads one of its words
+abbrev pub LoadsReadTheTable : Type 0
+LoadsReadTheTable =
+    (program : Program) (stack : List ℕ) (k : ℕ) → k < length program.table → length program.table ≤ 1048576 → slice_index program.table k < 2 ^ 64
+    → load program stack Ld (table_start + 8 * k) ≡ Ok (slice_index program.table k)
+
+-- a store of an aligned doubleword of the stack leads to one in which it alone is replaced
 pub record StoresDoubleword (stack : List ℕ) (k v : ℕ) : Type 0 where
   pub now : List ℕ
   pub stored : store stack Sd (stack_start + 8 * k) v ≡ Ok now

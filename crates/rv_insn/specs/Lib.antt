@@ -2,6 +2,7 @@ pub mod Fields
 pub mod Encoding
 pub mod Prints
 pub mod Operations
+pub mod Program
 pub mod Memory
 pub mod Step
 pub mod Run

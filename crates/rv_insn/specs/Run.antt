@@ -2,7 +2,7 @@
 use Rattle.std.specs.Prelude.{ℕ, zero, suc, List, [], ◌∷◌, ◌++◌, drop, slice_get}
 use Rattle.rv_insn.specs.declared.events.Event.{Event}
 use Rattle.rv_insn.specs.declared.events.Event.TheVariants.{Going, Put, WantByte, Ended, Fault, Exhausted, Trap}
-use Rattle.rv_insn.specs.Memory.{Program}
+use Rattle.rv_insn.specs.Program.{Program}
 use Rattle.rv_insn.specs.Step.{Core, instruction_step, given}
 
 -- a machine, the input that is left, the output so far, and how the run ended: `Going` while it hasn't

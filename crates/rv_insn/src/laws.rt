@@ -1,6 +1,6 @@
 //! Laws of the encoding, of the step and of runs, each the contract of a function that does nothing.
 
-ghost use Rattle.rv_insn.specs.Laws.{WordsAreUnambiguous, EncodableHaveOneWord, OnlyEncodableHaveWords, ReadingsAreUnique, RunsSplit, OutputGrows, EndedRunsStay, StatusFollows, RunsKeepShape, LoadsReadDoublewords, StoresReplaceDoublewords};
+ghost use Rattle.rv_insn.specs.Laws.{WordsAreUnambiguous, EncodableHaveOneWord, OnlyEncodableHaveWords, ReadingsAreUnique, RunsSplit, OutputGrows, EndedRunsStay, StatusFollows, RunsKeepShape, LoadsReadDoublewords, LoadsReadTheTable, StoresReplaceDoublewords};
 
 /// Each word is at most one instruction's.
 pub fn words_are_unambiguous()
@@ -50,6 +50,11 @@ pub fn runs_keep_shape()
 /// A load of an aligned doubleword of the stack reads one of its doublewords.
 pub fn loads_read_doublewords()
     ensures { LoadsReadDoublewords }
+{}
+
+/// A load of an aligned doubleword of the table reads one of its words.
+pub fn loads_read_the_table()
+    ensures { LoadsReadTheTable }
 {}
 
 /// A store of an aligned doubleword replaces one of the stack's doublewords and no other.
