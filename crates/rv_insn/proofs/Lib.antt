@@ -11,3 +11,4 @@ pub mod Shape
 pub mod Reading
 pub mod Doublewords
 pub mod Regions
+pub mod Examples

@@ -14,7 +14,7 @@ use Rattle.rv_insn.specs.declared.instructions.StoreOp.{StoreOp}
 use Rattle.rv_insn.specs.declared.instructions.StoreOp.TheVariants.{Sb}
 use Rattle.rv_insn.specs.declared.instructions.BranchOp.{BranchOp}
 use Rattle.rv_insn.specs.declared.instructions.BranchOp.TheVariants.{Beq}
-use Rattle.rv_insn.specs.Fields.{bits, twos_complement, opcode_of, rd_of, funct3_of, rs1_of, rs2_of, funct7_of, i_immediate, s_immediate, b_immediate, u_immediate}
+use Rattle.rv_insn.specs.Fields.{bits, twos_complement, opcode_of, rd_of, funct3_of, rs1_of, rs2_of, funct7_of, i_immediate, s_immediate, b_immediate, u_immediate, j_immediate}
 use Rattle.rv_insn.specs.Encoding.{IsWordOf, IsEncodable, IsWithin, IsEven, Code, code, ShortCode, short_code, short_code_of, shift_code_of, amount_bits, reg_code, shift_code, imm_code, load_code, store_code, branch_code}
 use Rattle.rv_insn.proofs.WordFields.{has_these, word_of, low_bits, low_12, low_13, low_21}
 
@@ -120,6 +120,10 @@ j_parts : (w raw : ℕ) → raw < 2 ^ 21 → raw % 2 ≡ 0 → u_immediate w ≡
     → bits w 31 31 * 2 ^ 20 + bits w 19 12 * 2 ^ 12 + bits w 20 20 * 2 ^ 11 + bits w 30 21 * 2 ≡ raw
 j_parts w raw b e u = omega arith
 
+j_is : (w raw : ℕ) → raw < 2 ^ 21 → raw % 2 ≡ 0 → u_immediate w ≡ raw / 2 ^ 20 * 2 ^ 19 + raw / 2 % 2 ^ 10 * 2 ^ 9 + raw / 2 ^ 11 % 2 * 2 ^ 8 + raw / 2 ^ 12 % 2 ^ 8
+    → j_immediate w ≡ twos_complement 21 raw
+j_is w raw b e u = ap (λ x. twos_complement 21 x) (j_parts w raw b e u)
+
 -- a shift's word, by the fixed fields, with the amount above bit 19
 shift_parts : (top amount w : ℕ) → top < 2 ^ 6 → amount < 2 ^ 6 → w < 2 ^ 32 → funct7_of w ≡ top * 2 + amount / 2 ^ 5 → rs2_of w ≡ amount % 2 ^ 5 → (bits w 31 26 ≡ top) × (bits w 25 20 ≡ amount)
 shift_parts top amount w t a h f r = (omega arith, omega arith)
@@ -180,7 +184,7 @@ some_word (Jal rd offset) h =
     let l = low_21 offset h.1 h.2 in
     let high : ℕ = raw / 2 ^ 20 * 2 ^ 19 + raw / 2 % 2 ^ 10 * 2 ^ 9 + raw / 2 ^ 11 % 2 * 2 ^ 8 + raw / 2 ^ 12 % 2 ^ 8 in
     let q = u_word 0b1101111 rd high (lit< tt) h.0 (omega (arith, l.0)) in
-    (q.0, record { fits = q.1.fits; fields = (q.1.opcode_is, q.1.rd_is, ap (λ x. twos_complement 21 x) (j_parts q.0 raw l.0 l.1 q.1.high_is) ∙ l.2) })
+    (q.0, record { fits = q.1.fits; fields = (q.1.opcode_is, q.1.rd_is, j_is q.0 raw l.0 l.1 q.1.high_is ∙ l.2) })
 some_word (Jalr rd base imm) h =
     let q = i_word (short_code 0b000 0b1100111) rd base imm (record { funct3 = lit< tt; opcode = lit< tt }) h.0 h.1 h.2 in
     (q.0, record { fits = q.1.fits; fields = (q.1.fixed, q.1.rd_is, q.1.rs1_is, q.1.imm_is) })

@@ -1,15 +1,16 @@
 -- Laws of the encoding, of the step and of runs.
 use Rattle.std.specs.Prelude.{◌≡◌, ◌≢◌, ℕ, ◌+◌, ◌*◌, ◌^◌, ◌<◌, ◌≤◌, List, length, slice_index, slice_set, Option, Ok}
 use Rattle.fy_base.specs.Outside.{IsPrefix}
-use Rattle.rv_insn.specs.declared.events.Event.TheVariants.{Going}
+use Rattle.rv_insn.specs.declared.events.Event.TheVariants.{Going, Trap}
+use Rattle.fy_base.specs.declared.data.TrapKind.TheVariants.{Illegal}
 use Rattle.rv_insn.specs.declared.events.Status.TheVariants.{Running}
 use Rattle.rv_insn.specs.declared.instructions.Insn.{Insn}
 use Rattle.rv_insn.specs.Encoding.{IsWordOf, IsEncodable}
 use Rattle.rv_insn.specs.declared.instructions.LoadOp.TheVariants.{Ld}
 use Rattle.rv_insn.specs.declared.instructions.StoreOp.TheVariants.{Sd}
-use Rattle.rv_insn.specs.Program.{Program, table_start, stack_start, AreRead}
+use Rattle.rv_insn.specs.Program.{Program, AreRead, code_start, table_start, stack_start}
 use Rattle.rv_insn.specs.Memory.{load, store, doublewords}
-use Rattle.rv_insn.specs.Step.{Core, reg, instruction_step, status_after}
+use Rattle.rv_insn.specs.Step.{Core, reg, stopped, execute, instruction_step, status_after}
 use Rattle.rv_insn.specs.Run.{World, run}
 
 -- each word is at most one instruction's
@@ -29,6 +30,19 @@ EncodableHaveOneWord = (insn : Insn) → IsEncodable insn → HasOneWord insn
 -- no other instruction has a word
 abbrev pub OnlyEncodableHaveWords : Type 0
 OnlyEncodableHaveWords = (insn : Insn) (word : ℕ) → IsWordOf insn word → IsEncodable insn
+
+-- a step at a word of the code executes the word's instruction
+abbrev pub StepsExecuteWords : Type 0
+StepsExecuteWords =
+    (program : Program) (core : Core) (k : ℕ) (insn : Insn) → AreRead program.words program.instructions → k < length program.words
+    → core.pc ≡ code_start + 4 * k → IsWordOf insn (slice_index program.words k) → instruction_step program core ≡ execute program insn core
+
+-- at a word that no instruction has it traps
+abbrev pub IllegalWordsTrap : Type 0
+IllegalWordsTrap =
+    (program : Program) (core : Core) (k : ℕ) → AreRead program.words program.instructions → k < length program.words
+    → core.pc ≡ code_start + 4 * k → ((insn : Insn) → ¬ IsWordOf insn (slice_index program.words k))
+    → instruction_step program core ≡ stopped (Trap Illegal) core
 
 -- n + m instructions are n and then m
 abbrev pub RunsSplit : Type 0

@@ -1,6 +1,6 @@
 //! Laws of the encoding, of the step and of runs, each the contract of a function that does nothing.
 
-ghost use Rattle.rv_insn.specs.Laws.{WordsAreUnambiguous, EncodableHaveOneWord, OnlyEncodableHaveWords, ReadingsAreUnique, RunsSplit, OutputGrows, EndedRunsStay, StatusFollows, RunsKeepShape, LoadsReadDoublewords, LoadsReadTheTable, StoresReplaceDoublewords};
+ghost use Rattle.rv_insn.specs.Laws.{WordsAreUnambiguous, EncodableHaveOneWord, OnlyEncodableHaveWords, ReadingsAreUnique, StepsExecuteWords, IllegalWordsTrap, RunsSplit, OutputGrows, EndedRunsStay, StatusFollows, RunsKeepShape, LoadsReadDoublewords, LoadsReadTheTable, StoresReplaceDoublewords};
 
 /// Each word is at most one instruction's.
 pub fn words_are_unambiguous()
@@ -20,6 +20,16 @@ pub fn only_encodable_have_words()
 /// The words of the code tell its instructions.
 pub fn readings_are_unique()
     ensures { ReadingsAreUnique }
+{}
+
+/// A step at a word of the code executes the word's instruction.
+pub fn steps_execute_words()
+    ensures { StepsExecuteWords }
+{}
+
+/// A step at a word that no instruction has traps.
+pub fn illegal_words_trap()
+    ensures { IllegalWordsTrap }
 {}
 
 /// n + m instructions are n and then m.
