@@ -1,7 +1,10 @@
 -- The definitions of the step at numbers: special cases that the manual tables, and a run.
-use Rattle.std.proofs.Common.{◌≡◌, ℕ, ◌-◌, true, false, List, [], ◌∷◌, Some, None, Ok, Err, replicate, refl, pos, negsuc}
-use Rattle.fy_base.specs.declared.data.TrapKind.TheVariants.{FetchAlign, FetchRange, LoadAlign, LoadRange, StoreAlign, StoreRange}
-use Rattle.rv_insn.specs.declared.events.Event.TheVariants.{Going, Ended, Trap}
+use Rattle.std.proofs.Common.{◌≡◌, ℕ, ◌-◌, true, false, List, [], ◌∷◌, Some, None, Ok, Err, replicate, slice_set, refl, pos, negsuc}
+use Rattle.fy_base.specs.declared.data.TrapKind.TheVariants.{Illegal, FetchAlign, FetchRange, LoadAlign, LoadRange, StoreAlign, StoreRange, Service}
+use Rattle.fy_base.specs.declared.data.Place.{Place}
+use Rattle.fy_base.specs.declared.data.FaultKind.TheVariants.{Overflow, Zero, Range}
+use Rattle.rv_insn.specs.declared.events.Event.{Event}
+use Rattle.rv_insn.specs.declared.events.Event.TheVariants.{Going, Put, WantByte, Ended, Fault, Exhausted, Trap}
 use Rattle.rv_insn.specs.declared.events.Status.TheVariants.{Running}
 use Rattle.rv_insn.specs.declared.instructions.RegOp.TheVariants.{Sub, Slt, Sltu, Sra, Mulh, Mulhsu, Mulhu, Addw, Subw, Sllw, Srlw, Sraw, Div, Divu, Rem, Remu, Divw, Divuw, Remw, Remuw}
 use Rattle.rv_insn.specs.declared.instructions.ImmOp.TheVariants.{Addi, Sltiu, Addiw}
@@ -102,3 +105,23 @@ from target = record first { core = record first.core { regs = 0 ∷ 0 ∷ 0 ∷
 leaps : ((run leap 1 (from 65544)).core.pc ≡ 65542) × (reg (run leap 1 (from 65544)).core 5 ≡ 65540) × ((run leap 1 (from 65544)).ending ≡ Going) × ((run leap 2 (from 65544)).ending ≡ Trap FetchAlign) × ((run leap 2 (from 65541)).ending ≡ Trap FetchRange) × ((run leap 1 (from 0)).core.pc ≡ 0xfffffffffffffffe)
 unfolding run instruction_step execute
 leaps = (refl, refl, refl, refl, refl, refl)
+
+-- the services at x17, x10 and x11, with one place
+abbrev place : Place
+place = record { line = 3; col = 5 }
+
+abbrev served : ℕ → ℕ → ℕ → Event
+served x17 x10 x11 = (service (record small { places = place ∷ [] }) (record first.core { regs = slice_set (slice_set (slice_set (replicate 32 0) 17 x17) 10 x10) 11 x11 })).event
+
+services : (served 0 0 0 ≡ Ended) × (served 1 0x141 0 ≡ Put 0x41) × (served 2 0 0 ≡ WantByte) × (served 3 1 0 ≡ Fault Overflow place) × (served 3 2 0 ≡ Fault Zero place) × (served 3 3 0 ≡ Fault Range place)
+    × (served 4 0 0 ≡ Exhausted) × (served 3 0 0 ≡ Trap Service) × (served 3 4 0 ≡ Trap Service) × (served 3 1 1 ≡ Trap Service) × (served 5 0 0 ≡ Trap Service) × (served ones 0 0 ≡ Trap Service)
+unfolding service
+services = (refl, refl, refl, refl, refl, refl, refl, refl, refl, refl, refl, refl)
+
+-- at the end of the input x10 is -1; x0 stays 0
+abbrev ask : Program
+ask = record small { instructions = Some (Imm Addi 17 0 (pos 2)) ∷ Some Ecall ∷ Some (Imm Addi 0 10 (pos 1)) ∷ None ∷ [] }
+
+asks : (reg (run ask 2 (record first { input = [] })).core 10 ≡ ones) × (reg (run ask 3 (record first { input = [] })).core 0 ≡ 0) × ((run ask 4 (record first { input = [] })).ending ≡ Trap Illegal)
+unfolding run instruction_step execute service imm_value
+asks = (refl, refl, refl)

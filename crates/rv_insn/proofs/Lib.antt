@@ -12,3 +12,4 @@ pub mod Reading
 pub mod Doublewords
 pub mod Regions
 pub mod Examples
+pub mod Written

@@ -47,7 +47,8 @@ fn is_immediate(imm: i16) -> bool
     (-2048..2048).contains(&imm)
 }
 
-/// The word of an instruction that has one. It takes no memory.
+/// The word of an instruction that has one; it has no other, and `decode` gives the instruction back,
+/// a `Fence` with the fields that it had. It takes no memory.
 /// (RISC-V Unprivileged ISA, chapter "RV32/64G Instruction Set Listings".)
 pub fn encode(insn: &Insn) -> u32
     requires { IsEncodable insn.now }
