@@ -1,0 +1,15 @@
+pub mod FixedFields
+pub mod FormOfWord
+pub mod OneInstruction
+pub mod WordFields
+pub mod OneWord
+pub mod SomeWord
+pub mod OnlyEncodable
+pub mod Runs
+pub mod Standing
+pub mod Shape
+pub mod Reading
+pub mod Doublewords
+pub mod Regions
+pub mod Examples
+pub mod Written

@@ -1,0 +1,9 @@
+pub mod Fields
+pub mod Encoding
+pub mod Prints
+pub mod Operations
+pub mod Program
+pub mod Memory
+pub mod Step
+pub mod Run
+pub mod Laws
