@@ -1,6 +1,18 @@
 //! Images: the code that a compiled program runs, and the form in which a file keeps it.
 #![tactic(auto)]
 
+mod error;
+mod fields;
 mod image;
+mod laws;
+mod read;
+mod write;
 
+pub use error::ImageError;
 pub use image::Image;
+pub use laws::laws_of_images;
+pub use read::read_image;
+pub use write::write_image;
+
+#[cfg(test)]
+mod tests;

@@ -6,6 +6,7 @@ use Rattle.std.proofs.lemmas.Bool.{cases_lt}
 use Rattle.fy_base.specs.Outside.{Bytes}
 use Rattle.fy_base.specs.declared.data.Place.{Place}
 use Rattle.fy_base.specs.declared.data.FaultKind.TheVariants.{Overflow}
+use Rattle.fy_image.specs.Start.{start_memory}
 use Rattle.fy_image.specs.declared.image.Image.{Image}
 use Rattle.rv_machine.specs.Step.{Program}
 use Rattle.rv_machine.specs.Start.{start_of}
@@ -162,5 +163,5 @@ stops_overflow program world bytes number place rest code small low named at =
 
 -- the start of an image is at its first block
 pub start_at : (image : Image) (input : Bytes) → AtBlock (going_world (start_of image) input) 0
-unfolding start_of
+unfolding start_of start_memory
 start_at image input = record { goes = refl; pc_is = refl; regs_are = refl }

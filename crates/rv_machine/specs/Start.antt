@@ -1,8 +1,9 @@
 -- The machine of an image: how it starts, and where it is after so many instructions.
 use Rattle.std.specs.Prelude.{ℕ, ◌+◌, ◌*◌, List, slice_set, replicate}
 use Rattle.fy_base.specs.Outside.{Bytes}
+use Rattle.fy_image.specs.Start.{start_memory}
 use Rattle.fy_image.specs.declared.image.Image.{Image}
-use Rattle.rv_machine.specs.Step.{Program, Core, code_start, table_start, stack_start}
+use Rattle.rv_machine.specs.Step.{Program, Core, table_start, stack_start}
 use Rattle.rv_machine.specs.Run.{World, going_world, run}
 use Rattle.rv_machine.specs.declared.event.Status.TheVariants.{Running}
 
@@ -14,9 +15,10 @@ program_of image = record { words = image.code; table = image.table; places = im
 abbrev pub start_regs : ℕ → List ℕ
 start_regs stack_words = slice_set (slice_set (slice_set (replicate 32 0) 2 stack_start) 3 (stack_start + 8 * stack_words)) 4 table_start
 
--- the start: the first instruction of the code is next, and every byte of the stack is 0
+-- the start: the image's first instruction is next, and the stack is the image's
 unfoldable pub start_of : Image → Core
-start_of image = record { regs = start_regs image.stack_words; pc = code_start; stack = replicate (8 * image.stack_words) 0; status = Running }
+start_of image =
+    record { regs = start_regs image.stack_words; pc = (start_memory image).pc; stack = (start_memory image).stack.bytes; status = Running }
 
 -- the machine of an image on an input after so many instructions
 abbrev pub machine_after : Image → Bytes → ℕ → World

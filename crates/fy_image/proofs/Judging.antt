@@ -1,0 +1,216 @@
+-- Which field is refused first, step by step.
+use Rattle.std.proofs.Common.{◌≡◌, ◌≢◌, ◌⊎◌, ℕ, suc, ◌*◌, ◌^◌, ◌<◌, ◌≤◌, min, Bool, true, false, not, ◌&&◌, All, if◌then◌else◌, nat_eq, ltb, leb, List, [], ◌∷◌, ◌++◌, length, take, drop, length-append, sym, ap, ◌∙◌, refl, arith, subst, inl, inr, Some, None, Option}
+use Rattle.fy_image.proofs.Lists.{places_long}
+use Rattle.std.proofs.lemmas.Bool.{le-ltb, ne_eqb}
+use Rattle.std.proofs.Math.Bool.{and-false, and_assoc}
+use Rattle.std.proofs.lemmas.List.Elements.{All-head, All-tail}
+use Rattle.std.proofs.lemmas.List.{take_min, length-take}
+use Rattle.std.proofs.Math.Seq.{take-append_seam, drop-append_seam}
+use Rattle.std.specs.declared.result.Result.{Result}
+use Rattle.std.specs.declared.result.Result.TheVariants.{Ok, Err}
+use Rattle.std.proofs.lemmas.Nat.{from_le_bytes-to_le_bytes_4}
+use Rattle.std.specs.List.{starts_with, list_all, flat_map}
+use Rattle.fy_base.specs.declared.data.Place.{Place}
+use Rattle.fy_base.specs.Outside.{Bytes}
+use Rattle.fy_image.specs.Form.{PlaceFits, magic, word, place_bytes}
+use Rattle.fy_image.specs.Refusals.{IsJudged, Field, is_place, place_list, or_else, number_of, number_at, numbers, version_refusal, version_1, range_refusal, zero_refusal, number_in, any_bytes, fields_1, first_refusal, magic_refusal, body_refusal, lists_1, IsCause}
+use Rattle.fy_image.specs.declared.error.ImageError.{ImageError}
+use Rattle.fy_image.specs.declared.error.ImageError.TheVariants as errors
+
+start_is : (bytes start : Bytes) (n : ℕ) → start ≡ take (min (length bytes) n) bytes → take n bytes ≡ start
+start_is bytes start n is = let swapped : min n (length bytes) ≡ min (length bytes) n = omega arith in sym (take_min n bytes) ∙ ap (λ k. take k bytes) swapped ∙ sym is
+
+-- the first bytes aren't the magic's
+pub magic_bad : (bytes start : Bytes) → start ≡ take (min (length bytes) 8) bytes → starts_with nat_eq magic start ≡ false → magic_refusal bytes ≡ Some errors.BadMagic
+unfolding magic_refusal
+magic_bad bytes start is other = let e = ap (λ b. starts_with nat_eq magic b) (start_is bytes start 8 is) ∙ other in rw e refl
+
+start_long : (bytes start : Bytes) → start ≡ take (min (length bytes) 8) bytes → length start ≡ min (length bytes) 8
+start_long bytes start is = ap (λ b. length b) is ∙ length-take (min (length bytes) 8) bytes ∙ omega arith
+
+-- they are, but some are missing
+pub magic_short : (bytes start : Bytes) → start ≡ take (min (length bytes) 8) bytes → starts_with nat_eq magic start ≡ true → length start < 8 → magic_refusal bytes ≡ Some errors.Truncated
+unfolding magic_refusal
+magic_short bytes start is same short =
+    let e = ap (λ b. starts_with nat_eq magic b) (start_is bytes start 8 is) ∙ same in
+    let less : length bytes < 8 = omega (arith, start_long bytes start is) in
+    let l : ltb (length bytes) 8 ≡ true = grind arith in rw (e, l) refl
+
+-- the magic is there
+pub magic_good : (bytes start : Bytes) → start ≡ take (min (length bytes) 8) bytes → starts_with nat_eq magic start ≡ true → 8 ≤ length start → magic_refusal bytes ≡ None
+unfolding magic_refusal
+magic_good bytes start is same long =
+    let e = ap (λ b. starts_with nat_eq magic b) (start_is bytes start 8 is) ∙ same in
+    let more : 8 ≤ length bytes = omega (arith, start_long bytes start is) in
+    let l : ltb (length bytes) 8 ≡ false = grind arith in rw (e, l) refl
+
+-- a field that is cut off
+pub cut_off : (field : Field) (fields : List Field) (bytes : Bytes) → length bytes < field.size → first_refusal (field ∷ fields) bytes ≡ Some errors.Truncated
+unfolding first_refusal
+cut_off field fields bytes short = let l : ltb (length bytes) field.size ≡ true = grind arith in rw l refl
+
+-- a field that is there
+pub whole : (field : Field) (fields : List Field) (part rest : Bytes) → length part ≡ field.size → first_refusal (field ∷ fields) (part ++ rest) ≡ or_else (field.refusal part) (first_refusal fields rest)
+unfolding first_refusal
+whole field fields part rest long =
+    let l : ltb (length (part ++ rest)) field.size ≡ false = le-ltb (length (part ++ rest)) field.size (omega (arith, length-append part rest)) in
+    let t : take field.size (part ++ rest) ≡ part = ap (λ n. take n (part ++ rest)) (sym long) ∙ take-append_seam part rest in
+    let d : drop field.size (part ++ rest) ≡ rest = ap (λ n. drop n (part ++ rest)) (sym long) ∙ drop-append_seam part rest in
+    rw (l, t, d) refl
+
+-- a field that is there and isn't refused
+pub passed : (field : Field) (fields : List Field) (part rest : Bytes) → length part ≡ field.size → field.refusal part ≡ None → first_refusal (field ∷ fields) (part ++ rest) ≡ first_refusal fields rest
+passed field fields part rest long good = whole field fields part rest long ∙ ap (λ r. or_else r (first_refusal fields rest)) good
+
+-- a field that is there and is refused
+pub refused : (field : Field) (fields : List Field) (part rest : Bytes) (error : ImageError) → length part ≡ field.size → field.refusal part ≡ Some error → first_refusal (field ∷ fields) (part ++ rest) ≡ Some error
+refused field fields part rest error long bad = whole field fields part rest long ∙ ap (λ r. or_else r (first_refusal fields rest)) bad
+
+-- a number is read back
+pub number_back : (n : ℕ) → n < 2 ^ 32 → number_of (word n) ≡ n
+unfolding number_of
+number_back n fits = from_le_bytes-to_le_bytes_4 n fits
+
+in_range : (least most field n : ℕ) → least ≤ n → n ≤ most → range_refusal least most field n ≡ None
+in_range least most field n low high = let a : leb least n ≡ true = grind arith in let b : leb n most ≡ true = grind arith in rw (a, b) refl
+
+below_range : (least most field n : ℕ) → n < least → range_refusal least most field n ≡ Some (errors.BadField field)
+below_range least most field n low = let a : leb least n ≡ false = grind arith in rw a refl
+
+above_range : (least most field n : ℕ) → most < n → range_refusal least most field n ≡ Some (errors.BadField field)
+above_range least most field n high = let b : leb n most ≡ false = grind arith in rw (b, and-false (leb least n)) refl
+
+-- a number in its range
+pub number_good : (least most field n : ℕ) (fields : List Field) (rest : Bytes) → n < 2 ^ 32 → least ≤ n → n ≤ most → first_refusal (number_in least most field ∷ fields) (word n ++ rest) ≡ first_refusal fields rest
+number_good least most field n fields rest fits low high =
+    passed (number_in least most field) fields (word n) rest refl (ap (λ k. range_refusal least most field k) (number_back n fits) ∙ in_range least most field n low high)
+
+-- a number out of its range
+pub number_bad : (least most field n : ℕ) (fields : List Field) (rest : Bytes) → n < 2 ^ 32 → (n < least) ⊎ (most < n) → first_refusal (number_in least most field ∷ fields) (word n ++ rest) ≡ Some (errors.BadField field)
+number_bad least most field n fields rest fits (inl low) =
+    refused (number_in least most field) fields (word n) rest (errors.BadField field) refl (ap (λ k. range_refusal least most field k) (number_back n fits) ∙ below_range least most field n low)
+number_bad least most field n fields rest fits (inr high) =
+    refused (number_in least most field) fields (word n) rest (errors.BadField field) refl (ap (λ k. range_refusal least most field k) (number_back n fits) ∙ above_range least most field n high)
+
+-- the version
+pub version_good : (fields : List Field) (rest : Bytes) → first_refusal (version_1 ∷ fields) (word 1 ++ rest) ≡ first_refusal fields rest
+unfolding number_of
+version_good fields rest = passed version_1 fields (word 1) rest refl refl
+
+pub version_bad : (n : ℕ) (fields : List Field) (rest : Bytes) → n < 2 ^ 32 → n ≢ 1 → first_refusal (version_1 ∷ fields) (word n ++ rest) ≡ Some (errors.BadVersion n)
+version_bad n fields rest fits other =
+    refused version_1 fields (word n) rest (errors.BadVersion n) refl
+    (ap (λ k. version_refusal k) (number_back n fits) ∙ (let e = ne_eqb n 1 other in rw e refl))
+
+-- bytes whatever they are
+pub any_good : (size : ℕ) (fields : List Field) (part rest : Bytes) → length part ≡ size → first_refusal (any_bytes size ∷ fields) (part ++ rest) ≡ first_refusal fields rest
+any_good size fields part rest long = passed (any_bytes size) fields part rest long refl
+
+-- the end
+pub end_good : (bytes : Bytes) → length bytes ≡ 0 → first_refusal [] bytes ≡ None
+unfolding first_refusal
+end_good bytes none = rw none refl
+
+pub end_bad : (bytes : Bytes) → 0 < length bytes → first_refusal [] bytes ≡ Some (errors.Trailing (length bytes))
+unfolding first_refusal
+end_bad bytes some = let e = ne_eqb (length bytes) 0 (λ z. omega arith) in rw e refl
+
+-- a field that is cut off, told by an error
+pub cut_judged : (error : ImageError) (field : Field) (bytes : Bytes) → error ≡ errors.Truncated → length bytes < field.size → (fields : List Field) → IsCause error (first_refusal (field ∷ fields) bytes)
+cut_judged error field bytes is short fields = let P : ImageError → Type 0 = λ e. IsCause e (first_refusal (field ∷ fields) bytes) in subst P (sym is) (cut_off field fields bytes short)
+
+-- the numbers of places
+abbrev is_nonzero : ℕ → Bool
+is_nonzero n = not (nat_eq n 0)
+
+nonzero_more : (place : Place) (m : ℕ) (rest : Bytes) → PlaceFits place → list_all is_nonzero (numbers (suc (suc m)) (place_bytes place ++ rest)) ≡ (is_place place && list_all is_nonzero (numbers m rest))
+nonzero_more place m rest fits =
+    ap (λ n. is_nonzero n && (is_nonzero (number_of (word place.col)) && list_all is_nonzero (numbers m rest))) (number_back place.line fits.line)
+    ∙ ap (λ n. is_nonzero place.line && (is_nonzero n && list_all is_nonzero (numbers m rest))) (number_back place.col fits.col)
+    ∙ sym (and_assoc (is_nonzero place.line) (is_nonzero place.col) (list_all is_nonzero (numbers m rest)))
+
+nonzero_places : (places : List Place) → All PlaceFits places → list_all is_nonzero (numbers (2 * length places) (flat_map place_bytes places)) ≡ list_all is_place places
+nonzero_places [] fit = refl
+nonzero_places (place ∷ places) fit =
+    let two : 2 * suc (length places) ≡ suc (suc (2 * length places)) = omega arith in
+    ap (λ n. list_all is_nonzero (numbers n (flat_map place_bytes (place ∷ places)))) two
+    ∙ nonzero_more place (2 * length places) (flat_map place_bytes places) (All-head PlaceFits place places fit)
+    ∙ ap (λ b. is_place place && b) (nonzero_places places (All-tail PlaceFits place places fit))
+
+places_refusal : (count field : ℕ) (places : List Place) → All PlaceFits places → length places ≡ count → (place_list count field).refusal (flat_map place_bytes places) ≡ (if list_all is_place places then None else Some (errors.BadField field))
+places_refusal count field places fit same =
+    ap (λ n. zero_refusal field (numbers (2 * n) (flat_map place_bytes places))) (sym same) ∙ ap (λ b. if b then None else Some (errors.BadField field)) (nonzero_places places fit)
+
+-- places that all have a line and a column
+pub places_good : (count field : ℕ) (places : List Place) (fields : List Field) (rest : Bytes) → All PlaceFits places → length places ≡ count → list_all is_place places ≡ true
+    → first_refusal (place_list count field ∷ fields) (flat_map place_bytes places ++ rest) ≡ first_refusal fields rest
+places_good count field places fields rest fit same all =
+    passed (place_list count field) fields (flat_map place_bytes places) rest (places_long places count same) (places_refusal count field places fit same ∙ ap (λ b. if b then None else Some (errors.BadField field)) all)
+
+-- places of which one doesn't
+pub places_bad : (count field : ℕ) (places : List Place) (fields : List Field) (rest : Bytes) → All PlaceFits places → length places ≡ count → list_all is_place places ≡ false
+    → first_refusal (place_list count field ∷ fields) (flat_map place_bytes places ++ rest) ≡ Some (errors.BadField field)
+places_bad count field places fields rest fit same some =
+    refused (place_list count field) fields (flat_map place_bytes places) rest (errors.BadField field) (places_long places count same) (places_refusal count field places fit same ∙ ap (λ b. if b then None else Some (errors.BadField field)) some)
+
+-- an error of what is the same refusal
+pub cause_along : (error : ImageError) (a b : Option ImageError) → a ≡ b → IsCause error b → IsCause error a
+cause_along error a b same cause = let P : Option ImageError → Type 0 = λ r. IsCause error r in subst P (sym same) cause
+
+-- the counts, where they stand behind the version
+pub counts_at : (bytes : Bytes) (s c t n : ℕ) (r1 r2 r3 r4 : Bytes) → bytes ≡ word s ++ r1 → r1 ≡ word c ++ r2 → r2 ≡ word t ++ r3 → r3 ≡ word n ++ r4 → c < 2 ^ 32 → t < 2 ^ 32 → n < 2 ^ 32
+    → (number_at bytes 4 ≡ c) × (number_at bytes 8 ≡ t) × (number_at bytes 12 ≡ n)
+counts_at bytes s c t n r1 r2 r3 r4 e1 e2 e3 e4 fc ft fn =
+    let whole : bytes ≡ word s ++ (word c ++ (word t ++ (word n ++ r4))) = e1 ∙ ap (λ r. word s ++ r) (e2 ∙ ap (λ r. word c ++ r) (e3 ∙ ap (λ r. word t ++ r) e4)) in (
+      ap (λ b. number_at b 4) whole ∙ number_back c fc,
+      ap (λ b. number_at b 8) whole ∙ number_back t ft,
+      ap (λ b. number_at b 12) whole ∙ number_back n fn,
+    )
+
+-- the refusal of the body by the counts
+pub body_by : (bytes : Bytes) (c t n : ℕ) → (number_at bytes 4 ≡ c) × (number_at bytes 8 ≡ t) × (number_at bytes 12 ≡ n) → body_refusal bytes ≡ first_refusal (fields_1 c t n) bytes
+unfolding body_refusal
+body_by bytes c t n at = ap (λ k. first_refusal (fields_1 k (number_at bytes 8) (number_at bytes 12)) bytes) at.0 ∙ ap (λ k. first_refusal (fields_1 c k (number_at bytes 12)) bytes) at.1 ∙ ap (λ k. first_refusal (fields_1 c t k) bytes) at.2
+
+-- what is left of the refusal behind the numbers
+pub header_judged : (r0 r1 r2 r3 r4 r5 : Bytes) (s c t n : ℕ) → (r0 ≡ word s ++ r1) × (r1 ≡ word c ++ r2) × (r2 ≡ word t ++ r3) × (r3 ≡ word n ++ r4) → (c < 2 ^ 32) × (t < 2 ^ 32) × (n < 2 ^ 32)
+    → ((f : List Field) → first_refusal (number_in 1024 16777216 1 ∷ f) r0 ≡ first_refusal f r1)
+    × ((f : List Field) → first_refusal (number_in 1 4194304 2 ∷ f) r1 ≡ first_refusal f r2)
+    × ((f : List Field) → first_refusal (number_in 0 1048576 3 ∷ f) r2 ≡ first_refusal f r3)
+    × ((f : List Field) → first_refusal (number_in 0 524288 4 ∷ f) r3 ≡ first_refusal f r4)
+    × ((f : List Field) → first_refusal (number_in 0 0 5 ∷ f) r4 ≡ first_refusal f r5)
+    → body_refusal r0 ≡ first_refusal (lists_1 c t n) r5
+header_judged r0 r1 r2 r3 r4 r5 s c t n taken fits judged =
+    body_by r0 c t n (counts_at r0 s c t n r1 r2 r3 r4 taken.0 taken.1 taken.2 taken.3 fits.0 fits.1 fits.2)
+    ∙ judged.0 (number_in 1 4194304 2 ∷ number_in 0 1048576 3 ∷ number_in 0 524288 4 ∷ number_in 0 0 5 ∷ lists_1 c t n)
+    ∙ judged.1 (number_in 0 1048576 3 ∷ number_in 0 524288 4 ∷ number_in 0 0 5 ∷ lists_1 c t n)
+    ∙ judged.2 (number_in 0 524288 4 ∷ number_in 0 0 5 ∷ lists_1 c t n)
+    ∙ judged.3 (number_in 0 0 5 ∷ lists_1 c t n)
+    ∙ judged.4 (lists_1 c t n)
+
+-- a refusal is its error's cause
+pub cause_some : (error : ImageError) (refusal : Option ImageError) → refusal ≡ Some error → IsCause error refusal
+cause_some errors.BadMagic refusal is = is
+cause_some (errors.BadVersion n) refusal is = is
+cause_some errors.Truncated refusal is = is
+cause_some (errors.Trailing n) refusal is = is
+cause_some (errors.BadField n) refusal is = is
+cause_some errors.TooLarge refusal is = is
+cause_some errors.OutOfMemory refusal is = tt
+
+pub cause_cut : (error : ImageError) (refusal : Option ImageError) → error ≡ errors.Truncated → refusal ≡ Some errors.Truncated → IsCause error refusal
+cause_cut error refusal is cut = cause_some error refusal (cut ∙ ap (λ e. Some e) (sym is))
+
+pub judged_along : {T : Type 0} (result : Result T ImageError) (a b : Option ImageError) → a ≡ b → IsJudged result b → IsJudged result a
+judged_along (Ok value) a b same judged = same ∙ judged
+judged_along (Err error) a b same judged = cause_along error a b same judged
+
+-- bytes that aren't refused give want of memory alone
+pub cause_none : (error : ImageError) → IsCause error None → error ≡ errors.OutOfMemory
+cause_none errors.BadMagic cause = absurd (cc)
+cause_none (errors.BadVersion n) cause = absurd (cc)
+cause_none errors.Truncated cause = absurd (cc)
+cause_none (errors.Trailing n) cause = absurd (cc)
+cause_none (errors.BadField n) cause = absurd (cc)
+cause_none errors.TooLarge cause = absurd (cc)
+cause_none errors.OutOfMemory cause = refl

@@ -1,0 +1,190 @@
+//! Bytes that are taken field by field.
+
+ghost use Rattle.std.specs.Prelude.{◌≡◌, ◌*◌, ◌%◌, ◌^◌, [], ◌++◌, All, ◌<◌, ◌≤◌, length, List, IfOk, IfErr, OnOk, MatchResult, None, Some};
+ghost use Rattle.std.specs.List.{flat_map, list_all};
+ghost use Rattle.fy_image.specs.Ranges.{IsPlace};
+ghost use Rattle.fy_base.specs.Outside.{Bytes};
+ghost use Rattle.fy_image.specs.Form.{PlaceFits, magic, word, double, place_bytes};
+ghost use Rattle.fy_image.specs.Refusals.{Field, Judges, any_bytes, first_refusal, is_place, magic_refusal, number_in, place_list};
+ghost use Rattle.fy_image.specs.declared.error.ImageError.TheVariants as errors;
+
+use crate::error::ImageError;
+use fy_base::{DoubleList, Place, PlaceList, WordList};
+use std::alloc::Global;
+use std::marker::Model;
+
+/// How an image begins.
+pub const MAGIC: [u8; 8] = *b"FORSYF64";
+
+/// The bytes that are left.
+#[derive(Drop)]
+pub struct Fields<'a> {
+    rest: &'a [u8],
+}
+
+impl<'a> Model for Fields<'a> {
+    ghost use Rattle.std.specs.Prelude.{List, ℕ};
+
+    ghost Value = { List ℕ };
+
+    ghost view = { λ fields. fields.rest.now };
+}
+
+impl<'a> Fields<'a> {
+    pub fn new(bytes: &'a [u8]) -> Fields<'a>
+        ensures { result ≡ bytes.now }
+    {
+        Fields { rest: bytes }
+    }
+
+    /// Takes so many bytes, if they are all there.
+    fn take(&mut self, count: usize) -> Result<&'a [u8], ImageError>
+        ensures part { IfOk result (λ part. self.old ≡ part.now ++ self.new) }
+        ensures size { IfOk result (λ part. length part.now ≡ count) }
+        ensures cut { IfErr result (λ e. (e ≡ errors.Truncated) × (length self.old < count)) }
+    {
+        if self.rest.len() < count {
+            return Err(ImageError::Truncated);
+        }
+        let (part, rest) = self.rest.split_at(count);
+        self.rest = rest;
+        Ok(part)
+    }
+
+    /// Takes the magic.
+    pub fn magic(&mut self) -> Result<(), ImageError>
+        ensures taken { OnOk result (self.old ≡ magic ++ self.new) }
+        ensures judged { MatchResult result (λ _. magic_refusal self.old ≡ None) (λ e. magic_refusal self.old ≡ Some e) }
+    {
+        let (start, rest) = self.rest.split_at(self.rest.len().min(8));
+        if !MAGIC.starts_with(start) {
+            return Err(ImageError::BadMagic);
+        }
+        if start.len() < 8 {
+            return Err(ImageError::Truncated);
+        }
+        self.rest = rest;
+        Ok(())
+    }
+
+    /// Takes a number of four bytes.
+    pub fn number(&mut self) -> Result<u32, ImageError>
+        ensures taken { IfOk result (λ n. self.old ≡ word n ++ self.new) }
+        ensures fits { IfOk result (λ n. n < 2 ^ 32) }
+        ensures cut { IfErr result (λ e. (e ≡ errors.Truncated) × (length self.old < 4)) }
+    {
+        match self.take(4)? {
+            [a, b, c, d] => Ok(u32::from_le_bytes([*a, *b, *c, *d])),
+            _ => unreachable!(),
+        }
+    }
+
+    /// Takes a number of eight bytes.
+    fn double(&mut self) -> Result<u64, ImageError>
+        ensures taken { IfOk result (λ n. self.old ≡ double n ++ self.new) }
+        ensures fits { IfOk result (λ n. n < 2 ^ 64) }
+        ensures cut { IfErr result (λ e. (e ≡ errors.Truncated) × (length self.old < 8)) }
+    {
+        Ok(double_of(self.take(8)?))
+    }
+
+    /// Takes a place: its line, then its column.
+    fn place(&mut self) -> Result<Place, ImageError>
+        ensures taken { IfOk result (λ place. self.old ≡ place_bytes place ++ self.new) }
+        ensures fits { IfOk result (λ place. PlaceFits place) }
+        ensures cut { IfErr result (λ e. (e ≡ errors.Truncated) × (length self.old < 8)) }
+    {
+        let line = self.number()?;
+        let col = self.number()?;
+        Ok(Place { line, col })
+    }
+
+    /// Takes a number of four bytes, which has to be in a range.
+    pub fn number_in(&mut self, least: u32, most: u32, field: u8) -> Result<u32, ImageError>
+        ensures taken { IfOk result (λ n. self.old ≡ word n ++ self.new) }
+        ensures range { IfOk result (λ n. (least ≤ n) × (n ≤ most)) }
+        ensures fits { IfOk result (λ n. n < 2 ^ 32) }
+        ensures judged { Judges result (number_in least most field) self.old self.new }
+    {
+        let n = self.number()?;
+        if n < least || most < n {
+            return Err(ImageError::BadField(field));
+        }
+        Ok(n)
+    }
+
+    /// Takes so many words of four bytes.
+    pub fn words(&mut self, alloc: Global, count: u32) -> Result<WordList, ImageError>
+        ensures taken { IfOk result (λ words. self.old ≡ flat_map word words ++ self.new) }
+        ensures count { IfOk result (λ words. length words ≡ count) }
+        ensures fit { IfOk result (λ words. All (λ n. n < 2 ^ 32) words) }
+        ensures judged { Judges result (any_bytes (4 * count)) self.old self.new }
+    {
+        let mut words = WordList::new(alloc);
+        for _ in 0..count {
+            words.push(self.number()?)?;
+        }
+        Ok(words)
+    }
+
+    /// Takes so many words of eight bytes.
+    pub fn doubles(&mut self, alloc: Global, count: u32) -> Result<DoubleList, ImageError>
+        ensures taken { IfOk result (λ doubles. self.old ≡ flat_map double doubles ++ self.new) }
+        ensures count { IfOk result (λ doubles. length doubles ≡ count) }
+        ensures fit { IfOk result (λ doubles. All (λ n. n < 2 ^ 64) doubles) }
+        ensures judged { Judges result (any_bytes (8 * count)) self.old self.new }
+    {
+        let mut doubles = DoubleList::new(alloc);
+        for _ in 0..count {
+            doubles.push(self.double()?)?;
+        }
+        Ok(doubles)
+    }
+
+    /// Takes so many places.
+    pub fn places(&mut self, alloc: Global, count: u32, field: u8) -> Result<PlaceList, ImageError>
+        ensures taken { IfOk result (λ places. self.old ≡ flat_map place_bytes places ++ self.new) }
+        ensures count { IfOk result (λ places. length places ≡ count) }
+        ensures fit { IfOk result (λ places. All PlaceFits places) }
+        ensures are { IfOk result (λ places. All IsPlace places) }
+        ensures judged { Judges result (place_list count field) self.old self.new }
+    {
+        let mut places = PlaceList::new(alloc);
+        for _ in 0..count {
+            places.push(self.place()?)?;
+        }
+        if !are_places(places.as_slice()) {
+            return Err(ImageError::BadField(field));
+        }
+        Ok(places)
+    }
+
+    /// Whether nothing is left.
+    pub fn end(&self) -> Result<(), ImageError>
+        ensures done { OnOk result (self.now ≡ []) }
+        ensures judged { MatchResult result (λ _. first_refusal [] self.now ≡ None) (λ e. first_refusal [] self.now ≡ Some e) }
+    {
+        if self.rest.is_empty() {
+            Ok(())
+        } else {
+            Err(ImageError::Trailing(self.rest.len() as u64))
+        }
+    }
+}
+
+// The number of eight bytes.
+fn double_of(bytes: &[u8]) -> u64
+    requires { length bytes.now ≡ 8 }
+    ensures { double result ≡ bytes.now }
+{
+    let mut eight = [0; 8];
+    eight.copy_from_slice(bytes);
+    u64::from_le_bytes(eight)
+}
+
+// Whether no line and no column is 0.
+fn are_places(places: &[Place]) -> bool
+    ensures { result ≡ list_all is_place places.now }
+{
+    places.iter().all(|place| place.line != 0 && place.col != 0)
+}
