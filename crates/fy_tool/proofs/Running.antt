@@ -79,7 +79,7 @@ runs_so p input is few =
 
 -- ---- a run stops once
 
-not_going : (fault : Option Place) → event_said fault ≢ events.Going
+pub not_going : (fault : Option Place) → event_said fault ≢ events.Going
 not_going None e = cc
 not_going (Some at) e = cc
 

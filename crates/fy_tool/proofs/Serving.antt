@@ -43,14 +43,14 @@ serves_stopped file b c k k1 stop same l cause =
 -- a text that is refused
 pub serves_refused : (file text : Bytes) (b c d : Contents) (k k1 k2 : Counts) (result : Result ℕ Stop) → c ≡ b → Later k k1 → Later k1 k2 → Tells b.files file (Some text) → IsRefused text
     → IfOk result IsOwn → IfErr result (λ stop. Caused [] [] stop k1 k2) → Did (told 2 (note.Unbuilt ∷ []) c.input) c d result → Serves (Some (run file)) b d k k2 result
-serves_refused file text b c d k k1 k2 result same l m held no own cause did = record {
+serves_refused file text b c d k k1 k2 result same l m held why own cause did = record {
   never_less = later_more k k1 k2 l m;
   caused = if_caused_more (file ∷ []) [] result k k1 k2 l cause;
   own = own;
   content = Some text;
   told = held;
   due = told 2 (note.Unbuilt ∷ []) b.input;
-  is_due = λ _. refused file text b.input no;
+  is_due = λ _. refused file text b.input why;
   did = λ _. subst (λ (c : Contents). Did (told 2 (note.Unbuilt ∷ []) c.input) c d result) same did;
 }
 

@@ -12,3 +12,9 @@ returns-in-InputFault-clause-works g c =
 pub returns-in-OutputFault-clause-works : goal.returns-in-OutputFault-clause-works
 returns-in-OutputFault-clause-works g c =
     works_faulted (reads c.args.p.now) _ (g.W.World.holds c.run-run.new.self) _ c.in-Ok.machine c.run-run.result _ c.requires.command c.requires.few c.in-Ok.ensures.start c.run-run.ensures.did c.run-run.ensures.rest
+
+pub returns-in-Ok-tell_end : goal.returns-in-Ok-tell_end
+returns-in-Ok-tell_end g c = ?
+
+pub returns : goal.returns
+returns g c = ?
