@@ -13,7 +13,8 @@ use Rattle.std.specs.List.{starts_with, list_all, flat_map}
 use Rattle.fy_base.specs.declared.data.Place.{Place}
 use Rattle.fy_base.specs.Outside.{Bytes}
 use Rattle.fy_image.specs.Form.{PlaceFits, magic, word, place_bytes}
-use Rattle.fy_image.specs.Refusals.{IsJudged, Field, is_place, place_list, or_else, number_of, number_at, numbers, version_refusal, version_1, range_refusal, zero_refusal, number_in, any_bytes, fields_1, first_refusal, magic_refusal, body_refusal, lists_1, IsCause}
+use Rattle.fy_image.specs.Reading.{is_place, body_refusal}
+use Rattle.fy_image.specs.Refusals.{IsJudged, Field, place_list, or_else, number_of, number_at, numbers, version_refusal, version_1, range_refusal, zero_refusal, number_in, any_bytes, fields_1, first_refusal, magic_refusal, lists_1, IsCause}
 use Rattle.fy_image.specs.declared.error.ImageError.{ImageError}
 use Rattle.fy_image.specs.declared.error.ImageError.TheVariants as errors
 

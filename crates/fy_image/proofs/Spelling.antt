@@ -6,8 +6,8 @@ use Rattle.std.proofs.lemmas.List.{append-nil}
 use Rattle.fy_base.specs.Outside.{Bytes}
 use Rattle.fy_image.specs.Ranges.{IsPlace}
 use Rattle.fy_image.specs.Form.{magic, word, double, place_bytes, body_of, spelling_of, PlaceFits, FitsFields}
-use Rattle.fy_image.specs.Refusals.{or_else, number_at, version_1, fields_1, first_refusal, magic_refusal, body_refusal, refusal_of}
-use Rattle.fy_image.specs.Header.{header_bytes, HeaderFits}
+use Rattle.fy_image.specs.Reading.{body_refusal, header_bytes, HeaderFits}
+use Rattle.fy_image.specs.Refusals.{or_else, number_at, version_1, fields_1, first_refusal, magic_refusal, refusal_of}
 use Rattle.fy_image.specs.declared.read.Header.{Header}
 use Rattle.fy_image.specs.declared.image.Image.{Image}
 use Rattle.fy_image.specs.declared.error.ImageError.{ImageError}

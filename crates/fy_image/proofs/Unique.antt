@@ -14,7 +14,8 @@ use Rattle.fy_base.specs.Outside.{Bytes}
 use Rattle.fy_base.specs.declared.data.Place.{Place}
 use Rattle.fy_image.specs.Ranges.{IsPlace}
 use Rattle.fy_image.specs.Form.{magic, word, double, place_bytes, body_of, spelling_of, PlaceFits, FitsFields, IsImageBytes}
-use Rattle.fy_image.specs.Refusals.{IsCause, IsJudged, place_list, is_place, number_of, number_at, first_refusal, magic_refusal, body_refusal, refusal_of}
+use Rattle.fy_image.specs.Reading.{is_place, body_refusal}
+use Rattle.fy_image.specs.Refusals.{IsCause, IsJudged, place_list, number_of, number_at, first_refusal, magic_refusal, refusal_of}
 use Rattle.fy_image.specs.declared.image.Image.{Image}
 use Rattle.fy_image.specs.declared.error.ImageError.{ImageError}
 use Rattle.fy_image.specs.declared.error.ImageError.TheVariants as errors

@@ -1,12 +1,11 @@
 -- Why bytes are no image: the first field that fails, in the order of the form.
-use Rattle.std.specs.Prelude.{◌≡◌, ℕ, zero, suc, ◌*◌, Bool, not, ◌&&◌, nat_lt, nat_le, nat_eq, if◌then◌else◌, List, [], ◌∷◌, length, take, drop, Some, None}
+use Rattle.std.specs.Prelude.{◌≡◌, ℕ, zero, suc, ◌*◌, not, ◌&&◌, nat_lt, nat_le, nat_eq, if◌then◌else◌, List, [], ◌∷◌, length, take, drop, Some, None}
 use Rattle.std.specs.List.{list_all, starts_with}
 use Rattle.std.specs.Int.{w32, from_le_bytes}
 use Rattle.std.specs.declared.option.Option.{Option}
 use Rattle.std.specs.declared.result.Result.{Result}
 use Rattle.std.specs.declared.result.Result.TheVariants.{Ok, Err}
 use Rattle.fy_base.specs.Outside.{Bytes}
-use Rattle.fy_base.specs.declared.data.Place.{Place}
 use Rattle.fy_image.specs.declared.error.ImageError.{ImageError}
 use Rattle.fy_image.specs.declared.error.ImageError.TheVariants as errors
 use Rattle.fy_image.specs.Form.{magic}
@@ -33,10 +32,6 @@ number_at bytes offset = number_of (take 4 (drop offset bytes))
 abbrev pub numbers : ℕ → Bytes → List ℕ
 numbers zero bytes = []
 numbers (suc n) bytes = number_of (take 4 bytes) ∷ numbers n (drop 4 bytes)
-
--- whether a place has a line and a column
-abbrev pub is_place : Place → Bool
-is_place place = not (nat_eq place.line 0) && not (nat_eq place.col 0)
 
 -- the version, which is 1
 abbrev pub version_refusal : ℕ → Option ImageError
@@ -87,10 +82,6 @@ first_refusal [] bytes = if nat_eq (length bytes) 0 then None else Some (errors.
 first_refusal (field ∷ fields) bytes =
     if nat_lt (length bytes) field.size then Some errors.Truncated else or_else (field.refusal (take field.size bytes)) (first_refusal fields (drop field.size bytes))
 
--- the first refusal behind the version; the counts stand at the offsets 4, 8 and 12 there
-unfoldable pub body_refusal : Bytes → Option ImageError
-body_refusal bytes = first_refusal (fields_1 (number_at bytes 4) (number_at bytes 8) (number_at bytes 12)) bytes
-
 -- the first eight bytes: those that are there begin the magic, and none is missing
 unfoldable pub magic_refusal : Bytes → Option ImageError
 magic_refusal bytes =
@@ -108,11 +99,6 @@ refusal_of bytes =
 abbrev pub IsCause : ImageError → Option ImageError → Type 0
 IsCause errors.OutOfMemory refusal = Unit {0}
 IsCause error refusal = refusal ≡ Some error
-
--- what a result tells of the refusal of a field that was taken off the bytes before, with those now behind it
-abbrev pub Judges : {T : Type 0} → Result T ImageError → Field → Bytes → Bytes → Type 0
-Judges (Ok value) field before now = (fields : List Field) → first_refusal (field ∷ fields) before ≡ first_refusal fields now
-Judges (Err error) field before now = (fields : List Field) → IsCause error (first_refusal (field ∷ fields) before)
 
 -- what a result tells of the refusal of all that was read
 abbrev pub IsJudged : {T : Type 0} → Result T ImageError → Option ImageError → Type 0

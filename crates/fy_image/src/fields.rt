@@ -5,7 +5,8 @@ ghost use Rattle.std.specs.List.{flat_map, list_all};
 ghost use Rattle.fy_image.specs.Ranges.{IsPlace};
 ghost use Rattle.fy_base.specs.Outside.{Bytes};
 ghost use Rattle.fy_image.specs.Form.{PlaceFits, magic, word, double, place_bytes};
-ghost use Rattle.fy_image.specs.Refusals.{Field, Judges, any_bytes, first_refusal, is_place, magic_refusal, number_in, place_list};
+ghost use Rattle.fy_image.specs.Reading.{Judges, is_place};
+ghost use Rattle.fy_image.specs.Refusals.{any_bytes, first_refusal, magic_refusal, number_in, place_list};
 ghost use Rattle.fy_image.specs.declared.error.ImageError.TheVariants as errors;
 
 use crate::error::ImageError;

@@ -2,10 +2,10 @@
 
 ghost use Rattle.fy_image.specs.declared.error.ImageError.TheVariants as errors;
 ghost use Rattle.fy_image.specs.declared.image.Image.{Image};
-ghost use Rattle.fy_image.specs.Header.{HeaderFits, header_bytes, lists_of};
+ghost use Rattle.fy_image.specs.Reading.{HeaderFits, body_refusal, header_bytes, lists_of};
 ghost use Rattle.std.specs.Prelude.{◌≡◌, ◌++◌, ℕ, drop, IfOk, IfErr, MatchResult, None};
 ghost use Rattle.fy_image.specs.Form.{FitsFields, IsImageBytes, body_of};
-ghost use Rattle.fy_image.specs.Refusals.{IsCause, IsJudged, body_refusal, fields_1, first_refusal, number_at, number_of, refusal_of};
+ghost use Rattle.fy_image.specs.Refusals.{IsCause, IsJudged, first_refusal, refusal_of};
 
 use crate::error::ImageError;
 use crate::fields::Fields;
@@ -24,7 +24,7 @@ struct Header {
     places: u32,
 }
 
-#[tactic(auto, unfolding(crate::specs::Refusals::body_refusal))]
+#[tactic(auto, unfolding(crate::specs::Reading::body_refusal))]
 fn read_header_1(fields: &mut Fields) -> Result<Header, ImageError>
     ensures taken { IfOk result (λ header. fields.old ≡ header_bytes header ++ fields.new) }
     ensures ranges { IfOk result (λ header. HeaderFits header) }

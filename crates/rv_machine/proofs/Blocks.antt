@@ -68,19 +68,19 @@ block_holds program world k block has at (suc (suc (suc zero))) lt = ap (λ w. w
 block_holds program world k block has at (suc (suc (suc (suc j)))) lt = absurd (omega arith)
 
 -- what the service reads
-abbrev three : List ℕ → ℕ → ℕ → ℕ → List ℕ
+abbrev pub three : List ℕ → ℕ → ℕ → ℕ → List ℕ
 three regs first second service = slice_set (slice_set (slice_set regs 10 first) 11 second) 17 service
 
-reads_10 : (regs : List ℕ) (first second service : ℕ) → length regs ≡ 32 → slice_index (three regs first second service) 10 ≡ first
+pub reads_10 : (regs : List ℕ) (first second service : ℕ) → length regs ≡ 32 → slice_index (three regs first second service) 10 ≡ first
 reads_10 regs first second service long =
     get_or-set_other (slice_set (slice_set regs 10 first) 11 second) 17 10 service 0 (λ e. omega arith) ∙ get_or-set_other (slice_set regs 10 first) 11 10 second 0 (λ e. omega arith)
     ∙ get_or-set_same regs 10 first 0 (omega arith)
 
-reads_11 : (regs : List ℕ) (first second service : ℕ) → length regs ≡ 32 → slice_index (three regs first second service) 11 ≡ second
+pub reads_11 : (regs : List ℕ) (first second service : ℕ) → length regs ≡ 32 → slice_index (three regs first second service) 11 ≡ second
 reads_11 regs first second service long =
     get_or-set_other (slice_set (slice_set regs 10 first) 11 second) 17 11 service 0 (λ e. omega arith) ∙ get_or-set_same (slice_set regs 10 first) 11 second 0 (omega (arith, length-set regs 10 first))
 
-reads_17 : (regs : List ℕ) (first second service : ℕ) → length regs ≡ 32 → slice_index (three regs first second service) 17 ≡ service
+pub reads_17 : (regs : List ℕ) (first second service : ℕ) → length regs ≡ 32 → slice_index (three regs first second service) 17 ≡ service
 reads_17 regs first second service long =
     get_or-set_same (slice_set (slice_set regs 10 first) 11 second) 17 service 0 (omega (arith, length-set regs 10 first, length-set (slice_set regs 10 first) 11 second))
 

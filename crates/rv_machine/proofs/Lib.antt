@@ -5,3 +5,4 @@ pub mod Turns
 pub mod Straight
 pub mod Blocks
 pub mod Blockwise
+pub mod Quiet

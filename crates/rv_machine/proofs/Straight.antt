@@ -80,15 +80,15 @@ pub tick_addi : (program : Program) (world : World) (k rd imm : ℕ) → world.e
     → tick program world ≡ record world { core = record (world.core) { regs = slice_set world.core.regs rd imm; pc = world.core.pc + 4 } }
 tick_addi program world k rd imm goes stands here some low small = tick_is program world _ goes (step_addi program world.core k rd imm stands here some low small)
 
-service_put : (program : Program) (core : Core) → slice_index core.regs 17 ≡ 1 → service program core ≡ record { event = Put (slice_index core.regs 10 % 256); core = next core }
+pub service_put : (program : Program) (core : Core) → slice_index core.regs 17 ≡ 1 → service program core ≡ record { event = Put (slice_index core.regs 10 % 256); core = next core }
 unfolding service
 service_put program core calls = rw calls refl
 
-service_end : (program : Program) (core : Core) → slice_index core.regs 17 ≡ 0 → service program core ≡ stopped Ended core
+pub service_end : (program : Program) (core : Core) → slice_index core.regs 17 ≡ 0 → service program core ≡ stopped Ended core
 unfolding service
 service_end program core calls = rw calls refl
 
-service_fault : (program : Program) (core : Core) → slice_index core.regs 17 ≡ 3 → service program core ≡ fault_at (slice_get program.places (slice_index core.regs 11)) (slice_index core.regs 10) core
+pub service_fault : (program : Program) (core : Core) → slice_index core.regs 17 ≡ 3 → service program core ≡ fault_at (slice_get program.places (slice_index core.regs 11)) (slice_index core.regs 10) core
 unfolding service
 service_fault program core calls = rw calls refl
 

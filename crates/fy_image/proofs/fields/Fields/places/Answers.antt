@@ -2,7 +2,8 @@ use Rattle.std.proofs.Common.{◌≡◌, arith, refl, length, sym, ap, ◌∙◌
 use Rattle.std.specs.List.{list_all}
 use Rattle.std.proofs.lemmas.Result.{err_from_is_err_and}
 use Rattle.fy_image.specs.Form.{place_bytes}
-use Rattle.fy_image.specs.Refusals.{is_place, place_list}
+use Rattle.fy_image.specs.Reading.{is_place}
+use Rattle.fy_image.specs.Refusals.{place_list}
 use Rattle.fy_image.proofs.Judging.{cut_judged, places_good, places_bad}
 use Rattle.fy_image.proofs.Lists.{eights_cut}
 use Rattle.fy_image.proofs.fields.Fields.places.Goals as goal
