@@ -1,0 +1,4 @@
+pub mod Types
+pub mod Subtyping
+pub mod Paths
+pub mod Reading

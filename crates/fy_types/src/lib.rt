@@ -1,0 +1,15 @@
+//! Types, their path forms, and subtyping.
+#![tactic(auto)]
+
+mod copy;
+mod error;
+mod paths;
+mod types;
+
+pub use copy::{copy_paths, copy_ty, same_ty};
+pub use error::TypeError;
+pub use paths::{ElemList, Path, PathElem, Paths};
+pub use types::{Atom, Ty, TyList};
+
+/// A name's number.
+pub type Name = u32;
