@@ -1,1 +1,4 @@
 pub mod ReadLemmas
+pub mod Order
+pub mod Laws
+pub mod Central

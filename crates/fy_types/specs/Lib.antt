@@ -1,4 +1,5 @@
 pub mod Types
 pub mod Subtyping
 pub mod Paths
+pub mod PathOrder
 pub mod Reading
