@@ -2,3 +2,4 @@ pub mod ReadLemmas
 pub mod Order
 pub mod Laws
 pub mod Central
+pub mod Steps

@@ -8,6 +8,7 @@ use Rattle.fy_types.specs.declared.paths.Path.{Path, Path-F, fold-Path}
 use Rattle.fy_types.specs.declared.paths.Paths.{Paths, Paths-F, fold-Paths, out-Paths}
 use Rattle.fy_types.specs.Types.{PlainType, PlainTypes, ns, atom, arrow, field, meet, no_types, and_type}
 use Rattle.fy_types.specs.Paths.{PlainPath, PlainPaths, end, call, pick, no_paths, and_path}
+use Rattle.fy_types.specs.PathOrder.{ArePathsBelow}
 
 -- the members of the lists
 abbrev pub types_in : TyList → List Ty
@@ -53,6 +54,11 @@ front (a_field i) p = pick i p
 abbrev pub fronted : List PlainElem → PlainPath → PlainPath
 fronted [] p = p
 fronted (x ∷ xs) p = front x (fronted xs p)
+
+-- one element below another: a call with a domain the other way round, or the same field
+pub data IsElemBelow : PlainElem → PlainElem → Type 0 where
+  wider : {D E : PlainPaths} → ArePathsBelow E D → IsElemBelow (a_call D) (a_call E)
+  same_field : {i : ℕ} → IsElemBelow (a_field i) (a_field i)
 
 abbrev pub paths_from : List PlainPath → PlainPaths
 paths_from [] = no_paths

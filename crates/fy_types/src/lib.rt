@@ -4,11 +4,13 @@
 mod copy;
 mod error;
 mod paths;
+mod subtype;
 mod types;
 
 pub use copy::{copy_paths, copy_ty, same_ty};
 pub use error::TypeError;
 pub use paths::{ElemList, Path, PathElem, Paths};
+pub use subtype::is_subtype;
 pub use types::{Atom, Ty, TyList};
 
 /// A name's number.
