@@ -3,3 +3,5 @@ pub mod Subtyping
 pub mod Paths
 pub mod PathOrder
 pub mod Reading
+pub mod Limits
+pub mod Sized

@@ -7,7 +7,7 @@ use Rattle.fy_types.specs.declared.paths.ElemList.{ElemList, ElemList-F, fold-El
 use Rattle.fy_types.specs.declared.paths.Path.{Path, Path-F, fold-Path}
 use Rattle.fy_types.specs.declared.paths.Paths.{Paths, Paths-F, fold-Paths, out-Paths}
 use Rattle.fy_types.specs.Types.{PlainType, PlainTypes, ns, atom, arrow, field, meet, no_types, and_type}
-use Rattle.fy_types.specs.Paths.{PlainPath, PlainPaths, end, call, pick, no_paths, and_path}
+use Rattle.fy_types.specs.Paths.{PlainPath, PlainPaths, end, call, pick, no_paths, and_path, called, picked}
 use Rattle.fy_types.specs.PathOrder.{ArePathsBelow}
 
 -- the members of the lists
@@ -54,6 +54,11 @@ front (a_field i) p = pick i p
 abbrev pub fronted : List PlainElem → PlainPath → PlainPath
 fronted [] p = p
 fronted (x ∷ xs) p = front x (fronted xs p)
+
+-- each path with the element in front
+abbrev pub all_front : PlainElem → PlainPaths → PlainPaths
+all_front (a_call D) P = called D P
+all_front (a_field i) P = picked i P
 
 -- one element below another: a call with a domain the other way round, or the same field
 pub data IsElemBelow : PlainElem → PlainElem → Type 0 where

@@ -1,14 +1,19 @@
 //! Types, their path forms, and subtyping.
 #![tactic(auto)]
 
+mod back;
 mod copy;
 mod error;
+mod form;
 mod paths;
+mod sized;
 mod subtype;
 mod types;
 
+pub use back::ty_of;
 pub use copy::{copy_paths, copy_ty, same_ty};
 pub use error::TypeError;
+pub use form::paths_of;
 pub use paths::{ElemList, Path, PathElem, Paths};
 pub use subtype::is_subtype;
 pub use types::{Atom, Ty, TyList};

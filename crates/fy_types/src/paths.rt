@@ -1,7 +1,7 @@
 //! Path forms.
 
-ghost use Rattle.std.specs.Prelude.{◌≡◌, [], ◌∷◌, ◌++◌, OnOk, OnErr, length, map};
-ghost use Rattle.fy_types.specs.Reading.{elems_in, paths_in, plain_elem, plain_elems, plain_path, plain_paths, paths_from};
+ghost use Rattle.std.specs.Prelude.{◌≡◌, [], ◌∷◌, ◌++◌, OnOk, OnErr, IfOk, length, map};
+ghost use Rattle.fy_types.specs.Reading.{elems_in, paths_in, front, plain_elem, plain_elems, plain_path, plain_paths, paths_from};
 
 use crate::Name;
 use crate::types::Atom;
@@ -58,6 +58,15 @@ impl ElemList {
         Ok(())
     }
 
+    /// The list with the element in front.
+    pub(crate) fn after(self, elem: PathElem) -> Result<ElemList, OutOfMemory>
+        ensures { IfOk result (λ made. elems_in made ≡ elem ∷ elems_in self) }
+    {
+        let mut items = self.items;
+        items.insert(0, elem)?;
+        Ok(ElemList { items })
+    }
+
     /// The number of members.
     pub fn len(&self) -> usize
         ensures { result ≡ length (elems_in self.now) }
@@ -71,6 +80,19 @@ impl ElemList {
         ensures reading { plain_elems self.now ≡ map plain_elem result.now }
     {
         self.items.as_slice()
+    }
+}
+
+impl Path {
+    /// The path with the element in front.
+    pub(crate) fn after(self, elem: PathElem) -> Result<Path, OutOfMemory>
+        ensures { IfOk result (λ made. plain_path made ≡ front (plain_elem elem) (plain_path self)) }
+    {
+        let Path { elems, end } = self;
+        Ok(Path {
+            elems: elems.after(elem)?,
+            end,
+        })
     }
 }
 
@@ -99,6 +121,13 @@ impl Paths {
         ensures { result ≡ length (paths_in self.now) }
     {
         self.items.len()
+    }
+
+    /// The vector of the members.
+    pub(crate) fn into_vec(self) -> Vec<Path>
+        ensures { result.items ≡ paths_in self }
+    {
+        self.items
     }
 
     /// The members.
