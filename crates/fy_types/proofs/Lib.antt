@@ -6,3 +6,5 @@ pub mod Steps
 pub mod Sizes
 pub mod Making
 pub mod TypeForms
+pub mod TypeSizes
+pub mod RestLemmas

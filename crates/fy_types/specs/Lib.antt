@@ -5,3 +5,4 @@ pub mod PathOrder
 pub mod Reading
 pub mod Limits
 pub mod Sized
+pub mod Rests

@@ -2,6 +2,7 @@
 #![tactic(auto)]
 
 mod back;
+mod below;
 mod copy;
 mod error;
 mod form;
@@ -11,6 +12,7 @@ mod subtype;
 mod types;
 
 pub use back::ty_of;
+pub use below::is_below;
 pub use copy::{copy_paths, copy_ty, same_ty};
 pub use error::TypeError;
 pub use form::paths_of;
