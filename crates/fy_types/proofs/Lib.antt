@@ -8,3 +8,7 @@ pub mod Making
 pub mod TypeForms
 pub mod TypeSizes
 pub mod RestLemmas
+pub mod OnceLemmas
+pub mod BoundLemmas
+pub mod KeepLemmas
+pub mod CommonLemmas

@@ -89,3 +89,15 @@ large-rest D P (inr deep) = inr (omega (arith, called-nesting D P (nesting-some 
 pub large-part : (i : ℕ) (P : PlainPaths) → IsTooLarge P → IsTooLarge (picked i P)
 large-part i P (inl many) = inl (omega (arith, part-nodes i P))
 large-part i P (inr deep) = inr (omega (arith, picked-nesting i P (nesting-some P deep)))
+
+pub not_large : IsTooLarge no_paths → ⊥
+not_large (inl many) = omega arith
+not_large (inr deep) = omega arith
+
+pub called-count : (D P : PlainPaths) → count (called D P) ≡ count P
+called-count D no_paths = refl
+called-count D (and_path p P) = omega (arith, called-count D P)
+
+pub picked-count : (i : ℕ) (P : PlainPaths) → count (picked i P) ≡ count P
+picked-count i no_paths = refl
+picked-count i (and_path p P) = omega (arith, picked-count i P)

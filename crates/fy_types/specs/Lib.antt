@@ -6,3 +6,7 @@ pub mod Reading
 pub mod Limits
 pub mod Sized
 pub mod Rests
+pub mod Once
+pub mod Bounds
+pub mod Keeping
+pub mod Merging

@@ -2,14 +2,17 @@
 
 ghost use Rattle.std.specs.Prelude.{◌≡◌, ◌<◌, ◌+◌, IfOk, IsErrOf};
 ghost use Rattle.fy_types.specs.Paths.{PlainPath, no_paths, and_path, called, picked, append};
-ghost use Rattle.fy_types.specs.Reading.{plain_paths};
+ghost use Rattle.fy_types.specs.Reading.{plain_path, plain_paths};
 ghost use Rattle.fy_types.specs.Limits.{IsTooLarge};
 ghost use Rattle.fy_types.specs.Sized.{IsSized};
+ghost use Rattle.fy_types.specs.Keeping.{added, all_added};
 
 use crate::Name;
-use crate::copy::copy_paths;
+use crate::copy::{copy_path, copy_paths};
 use crate::error::TypeError;
 use crate::paths::{ElemList, Path, PathElem, Paths};
+use crate::same::has_path;
+use crate::size::size_of_path;
 use crate::types::Atom;
 use fy_base::OutOfMemory;
 use std::alloc::Global;
@@ -100,6 +103,42 @@ impl Sized {
         })
     }
 
+    /// These paths and then the path, unless it is among them.
+    pub(crate) fn keep(self, alloc: Global, path: &Path) -> Result<Sized, TypeError>
+        requires { IsSized self (plain_paths self.paths) }
+        ensures ok { IfOk result (λ s. IsSized s (added (plain_paths self.paths) (plain_path path.now))) }
+        ensures large { IsErrOf result TypeError.TypeTooLarge → IsTooLarge (added (plain_paths self.paths) (plain_path path.now)) }
+    {
+        if has_path(&self.paths, path) {
+            return Ok(self);
+        }
+        let size = size_of_path(path);
+        let nodes = self.nodes.saturating_add(size.nodes);
+        let nesting = self.nesting.max(size.nesting);
+        if nodes > MOST_NODES || nesting > MOST_NESTING {
+            return Err(TypeError::TypeTooLarge);
+        }
+        let paths = pushed_path(alloc, self.paths, path)?;
+        Ok(Sized {
+            paths,
+            nodes,
+            nesting,
+        })
+    }
+
+    /// These paths and then those of the list that aren't among them, each once.
+    pub(crate) fn keep_all(self, alloc: Global, list: &Paths) -> Result<Sized, TypeError>
+        requires { IsSized self (plain_paths self.paths) }
+        ensures ok { IfOk result (λ s. IsSized s (all_added (plain_paths self.paths) (plain_paths list.now))) }
+        ensures large { IsErrOf result TypeError.TypeTooLarge → IsTooLarge (all_added (plain_paths self.paths) (plain_paths list.now)) }
+    {
+        let mut form = self;
+        for path in list.as_slice() {
+            form = form.keep(alloc, path)?;
+        }
+        Ok(form)
+    }
+
     /// These paths and then the others.
     pub(crate) fn followed_by(self, next: Sized) -> Result<Sized, TypeError>
         requires first { IsSized self (plain_paths self.paths) }
@@ -139,6 +178,14 @@ fn picked_paths(alloc: Global, name: Name, list: Paths) -> Result<Paths, OutOfMe
     for path in list.into_vec() {
         made.push(path.after(PathElem::Field(name))?)?;
     }
+    Ok(made)
+}
+
+fn pushed_path(alloc: Global, list: Paths, path: &Path) -> Result<Paths, OutOfMemory>
+    ensures { IfOk result (λ made. plain_paths made ≡ append (plain_paths list) (and_path (plain_path path.now) no_paths)) }
+{
+    let mut made = list;
+    made.push(copy_path(alloc, path)?)?;
     Ok(made)
 }
 
