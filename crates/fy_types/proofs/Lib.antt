@@ -12,3 +12,4 @@ pub mod OnceLemmas
 pub mod BoundLemmas
 pub mod KeepLemmas
 pub mod CommonLemmas
+pub mod NameLemmas

@@ -10,3 +10,5 @@ pub mod Once
 pub mod Bounds
 pub mod Keeping
 pub mod Merging
+pub mod Names
+pub mod Words

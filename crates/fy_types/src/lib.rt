@@ -1,4 +1,4 @@
-//! Types, their path forms, and subtyping.
+//! Names, types, their path forms, and subtyping.
 #![tactic(auto)]
 
 mod back;
@@ -8,6 +8,7 @@ mod error;
 mod form;
 mod join_forms;
 mod meet_forms;
+mod names;
 mod paths;
 mod same;
 mod size;
@@ -22,9 +23,7 @@ pub use error::TypeError;
 pub use form::paths_of;
 pub use join_forms::join;
 pub use meet_forms::meet;
+pub use names::{Name, Names};
 pub use paths::{ElemList, Path, PathElem, Paths};
 pub use subtype::is_subtype;
 pub use types::{Atom, Ty, TyList};
-
-/// A name's number.
-pub type Name = u32;
