@@ -13,3 +13,4 @@ pub mod BoundLemmas
 pub mod KeepLemmas
 pub mod CommonLemmas
 pub mod NameLemmas
+pub mod PrintLemmas

@@ -12,3 +12,4 @@ pub mod Keeping
 pub mod Merging
 pub mod Names
 pub mod Words
+pub mod Print

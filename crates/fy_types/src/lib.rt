@@ -10,6 +10,7 @@ mod join_forms;
 mod meet_forms;
 mod names;
 mod paths;
+mod print;
 mod same;
 mod size;
 mod sized;
@@ -25,5 +26,9 @@ pub use join_forms::join;
 pub use meet_forms::meet;
 pub use names::{Name, Names};
 pub use paths::{ElemList, Path, PathElem, Paths};
+pub use print::print_ty;
 pub use subtype::is_subtype;
 pub use types::{Atom, Ty, TyList};
+
+#[cfg(test)]
+mod tests;
