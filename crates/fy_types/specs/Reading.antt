@@ -7,7 +7,7 @@ use Rattle.fy_types.specs.declared.paths.ElemList.{ElemList, ElemList-F, fold-El
 use Rattle.fy_types.specs.declared.paths.Path.{Path, Path-F, fold-Path}
 use Rattle.fy_types.specs.declared.paths.Paths.{Paths, Paths-F, fold-Paths, out-Paths}
 use Rattle.fy_types.specs.Types.{PlainType, PlainTypes, ns, atom, arrow, field, meet, no_types, and_type}
-use Rattle.fy_types.specs.Paths.{PlainPath, PlainPaths, end, call, pick, no_paths, and_path, called, picked}
+use Rattle.fy_types.specs.Paths.{PlainPath, PlainPaths, end, call, pick, no_paths, and_path, called, picked, type_of_paths}
 use Rattle.fy_types.specs.PathOrder.{ArePathsBelow}
 
 -- the members of the lists
@@ -95,3 +95,7 @@ plain_path = fold-Path PlainElem (List PlainElem) PlainPath PlainPaths elem_step
 -- the path form that a list is
 abbrev pub plain_paths : Paths → PlainPaths
 plain_paths = fold-Paths PlainElem (List PlainElem) PlainPath PlainPaths elem_step elems_step path_step paths_step
+
+-- the type that a path form stands for
+abbrev pub type_of_form : Paths → PlainType
+type_of_form l = type_of_paths (plain_paths l)

@@ -24,7 +24,8 @@ pub fn ty_of(alloc: Global, form: &Paths) -> Result<Ty, OutOfMemory>
 
 #[cycle(back)]
 fn types_of(alloc: Global, list: &[Path]) -> Result<TyList, OutOfMemory>
-    ensures { IfOk result (λ all. all_paths (plain_types all) ≡ paths_from (map plain_path list.now)) }
+    ensures { IfOk result
+        (λ all. all_paths (plain_types all) ≡ paths_from (map plain_path list.now)) }
 {
     let mut all = TyList::new(alloc);
     for path in list {
@@ -47,7 +48,8 @@ fn ty_of_path(alloc: Global, path: &Path) -> Result<Ty, OutOfMemory>
 
 #[cycle(back)]
 fn ty_behind(alloc: Global, elem: &PathElem, rest: Ty) -> Result<Ty, OutOfMemory>
-    ensures { IfOk result (λ ty. paths (plain_type ty) ≡ all_front (plain_elem elem.now) (paths (plain_type rest))) }
+    ensures { IfOk result
+        (λ ty. paths (plain_type ty) ≡ all_front (plain_elem elem.now) (paths (plain_type rest))) }
 {
     match elem {
         PathElem::Call(domain) => Ok(Ty::Arrow(

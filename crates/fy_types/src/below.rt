@@ -24,7 +24,8 @@ pub fn is_below(alloc: Global, a: &Ty, b: &Ty) -> Result<bool, OutOfMemory>
 
 #[cycle(below)]
 fn is_one_below(alloc: Global, a: &Ty, b: &Ty) -> Result<bool, OutOfMemory>
-    ensures { IfOk result (λ r. IsTrue r ↔ ArePathsBelow (paths (plain_type a.now)) (paths (plain_type b.now))) }
+    ensures { IfOk result
+        (λ r. IsTrue r ↔ ArePathsBelow (paths (plain_type a.now)) (paths (plain_type b.now))) }
 {
     let mut list = Vec::new(alloc);
     list.push(a)?;
@@ -34,7 +35,8 @@ fn is_one_below(alloc: Global, a: &Ty, b: &Ty) -> Result<bool, OutOfMemory>
 // Whether the meet of the listed types is below the type.
 #[cycle(below)]
 fn is_meet_below(alloc: Global, list: &[&Ty], b: &Ty) -> Result<bool, OutOfMemory>
-    ensures { IfOk result (λ r. IsTrue r ↔ ArePathsBelow (listed list.now) (paths (plain_type b.now))) }
+    ensures { IfOk result
+        (λ r. IsTrue r ↔ ArePathsBelow (listed list.now) (paths (plain_type b.now))) }
 {
     match b {
         Ty::Ns => Ok(true),
@@ -53,7 +55,8 @@ fn is_meet_below(alloc: Global, list: &[&Ty], b: &Ty) -> Result<bool, OutOfMemor
 
 #[cycle(below)]
 fn is_meet_below_all(alloc: Global, list: &[&Ty], all: &TyList) -> Result<bool, OutOfMemory>
-    ensures { IfOk result (λ r. IsTrue r ↔ ArePathsBelow (listed list.now) (all_paths (plain_types all.now))) }
+    ensures { IfOk result
+        (λ r. IsTrue r ↔ ArePathsBelow (listed list.now) (all_paths (plain_types all.now))) }
 {
     for b in all.as_slice() {
         if !is_meet_below(alloc, list, b)? {
@@ -106,7 +109,9 @@ fn rests_after_call<'a>(
     list: &[&'a Ty],
     argument: &Ty,
 ) -> Result<Vec<&'a Ty>, OutOfMemory>
-    ensures rests { IfOk result (λ made. Adds (PlainPath.call (paths (plain_type argument.now))) no_paths (listed made.items) (listed list.now)) }
+    ensures rests { IfOk result
+        (λ made. Adds (PlainPath.call (paths (plain_type argument.now))) no_paths
+        (listed made.items) (listed list.now)) }
     ensures size { IfOk result (λ made. largest made.items ≤ largest list.now) }
 {
     let mut made = Vec::new(alloc);
@@ -123,7 +128,9 @@ fn add_rests_after_call<'a>(
     argument: &Ty,
     made: &mut Vec<&'a Ty>,
 ) -> Result<(), OutOfMemory>
-    ensures rests { OnOk result (Adds (PlainPath.call (paths (plain_type argument.now))) (listed made.old.items) (listed made.new.items) (paths (plain_type ty.now))) }
+    ensures rests { OnOk result
+        (Adds (PlainPath.call (paths (plain_type argument.now)))
+        (listed made.old.items) (listed made.new.items) (paths (plain_type ty.now))) }
     ensures size { OnOk result (largest made.new.items ≤ max (largest made.old.items) (size-Ty ty.now)) }
 {
     match ty {
@@ -150,7 +157,8 @@ fn rests_after_field<'a>(
     list: &[&'a Ty],
     name: Name,
 ) -> Result<Vec<&'a Ty>, OutOfMemory>
-    ensures rests { IfOk result (λ made. Adds (PlainPath.pick name) no_paths (listed made.items) (listed list.now)) }
+    ensures rests { IfOk result
+        (λ made. Adds (PlainPath.pick name) no_paths (listed made.items) (listed list.now)) }
     ensures size { IfOk result (λ made. largest made.items ≤ largest list.now) }
 {
     let mut made = Vec::new(alloc);
@@ -165,7 +173,9 @@ fn add_rests_after_field<'a>(
     name: Name,
     made: &mut Vec<&'a Ty>,
 ) -> Result<(), OutOfMemory>
-    ensures rests { OnOk result (Adds (PlainPath.pick name) (listed made.old.items) (listed made.new.items) (paths (plain_type ty.now))) }
+    ensures rests { OnOk result
+        (Adds (PlainPath.pick name)
+        (listed made.old.items) (listed made.new.items) (paths (plain_type ty.now))) }
     ensures size { OnOk result (largest made.new.items ≤ max (largest made.old.items) (size-Ty ty.now)) }
 {
     match ty {

@@ -60,7 +60,8 @@ fn form_of(alloc: Global, ty: &Ty) -> Result<Sized, TypeError>
 #[cycle(form)]
 fn form_of_all(alloc: Global, all: &TyList) -> Result<Sized, TypeError>
     ensures ok { IfOk result (λ s. IsSized s (all_paths (plain_types all.now))) }
-    ensures large { IsErrOf result TypeError.TypeTooLarge → IsTooLarge (all_paths (plain_types all.now)) }
+    ensures large { IsErrOf result TypeError.TypeTooLarge →
+        IsTooLarge (all_paths (plain_types all.now)) }
 {
     let mut form = Sized::none(alloc);
     for ty in all.as_slice() {

@@ -1,8 +1,8 @@
 //! The join of two path forms.
 
 ghost use Rattle.std.specs.Prelude.{◌≡◌, ◌≤◌, IsTrue, IfOk, OnOk, IsErrOf};
-ghost use Rattle.fy_types.specs.Paths.{PlainPath, no_paths, and_path, type_of_paths};
-ghost use Rattle.fy_types.specs.Reading.{plain_elem, plain_path, plain_paths};
+ghost use Rattle.fy_types.specs.Paths.{PlainPath, no_paths, and_path};
+ghost use Rattle.fy_types.specs.Reading.{plain_elem, plain_path, plain_paths, type_of_form};
 ghost use Rattle.fy_types.specs.Limits.{IsWithinLimits, IsTooLarge};
 ghost use Rattle.fy_types.specs.Sized.{IsSized};
 ghost use Rattle.fy_types.specs.Bounds.{common_end as end_of_both, common, commons_with, join_of, IsLeastUpperBound};
@@ -28,10 +28,13 @@ use std::alloc::Global;
 ///
 /// `TypeTooLarge` comes exactly where these paths have over 4,096 nodes or nest more than 480.
 pub fn join(alloc: Global, a: &Paths, b: &Paths) -> Result<Paths, TypeError>
-    ensures ok { IfOk result (λ made. plain_paths made ≡ join_of (plain_paths a.now) (plain_paths b.now)) }
-    ensures bound { IfOk result (λ made. IsLeastUpperBound (type_of_paths (plain_paths made)) (type_of_paths (plain_paths a.now)) (type_of_paths (plain_paths b.now))) }
+    ensures ok { IfOk result
+        (λ made. plain_paths made ≡ join_of (plain_paths a.now) (plain_paths b.now)) }
+    ensures bound { IfOk result
+        (λ made. IsLeastUpperBound (type_of_form made) (type_of_form a.now) (type_of_form b.now)) }
     ensures within { OnOk result (IsWithinLimits (join_of (plain_paths a.now) (plain_paths b.now))) }
-    ensures large { IsErrOf result TypeError.TypeTooLarge → IsTooLarge (join_of (plain_paths a.now) (plain_paths b.now)) }
+    ensures large { IsErrOf result TypeError.TypeTooLarge →
+        IsTooLarge (join_of (plain_paths a.now) (plain_paths b.now)) }
 {
     let sized = join_form(alloc, a, b)?;
     let Sized { paths, .. } = sized;
@@ -40,7 +43,8 @@ pub fn join(alloc: Global, a: &Paths, b: &Paths) -> Result<Paths, TypeError>
 
 fn join_form(alloc: Global, a: &Paths, b: &Paths) -> Result<Sized, TypeError>
     ensures ok { IfOk result (λ s. IsSized s (join_of (plain_paths a.now) (plain_paths b.now))) }
-    ensures large { IsErrOf result TypeError.TypeTooLarge → IsTooLarge (join_of (plain_paths a.now) (plain_paths b.now)) }
+    ensures large { IsErrOf result TypeError.TypeTooLarge →
+        IsTooLarge (join_of (plain_paths a.now) (plain_paths b.now)) }
 {
     let mut form = Sized::none(alloc);
     for path in a.as_slice() {
@@ -51,8 +55,12 @@ fn join_form(alloc: Global, a: &Paths, b: &Paths) -> Result<Sized, TypeError>
 
 fn keep_commons(alloc: Global, kept: Sized, path: &Path, list: &Paths) -> Result<Sized, TypeError>
     requires { IsSized kept (plain_paths kept.paths) }
-    ensures ok { IfOk result (λ s. IsSized s (all_added (plain_paths kept.paths) (commons_with (plain_path path.now) (plain_paths list.now)))) }
-    ensures large { IsErrOf result TypeError.TypeTooLarge → IsTooLarge (all_added (plain_paths kept.paths) (commons_with (plain_path path.now) (plain_paths list.now))) }
+    ensures ok { IfOk result
+        (λ s. IsSized s (all_added (plain_paths kept.paths)
+        (commons_with (plain_path path.now) (plain_paths list.now)))) }
+    ensures large { IsErrOf result TypeError.TypeTooLarge →
+        IsTooLarge (all_added (plain_paths kept.paths)
+        (commons_with (plain_path path.now) (plain_paths list.now))) }
 {
     let mut form = kept;
     for other in list.as_slice() {
@@ -63,8 +71,12 @@ fn keep_commons(alloc: Global, kept: Sized, path: &Path, list: &Paths) -> Result
 
 fn keep_common(alloc: Global, kept: Sized, p: &Path, q: &Path) -> Result<Sized, TypeError>
     requires { IsSized kept (plain_paths kept.paths) }
-    ensures ok { IfOk result (λ s. IsSized s (all_added (plain_paths kept.paths) (common (plain_path p.now) (plain_path q.now)))) }
-    ensures large { IsErrOf result TypeError.TypeTooLarge → IsTooLarge (all_added (plain_paths kept.paths) (common (plain_path p.now) (plain_path q.now))) }
+    ensures ok { IfOk result
+        (λ s. IsSized s (all_added (plain_paths kept.paths)
+        (common (plain_path p.now) (plain_path q.now)))) }
+    ensures large { IsErrOf result TypeError.TypeTooLarge →
+        IsTooLarge (all_added (plain_paths kept.paths)
+        (common (plain_path p.now) (plain_path q.now))) }
 {
     if !has_common(p, q) {
         return Ok(kept);
@@ -107,8 +119,10 @@ fn is_alike(x: &PathElem, y: &PathElem) -> bool
 // The domains are met only once it is known that there is a common path.
 fn common_path(alloc: Global, p: &Path, q: &Path) -> Result<Path, TypeError>
     requires { IsTrue (is_some (common (plain_path p.now) (plain_path q.now))) }
-    ensures ok { IfOk result (λ path. and_path (plain_path path) no_paths ≡ common (plain_path p.now) (plain_path q.now)) }
-    ensures large { IsErrOf result TypeError.TypeTooLarge → IsTooLarge (common (plain_path p.now) (plain_path q.now)) }
+    ensures ok { IfOk result
+        (λ path. and_path (plain_path path) no_paths ≡ common (plain_path p.now) (plain_path q.now)) }
+    ensures large { IsErrOf result TypeError.TypeTooLarge →
+        IsTooLarge (common (plain_path p.now) (plain_path q.now)) }
 {
     let xs = p.elems.as_slice();
     let ys = q.elems.as_slice();
@@ -147,7 +161,8 @@ struct Merged {
 fn merged_elem(alloc: Global, x: &PathElem, y: &PathElem) -> Result<Merged, TypeError>
     requires { IsTrue (are_alike (plain_elem x.now) (plain_elem y.now)) }
     ensures ok { IfOk result (λ m. IsMerged m (merged (plain_elem x.now) (plain_elem y.now))) }
-    ensures large { IsErrOf result TypeError.TypeTooLarge → IsTooLarge (elem_domain (merged (plain_elem x.now) (plain_elem y.now))) }
+    ensures large { IsErrOf result TypeError.TypeTooLarge →
+        IsTooLarge (elem_domain (merged (plain_elem x.now) (plain_elem y.now))) }
 {
     match x {
         PathElem::Call(d) => match y {

@@ -86,7 +86,8 @@ impl ElemList {
 impl Path {
     /// The path with the element in front.
     pub(crate) fn after(self, elem: PathElem) -> Result<Path, OutOfMemory>
-        ensures { IfOk result (λ made. plain_path made ≡ front (plain_elem elem) (plain_path self)) }
+        ensures { IfOk result
+            (λ made. plain_path made ≡ front (plain_elem elem) (plain_path self)) }
     {
         let Path { elems, end } = self;
         Ok(Path {

@@ -43,7 +43,8 @@ fn put_ty(text: &mut Text, names: &Names, ty: &Ty) -> Result<(), OutOfMemory>
 
 #[cycle(print)]
 fn put_part(text: &mut Text, names: &Names, ty: &Ty) -> Result<(), OutOfMemory>
-    ensures { OnOk result (text.new ≡ text.old ++ enclosed (plain_type ty.now) (type_text names.now (plain_type ty.now))) }
+    ensures { OnOk result (text.new
+        ≡ text.old ++ enclosed (plain_type ty.now) (type_text names.now (plain_type ty.now))) }
 {
     if is_bare_ty(ty) {
         return put_ty(text, names, ty);

@@ -36,7 +36,8 @@ pub(crate) fn size_of_path(path: &Path) -> Size
 #[cycle(size)]
 fn size_behind(elem: &PathElem, rest: Size) -> Size
     ensures nodes { result.nodes ≡ capped (elem_nodes (plain_elem elem.now) + rest.nodes) }
-    ensures nesting { result.nesting ≡ capped (max (elem_nesting (plain_elem elem.now)) rest.nesting + 1) }
+    ensures nesting { result.nesting
+        ≡ capped (max (elem_nesting (plain_elem elem.now)) rest.nesting + 1) }
 {
     match elem {
         PathElem::Call(domain) => {

@@ -64,8 +64,10 @@ impl Sized {
         requires domain { IsSized domain (plain_paths domain.paths) }
         requires after { IsSized self (plain_paths self.paths) }
         requires some { 0 < self.nodes }
-        ensures ok { IfOk result (λ s. IsSized s (called (plain_paths domain.paths) (plain_paths self.paths))) }
-        ensures large { IsErrOf result TypeError.TypeTooLarge → IsTooLarge (called (plain_paths domain.paths) (plain_paths self.paths)) }
+        ensures ok { IfOk result
+            (λ s. IsSized s (called (plain_paths domain.paths) (plain_paths self.paths))) }
+        ensures large { IsErrOf result TypeError.TypeTooLarge →
+            IsTooLarge (called (plain_paths domain.paths) (plain_paths self.paths)) }
     {
         let count = self.paths.len() as u64;
         let nodes = count * (domain.nodes + 1) + self.nodes;
@@ -85,7 +87,8 @@ impl Sized {
     pub(crate) fn after_field(self, alloc: Global, name: Name) -> Result<Sized, TypeError>
         requires { IsSized self (plain_paths self.paths) }
         ensures ok { IfOk result (λ s. IsSized s (picked name (plain_paths self.paths))) }
-        ensures large { IsErrOf result TypeError.TypeTooLarge → IsTooLarge (picked name (plain_paths self.paths)) }
+        ensures large { IsErrOf result TypeError.TypeTooLarge →
+            IsTooLarge (picked name (plain_paths self.paths)) }
     {
         if self.nodes == 0 {
             return Ok(self);
@@ -106,8 +109,10 @@ impl Sized {
     /// These paths and then the path, unless it is among them.
     pub(crate) fn keep(self, alloc: Global, path: &Path) -> Result<Sized, TypeError>
         requires { IsSized self (plain_paths self.paths) }
-        ensures ok { IfOk result (λ s. IsSized s (added (plain_paths self.paths) (plain_path path.now))) }
-        ensures large { IsErrOf result TypeError.TypeTooLarge → IsTooLarge (added (plain_paths self.paths) (plain_path path.now)) }
+        ensures ok { IfOk result
+            (λ s. IsSized s (added (plain_paths self.paths) (plain_path path.now))) }
+        ensures large { IsErrOf result TypeError.TypeTooLarge →
+            IsTooLarge (added (plain_paths self.paths) (plain_path path.now)) }
     {
         if has_path(&self.paths, path) {
             return Ok(self);
@@ -129,8 +134,10 @@ impl Sized {
     /// These paths and then those of the list that aren't among them, each once.
     pub(crate) fn keep_all(self, alloc: Global, list: &Paths) -> Result<Sized, TypeError>
         requires { IsSized self (plain_paths self.paths) }
-        ensures ok { IfOk result (λ s. IsSized s (all_added (plain_paths self.paths) (plain_paths list.now))) }
-        ensures large { IsErrOf result TypeError.TypeTooLarge → IsTooLarge (all_added (plain_paths self.paths) (plain_paths list.now)) }
+        ensures ok { IfOk result
+            (λ s. IsSized s (all_added (plain_paths self.paths) (plain_paths list.now))) }
+        ensures large { IsErrOf result TypeError.TypeTooLarge →
+            IsTooLarge (all_added (plain_paths self.paths) (plain_paths list.now)) }
     {
         let mut form = self;
         for path in list.as_slice() {
@@ -143,8 +150,10 @@ impl Sized {
     pub(crate) fn followed_by(self, next: Sized) -> Result<Sized, TypeError>
         requires first { IsSized self (plain_paths self.paths) }
         requires next { IsSized next (plain_paths next.paths) }
-        ensures ok { IfOk result (λ s. IsSized s (append (plain_paths self.paths) (plain_paths next.paths))) }
-        ensures large { IsErrOf result TypeError.TypeTooLarge → IsTooLarge (append (plain_paths self.paths) (plain_paths next.paths)) }
+        ensures ok { IfOk result
+            (λ s. IsSized s (append (plain_paths self.paths) (plain_paths next.paths))) }
+        ensures large { IsErrOf result TypeError.TypeTooLarge →
+            IsTooLarge (append (plain_paths self.paths) (plain_paths next.paths)) }
     {
         let nodes = self.nodes + next.nodes;
         let nesting = self.nesting.max(next.nesting);
@@ -161,7 +170,8 @@ impl Sized {
 }
 
 fn called_paths(alloc: Global, domain: &Paths, list: Paths) -> Result<Paths, OutOfMemory>
-    ensures { IfOk result (λ made. plain_paths made ≡ called (plain_paths domain.now) (plain_paths list)) }
+    ensures { IfOk result
+        (λ made. plain_paths made ≡ called (plain_paths domain.now) (plain_paths list)) }
 {
     let mut made = Paths::new(alloc);
     for path in list.into_vec() {
@@ -182,7 +192,8 @@ fn picked_paths(alloc: Global, name: Name, list: Paths) -> Result<Paths, OutOfMe
 }
 
 fn pushed_path(alloc: Global, list: Paths, path: &Path) -> Result<Paths, OutOfMemory>
-    ensures { IfOk result (λ made. plain_paths made ≡ append (plain_paths list) (and_path (plain_path path.now) no_paths)) }
+    ensures { IfOk result
+        (λ made. plain_paths made ≡ append (plain_paths list) (and_path (plain_path path.now) no_paths)) }
 {
     let mut made = list;
     made.push(copy_path(alloc, path)?)?;
@@ -190,7 +201,8 @@ fn pushed_path(alloc: Global, list: Paths, path: &Path) -> Result<Paths, OutOfMe
 }
 
 fn appended_paths(list: Paths, next: Paths) -> Result<Paths, OutOfMemory>
-    ensures { IfOk result (λ made. plain_paths made ≡ append (plain_paths list) (plain_paths next)) }
+    ensures { IfOk result
+        (λ made. plain_paths made ≡ append (plain_paths list) (plain_paths next)) }
 {
     let mut made = list;
     for path in next.into_vec() {

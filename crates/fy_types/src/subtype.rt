@@ -2,16 +2,15 @@
 
 ghost use Rattle.std.specs.Prelude.{◌↔◌, IsTrue};
 ghost use Rattle.fy_types.specs.Subtyping.{IsSubtype};
-ghost use Rattle.fy_types.specs.Paths.{type_of_paths};
 ghost use Rattle.fy_types.specs.PathOrder.{IsEndBelow, IsPathBelow, ArePathsBelow, HasBelow};
-ghost use Rattle.fy_types.specs.Reading.{IsElemBelow, plain_elem, plain_path, plain_paths};
+ghost use Rattle.fy_types.specs.Reading.{IsElemBelow, plain_elem, plain_path, plain_paths, type_of_form};
 
 use crate::paths::{Path, PathElem, Paths};
 use crate::types::Atom;
 
 /// Whether the type that the first path form stands for is a subtype of the second's.
 pub fn is_subtype(a: &Paths, b: &Paths) -> bool
-    ensures { IsTrue result ↔ IsSubtype (type_of_paths (plain_paths a.now)) (type_of_paths (plain_paths b.now)) }
+    ensures { IsTrue result ↔ IsSubtype (type_of_form a.now) (type_of_form b.now) }
 {
     are_paths_below(a, b)
 }
