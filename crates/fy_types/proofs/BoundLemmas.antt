@@ -1,12 +1,12 @@
 -- `meet` is a greatest lower bound, and `join` a least upper bound.
-use Rattle.std.proofs.Common.{ℕ, ◌≡◌, Bool, true, false, ◌&&◌, ◌||◌, eqb, if◌then◌else◌, refl, ap, sym, ◌∙◌, subst, eqb-true, eq-eqb}
+use Rattle.std.proofs.Common.{◌≡◌, Bool, true, false, ◌&&◌, ◌||◌, eqb, if◌then◌else◌, refl, subst, eqb-true, eq-eqb}
 use Rattle.fy_types.specs.declared.types.Atom.{Atom}
 use Rattle.fy_types.specs.declared.types.Atom.TheVariants.{Comm, Compl}
 use Rattle.fy_types.specs.Types.{PlainType}
 use Rattle.fy_types.specs.Subtyping.{IsSubtype}
-use Rattle.fy_types.specs.Paths.{PlainPath, PlainPaths, end, call, pick, no_paths, and_path, append, called, picked, paths, type_of_paths}
+use Rattle.fy_types.specs.Paths.{PlainPath, PlainPaths, end, call, pick, no_paths, and_path, append, picked, paths, type_of_paths}
 use Rattle.fy_types.specs.PathOrder.{IsEndBelow, same_end, compl_below, IsPathBelow, ends, calls, picks, ArePathsBelow, none_left, and_above, HasBelow, here, there}
-use Rattle.fy_types.specs.Once.{place, once}
+use Rattle.fy_types.specs.Once.{place}
 use Rattle.fy_types.specs.Bounds.{meet_of, is_end_low, common_end, common, commons_with, commons, join_of, IsGreatestLowerBound, IsLeastUpperBound}
 use Rattle.fy_types.proofs.Order.{ArePathsBelow-refl, ArePathsBelow-trans}
 use Rattle.fy_types.proofs.Laws.{append-left, append-right, append-greatest, HasBelow-left, HasBelow-right, called-below, picked-below, HasBelow-called, HasBelow-picked}

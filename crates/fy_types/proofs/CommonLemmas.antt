@@ -1,11 +1,11 @@
 -- Common paths, element by element.
-use Rattle.std.proofs.Common.{ℕ, ◌+◌, ◌<◌, ◌≤◌, ◌≡◌, List, [], ◌∷◌, ◌++◌, length, map, drop, length-drop, suc, max, Bool, true, false, ◌&&◌, eqb, IsTrue, ◌↔◌, if◌then◌else◌, ◌⊎◌, inl, inr, refl, ap, sym, ◌∙◌, subst, arith}
+use Rattle.std.proofs.Common.{ℕ, ◌+◌, ◌<◌, ◌≤◌, ◌≡◌, List, [], ◌∷◌, ◌++◌, length, map, drop, length-drop, suc, max, Bool, true, false, ◌&&◌, eqb, IsTrue, ◌↔◌, if◌then◌else◌, refl, ap, sym, ◌∙◌, subst, arith}
 use Rattle.std.proofs.lemmas.List.{length-map}
 use Rattle.fy_types.specs.declared.types.Atom.{Atom}
 use Rattle.fy_types.specs.declared.paths.PathElem.{PathElem}
-use Rattle.fy_types.specs.Paths.{PlainPath, PlainPaths, end, call, pick, no_paths, and_path, append, called, picked}
+use Rattle.fy_types.specs.Paths.{PlainPath, PlainPaths, end, call, pick, no_paths, and_path, called, picked}
 use Rattle.fy_types.specs.Reading.{PlainElem, a_call, a_field, front, fronted, all_front, plain_elem}
-use Rattle.fy_types.specs.Limits.{nodes, all_nodes, nesting, all_nesting, IsTooLarge}
+use Rattle.fy_types.specs.Limits.{nodes, all_nodes, nesting, IsTooLarge}
 use Rattle.fy_types.specs.PathOrder.{IsEndBelow}
 use Rattle.fy_types.specs.Bounds.{meet_of, is_end_low, common_end, common}
 use Rattle.fy_types.specs.Keeping.{is_some, all_fronted, elem_nodes, elem_nesting, sum_nodes, are_alike}

@@ -4,13 +4,11 @@ use Rattle.std.proofs.lemmas.Bool.{and_from}
 use Rattle.fy_types.specs.declared.types.Atom.{Atom}
 use Rattle.fy_types.specs.declared.types.Atom.TheVariants.{Int, Char, Comm, Compl, IntAcc, BoolAcc, CharAcc}
 use Rattle.fy_types.specs.declared.types.Atom.TheVariants as atoms
-use Rattle.fy_types.specs.Paths.{PlainPath, PlainPaths, end, call, pick, no_paths, and_path, append}
+use Rattle.fy_types.specs.Paths.{PlainPath, PlainPaths, end, call, pick, no_paths, and_path}
 use Rattle.fy_types.specs.Reading.{PlainElem, a_call, a_field, front, fronted, paths_from}
 use Rattle.fy_types.specs.PathOrder.{IsPathBelow, ArePathsBelow, HasBelow, here, there}
 use Rattle.fy_types.specs.Once.{place, is_same, are_same, contains, without, once}
-use Rattle.fy_types.specs.Keeping.{added, all_added}
 use Rattle.fy_types.proofs.Order.{paths-widened, ArePathsBelow-refl}
-use Rattle.fy_types.proofs.Laws.{append-none, append_assoc}
 
 pub both_true : (a b : Bool) → a && b ≡ true → (a ≡ true) × (b ≡ true)
 both_true true b e = (refl, e)

@@ -1,5 +1,5 @@
 -- One more member in the text of a meet.
-use Rattle.std.proofs.Common.{ℕ, suc, zero, ◌+◌, ◌<◌, ◌≡◌, List, [], ◌∷◌, ◌++◌, length, map, take, get_or, codes, Bool, true, false, eqb, eqb-true, if◌then◌else◌, refl, ap, sym, ◌∙◌, append_assoc, arith}
+use Rattle.std.proofs.Common.{ℕ, suc, ◌+◌, ◌<◌, ◌≡◌, List, [], ◌∷◌, ◌++◌, length, map, take, get_or, codes, Bool, true, false, eqb, eqb-true, if◌then◌else◌, refl, ap, sym, ◌∙◌, append_assoc, arith}
 use Rattle.std.proofs.lemmas.List.{map-append, length-map, length-take, take_more, append-nil}
 use Rattle.fy_base.specs.Outside.{Bytes}
 use Rattle.fy_types.specs.declared.types.Ty.{Ty}

@@ -1,5 +1,5 @@
 -- Lists that are made path by path, each path kept once; paths that are made element by element; and sizes that stop at 64 bits.
-use Rattle.std.specs.Prelude.{ℕ, ◌+◌, ◌-◌, ◌^◌, min, max, Bool, true, false, ◌==◌, if◌then◌else◌, List, [], ◌∷◌}
+use Rattle.std.specs.Prelude.{ℕ, ◌+◌, ◌-◌, ◌^◌, min, Bool, true, false, ◌==◌, if◌then◌else◌, List, [], ◌∷◌}
 use Rattle.fy_types.specs.Paths.{PlainPath, PlainPaths, no_paths, and_path, append}
 use Rattle.fy_types.specs.Reading.{PlainElem, a_call, a_field, all_front}
 use Rattle.fy_types.specs.Limits.{all_nodes, all_nesting}

@@ -1,7 +1,6 @@
 -- Subtyping: the least relation with seven laws. The laws on arrows, meets and the greatest type are those of Coppo, Dezani and
 -- Venneri, and of Barendregt, Coppo and Dezani (1983); those on fields and on `compl` are Reynolds's (1988, 1996).
 use Rattle.std.specs.Prelude.{ℕ}
-use Rattle.fy_types.specs.declared.types.Atom.{Atom}
 use Rattle.fy_types.specs.declared.types.Atom.TheVariants.{Comm, Compl}
 use Rattle.fy_types.specs.Types.{PlainType, PlainTypes, ns, atom, arrow, field, meet, no_types, and_type}
 

@@ -1,4 +1,4 @@
-use Rattle.std.proofs.Common.{◌≡◌, ◌+◌, ◌++◌, [], ◌∷◌, map, take, sym, ap, ◌∙◌}
+use Rattle.std.proofs.Common.{◌++◌, [], ◌∷◌, map, take, sym, ap, ◌∙◌}
 use Rattle.std.proofs.lemmas.List.{map-append, take_more, take_all}
 use Rattle.fy_types.specs.Paths.{and_path, no_paths, append, paths, all_paths}
 use Rattle.fy_types.specs.Reading.{plain_type, types_in, types_from, plain_path, paths_from}

@@ -1,12 +1,12 @@
-use Rattle.std.proofs.Common.{◌≡◌, map, sym, ap, ◌∙◌, subst, arith, eqb-true, eq-eqb}
+use Rattle.std.proofs.Common.{◌≡◌, sym, ap, ◌∙◌, subst, arith}
 use Rattle.fy_types.specs.declared.types.Ty.{size-Ty}
 use Rattle.fy_types.specs.Paths.{no_paths, pick, append, paths, all_paths}
-use Rattle.fy_types.specs.Reading.{plain_type, types_from}
+use Rattle.fy_types.specs.Reading.{plain_type}
 use Rattle.fy_types.specs.Rests.{listed, largest, Adds}
 use Rattle.fy_types.proofs.TypeForms.{reads_ns, reads_atom, reads_arrow, reads_field, reads_meet}
 use Rattle.fy_types.proofs.TypeSizes.{field-size, meet-size, item-size}
 use Rattle.fy_types.proofs.Steps.{some-none}
-use Rattle.fy_types.proofs.Making.{first_paths, first_paths-more, first_paths-all}
+use Rattle.fy_types.proofs.Making.{first_paths-more, first_paths-all}
 use Rattle.fy_types.proofs.RestLemmas.{Adds-nothing, Adds-then, Adds-field, no_pick-after_end, no_pick-called, pick-split, listed-push, largest-push}
 use Rattle.fy_types.proofs.below.+add_rests_after_field.Goals as goal
 

@@ -1,4 +1,4 @@
-use Rattle.std.proofs.Common.{Bool, ◌↔◌, IsTrue, ◌≡◌, ◌+◌, ◌++◌, [], ◌∷◌, map, take, drop, sym, ap, ◌∙◌, subst, arith, rules, false, true, refl}
+use Rattle.std.proofs.Common.{Bool, ◌↔◌, IsTrue, ◌≡◌, ◌+◌, ◌++◌, [], ◌∷◌, map, drop, sym, ap, ◌∙◌, subst, arith, rules, refl}
 use Rattle.std.proofs.lemmas.Result.{IfOk-weaker}
 use Rattle.fy_types.specs.declared.types.Ty.{size-Ty}
 use Rattle.fy_types.specs.Paths.{PlainPaths, no_paths, call, pick, append, called, picked, paths, all_paths}
@@ -9,7 +9,7 @@ use Rattle.fy_types.proofs.Laws.{append-none}
 use Rattle.fy_types.proofs.Steps.{drop_item, drop_end, not_so, some-none}
 use Rattle.fy_types.proofs.TypeForms.{reads_ns, reads_atom, reads_arrow, reads_field, reads_meet}
 use Rattle.fy_types.proofs.TypeSizes.{arrow-size, meet-size, item-size}
-use Rattle.fy_types.proofs.Making.{first_paths, first_paths-more, first_paths-all}
+use Rattle.fy_types.proofs.Making.{first_paths-more, first_paths-all}
 use Rattle.fy_types.proofs.RestLemmas.{Adds-nothing, Adds-then, Adds-arrow, none-after_end, no_call-picked, call-split, called-iff, picked-iff, end-iff, append-first, append-iff, listed-push, listed-item, largest-push, largest-item}
 use Rattle.fy_types.proofs.below.+below.Goals as goal
 

@@ -1,7 +1,5 @@
-use Rattle.std.proofs.Common.{◌++◌, [], ◌∷◌, ◌+◌, take, sym, ap, ◌∙◌, subst, arith}
-use Rattle.std.proofs.lemmas.List.{take_more}
-use Rattle.fy_types.specs.Paths.{no_paths, pick, paths}
-use Rattle.fy_types.specs.Reading.{plain_type}
+use Rattle.std.proofs.Common.{sym, subst, arith}
+use Rattle.fy_types.specs.Paths.{no_paths, pick}
 use Rattle.fy_types.specs.Rests.{listed, Adds}
 use Rattle.fy_types.proofs.RestLemmas.{Adds-then, listed-item, largest-item}
 use Rattle.fy_types.proofs.below.rests_after_field.Goals as goal

@@ -1,4 +1,4 @@
-use Rattle.std.proofs.Common.{length, ap, sym, ◌∙◌}
+use Rattle.std.proofs.Common.{sym, ◌∙◌}
 use Rattle.std.proofs.lemmas.List.{length-map}
 use Rattle.fy_types.specs.Reading.{plain_type}
 use Rattle.fy_types.proofs.ReadLemmas.{types_from-length}

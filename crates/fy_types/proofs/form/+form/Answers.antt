@@ -2,13 +2,13 @@ use Rattle.std.proofs.Common.{List, arith, ◌≡◌, ◌+◌, ◌<◌, ◌∙�
 use Rattle.std.proofs.lemmas.Result.{err_from_is_err_and}
 use Rattle.fy_types.specs.declared.types.Ty.{Ty}
 use Rattle.fy_types.specs.declared.types.TyList.{TyList}
-use Rattle.fy_types.specs.Paths.{paths, all_paths, called, picked}
+use Rattle.fy_types.specs.Paths.{paths, all_paths, called}
 use Rattle.fy_types.specs.Reading.{plain_paths, plain_type, plain_types, types_from}
 use Rattle.fy_types.specs.Limits.{all_nodes, IsTooLarge}
 use Rattle.fy_types.specs.Sized.{IsSized}
 use Rattle.fy_types.proofs.Sizes.{no_nodes, large-domain, large-rest, large-part}
 use Rattle.fy_types.proofs.TypeForms.{reads_arrow, reads_field}
-use Rattle.fy_types.proofs.Making.{first_paths-more, first_paths-all, large-first, large-item}
+use Rattle.fy_types.proofs.Making.{first_paths-more, large-first, large-item}
 use Rattle.fy_types.proofs.form.+form.Goals as goal
 
 pub form_of-returns-in_err-after-in-Arrow-clause-large : goal.form_of-returns-in_err-after-in-Arrow-clause-large

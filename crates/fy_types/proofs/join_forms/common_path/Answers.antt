@@ -1,10 +1,10 @@
-use Rattle.std.proofs.Common.{◌≡◌, ◌+◌, ◌++◌, ◌<◌, [], ◌∷◌, true, length, map, drop, ap, sym, ◌∙◌, subst, arith, inl, Result, Err, IsErrOf}
+use Rattle.std.proofs.Common.{◌≡◌, ◌+◌, ◌++◌, [], ◌∷◌, map, drop, ap, sym, ◌∙◌, arith, inl, Err, IsErrOf}
 use Rattle.std.proofs.lemmas.List.{map-append}
 use Rattle.std.proofs.lemmas.Result.{err_from_is_err_and}
 use Rattle.fy_types.specs.Paths.{end, and_path, no_paths}
 use Rattle.fy_types.specs.Reading.{plain_elem, plain_path, elems_in, fronted}
-use Rattle.fy_types.specs.Bounds.{common, common_end}
-use Rattle.fy_types.specs.Keeping.{is_some, all_fronted, sum_nodes}
+use Rattle.fy_types.specs.Bounds.{common}
+use Rattle.fy_types.specs.Keeping.{all_fronted, sum_nodes}
 use Rattle.fy_types.specs.Merging.{merged}
 use Rattle.fy_types.proofs.Steps.{drop_item, drop_end}
 use Rattle.fy_types.proofs.ReadLemmas.{plain_path-made, plain_elems-at}

@@ -1,6 +1,5 @@
-use Rattle.std.proofs.Common.{ap, sym, ◌∙◌, subst}
+use Rattle.std.proofs.Common.{ap, ◌∙◌, subst}
 use Rattle.std.proofs.lemmas.Result.{err_from_is_err_and, IfOk-weaker}
-use Rattle.fy_types.specs.Paths.{no_paths}
 use Rattle.fy_types.specs.Reading.{plain_paths}
 use Rattle.fy_types.specs.Limits.{IsTooLarge}
 use Rattle.fy_types.specs.Sized.{IsSized}

@@ -1,5 +1,5 @@
 use denote.Enum.Bare.{same_true, true_same}
-use Rattle.std.proofs.Common.{rules, ◌≡◌, length, map, drop, ap, sym, refl, ◌∙◌, arith}
+use Rattle.std.proofs.Common.{rules, ◌≡◌, ap, sym, ◌∙◌, arith}
 use Rattle.std.proofs.lemmas.List.{length-map}
 use Rattle.fy_types.specs.contracts.types.Atom.{the_type}
 use Rattle.fy_types.specs.Paths.{end}

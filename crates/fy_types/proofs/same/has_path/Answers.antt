@@ -1,6 +1,5 @@
-use Rattle.std.proofs.Common.{◌+◌, map, drop, ap, sym, ◌∙◌}
+use Rattle.std.proofs.Common.{◌+◌, map, drop, sym, ◌∙◌}
 use Rattle.fy_types.specs.Reading.{plain_path, paths_from}
-use Rattle.fy_types.specs.Once.{contains}
 use Rattle.fy_types.proofs.Steps.{drop_item}
 use Rattle.fy_types.proofs.OnceLemmas.{contains-first, contains-later}
 use Rattle.fy_types.proofs.same.has_path.Goals as goal

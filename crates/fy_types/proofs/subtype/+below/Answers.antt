@@ -1,6 +1,5 @@
-use Rattle.std.proofs.Common.{◌+◌, ◌≡◌, length, map, drop, sym, ap, refl, ◌∙◌, arith, eqb-true, eq-eqb}
+use Rattle.std.proofs.Common.{◌+◌, map, drop, sym, refl, ◌∙◌, arith, eqb-true, eq-eqb}
 use Rattle.std.proofs.lemmas.List.{length-map}
-use Rattle.fy_types.specs.declared.paths.Path.{Path, out-Path}
 use Rattle.fy_types.specs.Paths.{end}
 use Rattle.fy_types.specs.PathOrder.{IsPathBelow, ends, same_end, none_left}
 use Rattle.fy_types.specs.PathOrder as order

@@ -1,6 +1,6 @@
-use Rattle.std.proofs.Common.{◌≡◌, ◌<◌, ◌+◌, ◌*◌, arith, length, inl, inr, ◌∙◌, sym, ap, ⊎_elim}
+use Rattle.std.proofs.Common.{◌≡◌, arith, inl, inr, ◌∙◌, sym, ⊎_elim}
 use Rattle.fy_types.specs.Reading.{plain_paths}
-use Rattle.fy_types.specs.Limits.{all_nodes, all_nesting}
+use Rattle.fy_types.specs.Limits.{all_nodes}
 use Rattle.fy_types.proofs.Sizes.{count, count-le, some_nodes, called-nodes, called-nesting}
 use Rattle.fy_types.proofs.Making.{count-in, product-le}
 use Rattle.fy_types.proofs.sized.Sized.after_call.Goals as goal

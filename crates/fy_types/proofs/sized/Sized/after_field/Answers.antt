@@ -1,7 +1,7 @@
-use Rattle.std.proofs.Common.{◌≡◌, ◌<◌, arith, length, inl, inr, ◌∙◌, sym, ap, ⊎_elim, subst}
+use Rattle.std.proofs.Common.{◌≡◌, ◌<◌, arith, inl, inr, ◌∙◌, sym, ap, ⊎_elim, subst}
 use Rattle.fy_types.specs.Reading.{plain_paths}
 use Rattle.fy_types.specs.Paths.{picked}
-use Rattle.fy_types.specs.Limits.{all_nodes, all_nesting}
+use Rattle.fy_types.specs.Limits.{all_nodes}
 use Rattle.fy_types.specs.Sized.{IsSized}
 use Rattle.fy_types.proofs.Sizes.{count, no_nodes, some_nodes, picked-nodes, picked-nesting}
 use Rattle.fy_types.proofs.Making.{count-in}

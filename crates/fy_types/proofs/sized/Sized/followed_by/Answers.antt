@@ -1,6 +1,5 @@
-use Rattle.std.proofs.Common.{arith, inl, ◌∙◌, ap}
+use Rattle.std.proofs.Common.{arith, inl}
 use Rattle.fy_types.specs.Reading.{plain_paths}
-use Rattle.fy_types.specs.Limits.{all_nodes, all_nesting}
 use Rattle.fy_types.proofs.Sizes.{append-nodes, append-nesting}
 use Rattle.fy_types.proofs.sized.Sized.followed_by.Goals as goal
 

@@ -1,10 +1,8 @@
-use Rattle.std.proofs.Common.{◌≡◌, Bool, false, arith, inl, inr, ◌∙◌, sym, ap, subst, ⊎_elim, refl, ◌+◌, max, if◌then◌else◌}
+use Rattle.std.proofs.Common.{arith, inl, inr, ◌∙◌, sym, subst, ⊎_elim}
 use Rattle.fy_types.specs.Paths.{and_path, no_paths, append}
 use Rattle.fy_types.specs.Reading.{plain_path, plain_paths}
-use Rattle.fy_types.specs.Limits.{nodes, nesting, all_nodes, all_nesting, IsTooLarge}
-use Rattle.fy_types.specs.Once.{contains}
+use Rattle.fy_types.specs.Limits.{IsTooLarge}
 use Rattle.fy_types.specs.Sized.{IsSized}
-use Rattle.fy_types.specs.Keeping.{added}
 use Rattle.fy_types.proofs.Sizes.{append-nodes, append-nesting}
 use Rattle.fy_types.proofs.KeepLemmas.{added-new}
 use Rattle.fy_types.proofs.sized.Sized.keep.Goals as goal
