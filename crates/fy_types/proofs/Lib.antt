@@ -1,0 +1,16 @@
+pub mod ReadLemmas
+pub mod Order
+pub mod Laws
+pub mod Central
+pub mod Steps
+pub mod Sizes
+pub mod Making
+pub mod TypeForms
+pub mod TypeSizes
+pub mod RestLemmas
+pub mod OnceLemmas
+pub mod BoundLemmas
+pub mod KeepLemmas
+pub mod CommonLemmas
+pub mod NameLemmas
+pub mod PrintLemmas

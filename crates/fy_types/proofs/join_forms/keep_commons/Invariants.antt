@@ -1,0 +1,11 @@
+use Rattle.std.proofs.Common.{map, take}
+use Rattle.fy_types.specs.Reading.{plain_path, plain_paths, paths_from}
+use Rattle.fy_types.specs.Sized.{IsSized}
+use Rattle.fy_types.specs.Bounds.{commons_with}
+use Rattle.fy_types.specs.Keeping.{all_added}
+use Rattle.fy_types.proofs.join_forms.keep_commons.Given as goal
+
+abbrev pub invariant-loop-other : goal.invariant-loop-other
+invariant-loop-other l =
+    IsSized l.form
+    (all_added (plain_paths l.fn.kept.paths) (commons_with (plain_path l.path) (paths_from (map plain_path (take l.other-index l.other-items)))))

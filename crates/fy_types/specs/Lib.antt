@@ -1,0 +1,15 @@
+pub mod Types
+pub mod Subtyping
+pub mod Paths
+pub mod PathOrder
+pub mod Reading
+pub mod Limits
+pub mod Sized
+pub mod Rests
+pub mod Once
+pub mod Bounds
+pub mod Keeping
+pub mod Merging
+pub mod Names
+pub mod Words
+pub mod Print

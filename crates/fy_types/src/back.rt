@@ -1,0 +1,61 @@
+//! The type of a path form.
+
+ghost use Rattle.std.specs.Prelude.{◌≡◌, IfOk, map};
+ghost use Rattle.fy_types.specs.Paths.{no_paths, and_path, paths, all_paths};
+ghost use Rattle.fy_types.specs.Reading.{plain_type, plain_types, plain_elem, plain_path, plain_paths, paths_from, all_front};
+
+use crate::paths::{Path, PathElem, Paths};
+use crate::types::{Ty, TyList};
+use fy_base::OutOfMemory;
+use std::alloc::Global;
+
+/// A type with these paths, in this order.
+#[cycle(back)]
+pub fn ty_of(alloc: Global, form: &Paths) -> Result<Ty, OutOfMemory>
+    ensures { IfOk result (λ ty. paths (plain_type ty) ≡ plain_paths form.now) }
+{
+    let list = form.as_slice();
+    match list {
+        [] => Ok(Ty::Ns),
+        [only] => ty_of_path(alloc, only),
+        _ => Ok(Ty::Meet(types_of(alloc, list)?)),
+    }
+}
+
+#[cycle(back)]
+fn types_of(alloc: Global, list: &[Path]) -> Result<TyList, OutOfMemory>
+    ensures { IfOk result
+        (λ all. all_paths (plain_types all) ≡ paths_from (map plain_path list.now)) }
+{
+    let mut all = TyList::new(alloc);
+    for path in list {
+        all.push(ty_of_path(alloc, path)?)?;
+    }
+    Ok(all)
+}
+
+#[cycle(back)]
+fn ty_of_path(alloc: Global, path: &Path) -> Result<Ty, OutOfMemory>
+    ensures { IfOk result (λ ty. paths (plain_type ty) ≡ and_path (plain_path path.now) no_paths) }
+{
+    let elems = path.elems.as_slice();
+    let mut ty = Ty::Atom(path.end);
+    for i in (0..elems.len()).rev() {
+        ty = ty_behind(alloc, &elems[i], ty)?;
+    }
+    Ok(ty)
+}
+
+#[cycle(back)]
+fn ty_behind(alloc: Global, elem: &PathElem, rest: Ty) -> Result<Ty, OutOfMemory>
+    ensures { IfOk result
+        (λ ty. paths (plain_type ty) ≡ all_front (plain_elem elem.now) (paths (plain_type rest))) }
+{
+    match elem {
+        PathElem::Call(domain) => Ok(Ty::Arrow(
+            Box::new(alloc, ty_of(alloc, domain)?)?,
+            Box::new(alloc, rest)?,
+        )),
+        PathElem::Field(name) => Ok(Ty::Field(*name, Box::new(alloc, rest)?)),
+    }
+}
