@@ -1,0 +1,12 @@
+//! The tokens of a text.
+#![tactic(auto)]
+
+mod error;
+mod lexer;
+mod literal;
+mod reader;
+mod token;
+
+pub use error::LexError;
+pub use lexer::lex;
+pub use token::{Keyword, Symbol, Token, TokenKind};
