@@ -1,17 +1,17 @@
 -- The first byte of a piece says of what class it is.
-use Rattle.std.proofs.Common.{◌≡◌, ℕ, ◌+◌, ◌≤◌, Bool, true, false, not, ◌&&◌, ◌||◌, eqb, nat_le, if◌then◌else◌, List, [], ◌∷◌, ◌++◌, length, map, refl, sym, ap, subst, ◌∙◌, arith, Option, Some, None, is_some, ◌⊎◌, inl, inr, IsTrue}
+use Rattle.std.proofs.Common.{◌≡◌, ℕ, ◌≤◌, Bool, true, false, not, ◌||◌, eqb, nat_le, if◌then◌else◌, List, [], ◌∷◌, length, map, refl, sym, ap, ◌∙◌, arith, Some, None, is_some, ◌⊎◌, inl, inr}
 use Rattle.std.specs.List.{list_all, list_any}
 use Rattle.std.specs.Str.{bytes_eq}
 use Rattle.std.proofs.lemmas.Bool.Decides.{nat_tests}
 use Rattle.std.proofs.lemmas.Bool.{eqb-true, leb-true}
 use Rattle.fy_base.specs.Outside.{Bytes}
-use Rattle.fy_types.specs.Words.{is_letter, is_digit, is_name_byte, is_name_like, is_word, is_identifier, words}
+use Rattle.fy_types.specs.Words.{is_letter, is_digit, is_name_byte, is_name_like, is_word, words}
 use Rattle.fy_lexer.specs.declared.token.TokenKind.{TokenKind}
 use Rattle.fy_lexer.specs.declared.token.TokenKind.TheVariants.{Ident, Number, Letter, Str, Word, Sym, End}
 use Rattle.fy_lexer.specs.declared.token.Keyword.{Keyword}
 use Rattle.fy_lexer.specs.declared.token.Symbol.{Symbol}
-use Rattle.fy_lexer.specs.Spellings.{keywords, symbols, keyword_of, symbol_of, is_numeral, Spells}
-use Rattle.fy_lexer.specs.Pieces.{is_blank, IsGap, IsComment, IsToken, IsPiece}
+use Rattle.fy_lexer.specs.Spellings.{keywords, symbols, keyword_of, symbol_of, Spells}
+use Rattle.fy_lexer.specs.Pieces.{is_blank, IsGap, IsPiece}
 use Rattle.fy_lexer.specs.Reading.{begins_other}
 use Rattle.fy_lexer.proofs.RunLemmas.{and-left, and-right, and-both, lookup-all, lookup-any, lookup-no}
 

@@ -1,9 +1,9 @@
 -- Elements: none is the beginning of another, and where a text can't become one.
-use Rattle.std.proofs.Common.{◌≡◌, ℕ, ◌+◌, ◌*◌, ◌≤◌, Bool, true, false, not, ◌&&◌, List, [], ◌∷◌, ◌++◌, length, refl, sym, ap, subst, ◌∙◌, arith, Some, None, append_assoc, IsTrue, length-append, append-nil}
+use Rattle.std.proofs.Common.{◌≡◌, ℕ, ◌+◌, ◌*◌, ◌≤◌, true, false, [], ◌∷◌, ◌++◌, length, refl, sym, ap, ◌∙◌, arith, Some, None, append_assoc, append-nil}
 use Rattle.std.proofs.lemmas.Bool.Decides.{nat_tests}
 use Rattle.fy_base.specs.Outside.{Bytes}
 use Rattle.fy_lexer.specs.Spellings.{Element, plain, escape, code, Elements, is_plain, escaped, hex_value}
-use Rattle.fy_lexer.specs.Reading.{BeginsElement, IsCut, IsMisfitBehind}
+use Rattle.fy_lexer.specs.Reading.{IsCut, IsMisfitBehind}
 
 -- a plain byte is neither the quote nor \
 pub plain-quote : (quote b : ℕ) → is_plain quote b ≡ true → b ≡ quote → ⊥

@@ -6,3 +6,5 @@ pub mod LiteralLemmas
 pub mod WordLemmas
 pub mod NamesLemmas
 pub mod StepLemmas
+pub mod SameLemmas
+pub mod UniqueLemmas

@@ -1,5 +1,5 @@
 -- Strings and characters: the longest, and where there is none.
-use Rattle.std.proofs.Common.{◌≡◌, ℕ, ◌+◌, ◌≤◌, Bool, true, false, List, [], ◌∷◌, ◌++◌, length, refl, sym, ap, subst, ◌∙◌, arith, Some, None, append_assoc, append-nil, length-append, ◌⊎◌, inl, inr, slice_get}
+use Rattle.std.proofs.Common.{◌≡◌, ℕ, ◌≤◌, List, [], ◌∷◌, ◌++◌, length, refl, sym, ap, subst, ◌∙◌, arith, Some, append_assoc, append-nil, length-append, ◌⊎◌, inl, inr, slice_get}
 use Rattle.fy_base.specs.Outside.{Bytes}
 use Rattle.fy_base.specs.declared.data.Place.{Place}
 use Rattle.fy_lexer.specs.declared.error.LexError.{LexError}
@@ -7,10 +7,10 @@ use Rattle.fy_lexer.specs.declared.error.LexError.TheVariants.{BadByte, Unclosed
 use Rattle.fy_lexer.specs.declared.token.TokenKind.{TokenKind}
 use Rattle.fy_lexer.specs.declared.token.TokenKind.TheVariants.{Ident, Number, Letter, Str, Word, Sym, End}
 use Rattle.fy_lexer.specs.Spellings.{Element, Elements, Spells}
-use Rattle.fy_lexer.specs.Pieces.{IsGap, IsToken, IsPiece, IsLongest, BeginsPiece, HasNoPiece, IsBadBehind, IsUnclosed}
+use Rattle.fy_lexer.specs.Pieces.{IsGap, IsLongest, BeginsPiece, HasNoPiece, IsBadAt, IsUnclosed}
 use Rattle.fy_lexer.specs.Reading.{BeginsElement, IsCut, IsMisfitBehind, ElementFault, ElementsFault, PieceFault, TakesElement, TakesElements, TakesLongest}
-use Rattle.fy_lexer.specs.Spot.{Spot, Moved, past, past_byte}
-use Rattle.fy_lexer.proofs.ClassLemmas.{class_of, kind_class, first-token, first-gap, filled-token, filled-gap, filled-piece, class-quote, class-double}
+use Rattle.fy_lexer.specs.Spot.{Spot, past}
+use Rattle.fy_lexer.proofs.ClassLemmas.{class_of, kind_class, first-token, first-gap, filled-token, filled-gap, class-quote, class-double}
 use Rattle.fy_lexer.proofs.ElementLemmas.{Peeled, peel, element-head, Elements-push}
 use Rattle.fy_lexer.proofs.ReadingLemmas.{Took, Moved-front, Moved-then, Moved-one, past-then}
 
@@ -28,7 +28,7 @@ no-gap b y (x ∷ piece) rest f g h e = by (first-gap x piece h)
     by (inr k) = let i : x ≡ b = cc in g (sym (ap class_of i) ∙ k)
 
 -- the text can't become a piece behind these first bytes
-pub bad-behind : (text front part : Bytes) (bad : ℕ) (rest : Bytes) → text ≡ front ++ (part ++ bad ∷ rest) → ((x : Bytes) → HasNoPiece (front ++ (part ++ bad ∷ x))) → BeginsPiece (front ++ part) → IsBadBehind text (front ++ part)
+pub bad-behind : (text front part : Bytes) (bad : ℕ) (rest : Bytes) → text ≡ front ++ (part ++ bad ∷ rest) → ((x : Bytes) → HasNoPiece (front ++ (part ++ bad ∷ x))) → BeginsPiece (front ++ part) → IsBadAt text (front ++ part)
 bad-behind text front part bad rest e none begins =
     record {
       bad = bad;
@@ -49,7 +49,7 @@ pub record IsStuck (quote : ℕ) (y : Bytes) : Type 0 where
   pub no_quote : (rest : Bytes) → y ≡ quote ∷ rest → ⊥
   pub no_element : (piece more : Bytes) (value : ℕ) → Element quote piece value → piece ++ more ≡ y → ⊥
 
-double_no_backslash : ◌≡◌ {A = ℕ} 34 92 → ⊥
+pub double_no_backslash : ◌≡◌ {A = ℕ} 34 92 → ⊥
 double_no_backslash e = omega (arith, e)
 
 quote_no_backslash : ◌≡◌ {A = ℕ} 39 92 → ⊥

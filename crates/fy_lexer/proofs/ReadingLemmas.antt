@@ -1,13 +1,13 @@
 -- Steps of reading, put together.
-use Rattle.std.proofs.Common.{◌≡◌, ℕ, ◌+◌, ◌*◌, Bool, true, false, not, ◌&&◌, List, [], ◌∷◌, ◌++◌, length, refl, sym, ap, subst, ◌∙◌, arith, Option, Some, None, append_assoc, Result, Ok, Err, IfOk, IfErr, slice_get, MatchOption, IsSomeAnd, ◌<◌, ◌≤◌, length-append}
+use Rattle.std.proofs.Common.{◌≡◌, ℕ, ◌+◌, ◌*◌, true, false, [], ◌∷◌, ◌++◌, length, refl, sym, ap, subst, ◌∙◌, arith, Option, Some, None, append_assoc, Result, Err, IfOk, IfErr, slice_get, MatchOption, IsSomeAnd, ◌<◌, ◌≤◌, length-append}
 use Rattle.std.specs.Option.{ok_or}
 use Rattle.fy_base.specs.Outside.{Bytes}
 use Rattle.fy_base.specs.declared.data.Place.{Place}
 use Rattle.fy_lexer.specs.declared.error.LexError.{LexError}
 use Rattle.fy_lexer.specs.declared.error.LexError.TheVariants.{BadByte, Unclosed, NumberTooLarge, TooManyTokens, OutOfMemory}
-use Rattle.fy_lexer.specs.Spellings.{Element, plain, escape, code, Elements, is_plain, escaped, hex_value}
+use Rattle.fy_lexer.specs.Spellings.{plain, escape, code, is_plain, escaped}
 use Rattle.fy_lexer.specs.Spot.{Spot, Moved, past, past_byte}
-use Rattle.fy_lexer.specs.Reading.{BeginsElement, IsCut, IsMisfitBehind, ElementFault, EscapeFault, DigitFault, TakesElement, TakesEscape, TakesDigit, TakesElements, ElementsFault}
+use Rattle.fy_lexer.specs.Reading.{IsCut, IsMisfitBehind, ElementFault, EscapeFault, DigitFault, TakesElement, TakesEscape, TakesDigit, TakesElements, ElementsFault}
 use Rattle.fy_lexer.proofs.ElementLemmas.{cut-nothing, cut-backslash, cut-x, cut-digit, misfit-nothing, misfit-backslash, misfit-x, misfit-digit, Elements-push, element-filled}
 
 -- one byte was taken

@@ -1,12 +1,11 @@
 -- Steps of reading, and that at most one way leads on.
-use Rattle.std.proofs.Common.{◌≡◌, ℕ, ℤ, pos, w64, to_z, of_z, FitsSigned, ◌+◌, ◌≤◌, ◌<◌, Bool, true, false, not, ◌&&◌, eqb, List, [], ◌∷◌, ◌++◌, length, refl, sym, ap, subst, ◌∙◌, arith, Some, None, append_assoc, length-append, ◌⊎◌, inl, inr, slice_get, IsTrue}
+use Rattle.std.proofs.Common.{◌≡◌, ℕ, ℤ, pos, w64, to_z, of_z, FitsSigned, ◌≤◌, ◌<◌, true, false, not, eqb, List, [], ◌∷◌, ◌++◌, length, refl, sym, ap, subst, ◌∙◌, arith, Some, None, length-append, inl, inr, slice_get}
 use Rattle.std.proofs.lemmas.Int.{to_z-of_z, fits_signed_from_abs}
 use Rattle.fy_base.specs.Outside.{Bytes}
-use Rattle.fy_base.specs.declared.data.Place.{Place}
 use Rattle.fy_lexer.specs.declared.token.Token.{Token}
 use Rattle.fy_lexer.specs.declared.token.TokenKind.{TokenKind}
 use Rattle.fy_lexer.specs.declared.token.TokenKind.TheVariants.{End}
-use Rattle.fy_lexer.specs.Tokens.{AreWithin, Reading, SkipsGap, TakesToken, Step, Steps, none, more, AllFit, IsFit, IsWithin, IsFull, FaultAt, names_past}
+use Rattle.fy_lexer.specs.Tokens.{AreWithin, Reading, Step, Steps, none, more, AllFit, IsFit, IsWithin, IsFull, FaultAt, names_past}
 use Rattle.fy_lexer.specs.Reading.{IsSmall, PieceFault, TakesGap, TakesLongest, TakesNamed, reading_of}
 use Rattle.fy_lexer.specs.Spot.{Spot, Moved}
 use Rattle.fy_lexer.specs.declared.error.LexError.{LexError}

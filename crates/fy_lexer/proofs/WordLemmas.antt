@@ -1,20 +1,20 @@
 -- Names, numbers, symbols and comments: the longest, and where there is none.
-use Rattle.std.proofs.Common.{◌≡◌, ℕ, ℤ, pos, ◌+◌, ◌≤◌, ◌<◌, Bool, true, false, not, ◌&&◌, ◌||◌, cond, eqb, if◌then◌else◌, List, [], ◌∷◌, ◌++◌, length, refl, sym, ap, subst, ◌∙◌, arith, Option, Some, None, is_some, append_assoc, append-nil, length-append, ◌⊎◌, inl, inr, slice_get, IsTrue, IsSomeAnd, nat_eq}
+use Rattle.std.proofs.Common.{◌≡◌, ℕ, ℤ, pos, ◌+◌, ◌≤◌, Bool, true, false, not, ◌||◌, cond, eqb, if◌then◌else◌, List, [], ◌∷◌, ◌++◌, length, refl, sym, ap, subst, ◌∙◌, arith, Option, Some, None, is_some, append_assoc, append-nil, inl, inr, slice_get, IsTrue, IsSomeAnd}
 use Rattle.std.specs.List.{list_all, prefix_len}
 use Rattle.std.proofs.lemmas.Bool.Decides.{nat_tests}
 use Rattle.fy_base.specs.Outside.{Bytes}
 use Rattle.fy_types.specs.Names.{number_of, with_name}
-use Rattle.fy_types.specs.Words.{is_letter, is_digit, is_name_byte, is_name_like, is_word, is_identifier}
-use Rattle.fy_lexer.specs.declared.error.LexError.TheVariants.{BadByte, Unclosed, NumberTooLarge}
+use Rattle.fy_types.specs.Words.{is_letter, is_digit, is_name_byte, is_name_like}
+use Rattle.fy_lexer.specs.declared.error.LexError.TheVariants.{BadByte}
 use Rattle.fy_lexer.specs.declared.token.Keyword.{Keyword}
 use Rattle.fy_lexer.specs.declared.token.Symbol.{Symbol}
 use Rattle.fy_lexer.specs.declared.token.TokenKind.{TokenKind}
 use Rattle.fy_lexer.specs.declared.token.TokenKind.TheVariants.{Ident, Number, Letter, Str, Word, Sym, End}
 use Rattle.fy_lexer.specs.Spellings.{Spells, keyword_of, symbol_of, is_numeral, decimal}
-use Rattle.fy_lexer.specs.Pieces.{is_blank, IsGap, IsComment, IsToken, IsPiece, IsLongest, BeginsPiece, HasNoPiece, IsBadBehind, IsUnclosed, IsLargeNumber}
+use Rattle.fy_lexer.specs.Pieces.{is_blank, IsLongest, HasNoPiece, IsUnclosed, IsLargeNumber}
 use Rattle.fy_lexer.specs.Reading.{PieceFault, TakesGap, TakesLongest, TakesNamed, begins_other}
-use Rattle.fy_lexer.specs.Spot.{Spot, Moved, past, past_byte}
-use Rattle.fy_lexer.proofs.ClassLemmas.{class_of, kind_class, is_symbol_byte, first-token, first-gap, filled-gap, filled-piece, class-letter, class-digit, class-brace, class-other, keyword-like, no_keyword-word, like-bytes, symbol-class, symbol-short, symbol-filled}
+use Rattle.fy_lexer.specs.Spot.{Spot, Moved}
+use Rattle.fy_lexer.proofs.ClassLemmas.{class_of, kind_class, class-letter, class-digit, class-brace, class-other, keyword-like, no_keyword-word, like-bytes, symbol-class, symbol-short}
 use Rattle.fy_lexer.proofs.LiteralLemmas.{same-class, no-gap, bad-behind, cut-behind}
 use Rattle.fy_lexer.proofs.ReadingLemmas.{Took, Moved-one, Moved-front, Moved-then}
 use Rattle.fy_lexer.proofs.RunLemmas.{and-left, and-right, and-both, run-longest}

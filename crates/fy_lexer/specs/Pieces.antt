@@ -41,7 +41,7 @@ abbrev pub HasNoPiece : Bytes → Type 0
 HasNoPiece text = (piece rest : Bytes) → text ≡ piece ++ rest → ¬ IsPiece piece
 
 -- no piece begins the text, and the byte behind these first ones is the first at which it can't become one
-pub record IsBadBehind (text part : Bytes) : Type 0 where
+pub record IsBadAt (text part : Bytes) : Type 0 where
   pub bad : ℕ
   pub rest : Bytes
   pub is : text ≡ part ++ bad ∷ rest

@@ -10,7 +10,7 @@ use Rattle.fy_lexer.specs.declared.reader.Class.{Class}
 use Rattle.fy_lexer.specs.declared.reader.Class.TheVariants as class
 use Rattle.fy_lexer.specs.declared.token.Token.{Token}
 use Rattle.fy_lexer.specs.declared.token.TokenKind.{TokenKind}
-use Rattle.fy_lexer.specs.Pieces.{is_blank, IsGap, IsLongest, IsBadBehind, IsUnclosed, IsLargeNumber}
+use Rattle.fy_lexer.specs.Pieces.{is_blank, IsGap, IsLongest, IsBadAt, IsUnclosed, IsLargeNumber}
 use Rattle.fy_lexer.specs.Spellings.{Element, Elements, Spells, hex_value}
 use Rattle.fy_lexer.specs.Spot.{Spot, Moved, past}
 use Rattle.fy_lexer.specs.Tokens.{Reading, names_past}
@@ -118,7 +118,7 @@ pub record TakesLongest (names : List Bytes) (old : Spot) (kind : TokenKind) (ne
 
 -- why there is no token here
 abbrev pub PieceFault : Spot → LexError → Type 0
-PieceFault here (BadByte place) = (part : Bytes) × IsBadBehind here.rest part × (place ≡ past here.place part)
+PieceFault here (BadByte place) = (part : Bytes) × IsBadAt here.rest part × (place ≡ past here.place part)
 PieceFault here (Unclosed place) = IsUnclosed here.rest × (place ≡ here.place)
 PieceFault here (NumberTooLarge place) = IsLargeNumber here.rest × (place ≡ here.place)
 PieceFault here TooManyTokens = ⊥

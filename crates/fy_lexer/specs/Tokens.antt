@@ -1,14 +1,13 @@
 -- The tokens of a text, and its first fault.
-use Rattle.std.specs.Prelude.{◌≡◌, ℕ, ◌+◌, ◌-◌, ◌^◌, ◌<◌, ◌≤◌, Bool, true, not, ◌==◌, IsTrue, pos, ◌≤ℤ◌, List, [], ◌∷◌, ◌++◌, length, ◌⊎◌}
+use Rattle.std.specs.Prelude.{◌≡◌, ℕ, ◌+◌, ◌-◌, ◌^◌, ◌≤◌, true, not, ◌==◌, pos, ◌≤ℤ◌, List, [], ◌∷◌, ◌++◌, length, ◌⊎◌}
 use Rattle.fy_base.specs.Outside.{Bytes}
-use Rattle.fy_base.specs.declared.data.Place.{Place}
 use Rattle.fy_types.specs.Names.{with_name}
 use Rattle.fy_lexer.specs.declared.error.LexError.{LexError}
 use Rattle.fy_lexer.specs.declared.error.LexError.TheVariants.{BadByte, Unclosed, NumberTooLarge, TooManyTokens, OutOfMemory}
 use Rattle.fy_lexer.specs.declared.token.Token.{Token}
 use Rattle.fy_lexer.specs.declared.token.TokenKind.{TokenKind}
 use Rattle.fy_lexer.specs.declared.token.TokenKind.TheVariants.{Ident, Number, Letter, Str, Word, Sym, End}
-use Rattle.fy_lexer.specs.Pieces.{is_blank, IsGap, IsLongest, IsBadBehind, IsUnclosed, IsLargeNumber}
+use Rattle.fy_lexer.specs.Pieces.{is_blank, IsGap, IsLongest, IsBadAt, IsUnclosed, IsLargeNumber}
 use Rattle.fy_lexer.specs.Spellings.{Spells}
 use Rattle.fy_lexer.specs.Spot.{Spot, Moved, past}
 
@@ -101,7 +100,7 @@ pub record IsFull (here : Reading) : Type 0 where
 
 -- the fault at which reading stops here
 abbrev pub FaultAt : Reading → LexError → Type 0
-FaultAt here (BadByte place) = (part : Bytes) × IsBadBehind here.spot.rest part × (place ≡ past here.spot.place part) × ¬ IsFull here
+FaultAt here (BadByte place) = (part : Bytes) × IsBadAt here.spot.rest part × (place ≡ past here.spot.place part) × ¬ IsFull here
 FaultAt here (Unclosed place) = IsUnclosed here.spot.rest × (place ≡ here.spot.place) × ¬ IsFull here
 FaultAt here (NumberTooLarge place) = IsLargeNumber here.spot.rest × (place ≡ here.spot.place) × ¬ IsFull here
 FaultAt here TooManyTokens = IsFull here

@@ -1,6 +1,6 @@
 //! Tokens, one after another.
 
-ghost use Rattle.std.specs.Prelude.{◌≡◌, ◌+◌, ◌<◌, ◌≤◌, List, IfOk, IfErr, OnOk, IsSomeAnd, IsTrue, length, slice_get, vec_len, Some};
+ghost use Rattle.std.specs.Prelude.{◌≡◌, ◌+◌, ◌<◌, ◌≤◌, List, IfOk, IfErr, OnOk, IsSomeAnd, IsTrue, length, slice_get, Some};
 ghost use Rattle.fy_base.specs.Outside.{Bytes};
 ghost use Rattle.fy_types.specs.Words.{is_letter};
 ghost use Rattle.fy_lexer.specs.Reading.{PieceFault, TakesGap, TakesLongest, TakesNamed, begins_no_gap, begins_other, reading_of, table_of};
@@ -31,6 +31,7 @@ pub fn lex(alloc: Global, names: &mut Names, text: &[u8]) -> Result<Vec<Token>, 
     ensures within { IfOk result (λ tokens. AreWithin tokens.items) }
     ensures err { IfErr result (IsFaultOf names.old text.now) }
     ensures names { HasAdded names.old names.new }
+    ensures few { length names.new ≤ length names.old + length text.now }
 {
     let mut reader = Reader::new(text);
     let mut tokens = Vec::new(alloc);
@@ -60,7 +61,7 @@ fn step(
     ensures within { OnOk result (IsWithin tokens.new.items) }
     ensures err { IfErr result (FaultAt (reading_of reader.old names.old tokens.old.items)) }
     ensures names { HasAdded names.old names.new }
-    ensures few { OnOk result (length names.new + vec_len tokens.old ≤ length names.old + vec_len tokens.new) }
+    ensures few { length names.new ≤ length names.old + 1 }
     ensures shorter { OnOk result (length reader.new.rest < length reader.old.rest) }
 {
     if is_blank(byte) {

@@ -2,11 +2,13 @@
 #![tactic(auto)]
 
 mod error;
+mod laws;
 mod lexer;
 mod literal;
 mod reader;
 mod token;
 
 pub use error::LexError;
+pub use laws::tokens_are_unique;
 pub use lexer::lex;
 pub use token::{Keyword, Symbol, Token, TokenKind};

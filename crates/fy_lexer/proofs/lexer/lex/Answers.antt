@@ -1,7 +1,7 @@
-use Rattle.std.proofs.Common.{◌≡◌, ◌+◌, ◌≤◌, length, vec_len, refl, sym, ap, subst, ◌∙◌, arith, [], ◌∷◌, ◌++◌}
+use Rattle.std.proofs.Common.{◌≡◌, length, refl, sym, ap, subst, ◌∙◌, arith, [], ◌∷◌, ◌++◌}
 use Rattle.fy_lexer.specs.declared.token.TokenKind.TheVariants.{End}
 use Rattle.fy_lexer.specs.Reading.{reading_of}
-use Rattle.fy_lexer.specs.Tokens.{AreWithin, HasAdded, IsWithin, Steps, none, start_of}
+use Rattle.fy_lexer.specs.Tokens.{AreWithin, IsWithin, Steps, none, start_of}
 use Rattle.fy_lexer.proofs.NamesLemmas.{HasAdded-none, HasAdded-then}
 use Rattle.fy_lexer.proofs.StepLemmas.{Steps-push, AreWithin-end, none_left}
 use Rattle.fy_lexer.proofs.lexer.lex.Goals as goal
@@ -14,14 +14,15 @@ loop-byte-init c =
           (subst (λ tokens. Steps start (reading_of start.spot c.args.names.now tokens)) (sym e) (none start)),
       subst IsWithin (sym e) (record { few = omega arith; fit = tt }),
       HasAdded-none c.args.names.now,
-      omega arith,
+      (let r : length c.new-reader.result.rest ≡ length c.args.text.now = ap (λ s. length s.rest) c.new-reader.ensures in omega (arith, r)),
     )
 
 pub loop-byte-preserved : goal.loop-byte-preserved
 loop-byte-preserved c =
     let i = c.loop-byte.invariant in
     let few = c.in_ok-step.ensures.few in
-    (Steps-push _ _ _ i.0 c.in_ok-step.ensures.ok, c.in_ok-step.ensures.within, HasAdded-then _ _ _ i.2 c.in_ok-step.ensures.names, omega (arith, few, i.3))
+    let shorter = c.in_ok-step.ensures.shorter in
+    (Steps-push _ _ _ i.0 c.in_ok-step.ensures.ok, c.in_ok-step.ensures.within, HasAdded-then _ _ _ i.2 c.in_ok-step.ensures.names, omega (arith, few, shorter, i.3))
 
 pub returns-clause-ok : goal.returns-clause-ok
 returns-clause-ok c =

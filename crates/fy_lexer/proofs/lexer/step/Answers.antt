@@ -1,4 +1,4 @@
-use Rattle.std.proofs.Common.{◌≡◌, ◌+◌, ◌≤◌, sym, ap, subst, ◌∙◌, arith}
+use Rattle.std.proofs.Common.{sym, subst, ◌∙◌}
 use Rattle.std.proofs.lemmas.Result.{err_from_is_err_and}
 use Rattle.fy_lexer.specs.Tokens.{IsWithin}
 use Rattle.fy_lexer.proofs.ReadingLemmas.{Took-next, IfErr-handed}
@@ -25,9 +25,6 @@ returns-in_err-kind-clause-err c =
 pub returns-clause-within : goal.returns-clause-within
 returns-clause-within c =
     subst IsWithin (sym c.in_ok-push.ensures.items) (IsWithin-push c.args.tokens.now.items _ c.requires.within (λ e. c.if-len-eq-MAX_TOKENS.false (c.len.ensures ∙ c.args.tokens.now.ok.0 ∙ e)) c.in_ok-kind.ensures.fit)
-
-pub returns-clause-few : goal.returns-clause-few
-returns-clause-few c = let a = c.in_ok-kind.ensures.few in let b = c.in_ok-push.ensures.len in omega (arith, a, b)
 
 pub returns-clause-shorter : goal.returns-clause-shorter
 returns-clause-shorter c =

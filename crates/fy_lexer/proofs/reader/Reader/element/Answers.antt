@@ -1,6 +1,5 @@
-use Rattle.std.proofs.Common.{◌≡◌, refl, sym, subst, []}
+use Rattle.std.proofs.Common.{refl, sym, subst, []}
 use Rattle.std.proofs.lemmas.Result.{MatchResult-weaker, IfOk-weaker}
-use Rattle.fy_lexer.specs.Spot.{past_byte}
 use Rattle.fy_lexer.proofs.ReadingLemmas.{Took, cut-here, takes-plain, misfit-plain, takes-escape, fault-escape}
 use Rattle.fy_lexer.proofs.reader.Reader.element.Goals as goal
 

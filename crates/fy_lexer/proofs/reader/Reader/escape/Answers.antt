@@ -1,5 +1,5 @@
-use Rattle.std.proofs.Common.{◌≡◌, refl, sym, subst, [], ◌∷◌, ◌∙◌}
-use Rattle.std.proofs.lemmas.Result.{MatchResult-weaker, IfOk-weaker, err_from_is_err_and}
+use Rattle.std.proofs.Common.{refl, sym, subst, [], ◌∙◌}
+use Rattle.std.proofs.lemmas.Result.{err_from_is_err_and}
 use Rattle.fy_lexer.proofs.ReadingLemmas.{Took, cut-escape, takes-short, misfit-short, takes-code, fault-high, fault-low, IfOk-ok_or, IfErr-ok_or, IfErr-handed}
 use Rattle.fy_lexer.proofs.reader.Reader.escape.Goals as goal
 

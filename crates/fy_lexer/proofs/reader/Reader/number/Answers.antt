@@ -1,4 +1,3 @@
-use Rattle.std.proofs.Common.{◌≡◌, sym, subst}
 use Rattle.fy_lexer.specs.Spellings.{decimal}
 use Rattle.fy_lexer.proofs.ReadingLemmas.{IfOk-ok_or, IfErr-ok_or, match-some, match-none}
 use Rattle.fy_lexer.proofs.WordLemmas.{IsNumberRun, number-run, takes-number, large-number}

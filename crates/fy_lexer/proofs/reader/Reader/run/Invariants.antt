@@ -1,4 +1,4 @@
-use Rattle.std.proofs.Common.{◌≡◌, ◌≤◌, length, take, IsTrue, true}
+use Rattle.std.proofs.Common.{◌≡◌, ◌≤◌, length, take, true}
 use Rattle.std.specs.List.{list_all}
 use Rattle.fy_lexer.specs.Reading.{passes}
 use Rattle.fy_lexer.specs.Spot.{Moved}
