@@ -28,7 +28,7 @@ pub record IsToken (piece : Bytes) : Type 0 where
 abbrev pub IsPiece : Bytes → Type 0
 IsPiece piece = IsGap piece ⊎ IsToken piece
 
--- no longer beginning of the text spells a token
+-- longest match, or maximal munch (as POSIX's lex has it): no longer beginning of the text spells a token
 abbrev pub IsLongest : Bytes → Bytes → Type 0
 IsLongest text piece = (longer rest : Bytes) → text ≡ longer ++ rest → IsToken longer → length longer ≤ length piece
 
@@ -40,7 +40,7 @@ BeginsPiece part = (more : Bytes) × IsPiece (part ++ more)
 abbrev pub HasNoPiece : Bytes → Type 0
 HasNoPiece text = (piece rest : Bytes) → text ≡ piece ++ rest → ¬ IsPiece piece
 
--- no piece begins the text, and the byte behind these first ones is the first at which it can't become one
+-- no piece begins the text, and the byte behind this part is the first at which none can
 pub record IsBadAt (text part : Bytes) : Type 0 where
   pub bad : ℕ
   pub rest : Bytes

@@ -39,7 +39,8 @@ pub record IsMisfitBehind (quote : ℕ) (text part : Bytes) : Type 0 where
   pub rest : Bytes
   pub is : text ≡ part ++ bad ∷ rest
   pub begins : BeginsElement quote part
-  pub none : (other piece more : Bytes) (value : ℕ) → Element quote piece value → piece ++ more ≡ part ++ bad ∷ other → ⊥
+  pub none : (other piece more : Bytes) (value : ℕ)
+      → Element quote piece value → piece ++ more ≡ part ++ bad ∷ other → ⊥
 
 -- the text ends within an element
 pub record IsCut (quote : ℕ) (text : Bytes) : Type 0 where
@@ -91,8 +92,10 @@ pub record TakesElements (quote : ℕ) (old : Spot) (values : Bytes) (new : Spot
 -- why the elements of a literal that begins at a place end in no quote: some elements, and then none
 abbrev pub ElementsFault : ℕ → Spot → Place → LexError → Type 0
 ElementsFault quote old start (BadByte place) =
-    (now : Spot) × (values : Bytes) × TakesElements quote old values now × ElementFault quote now start (BadByte place) × ¬ (slice_get now.rest 0 ≡ Some quote)
-ElementsFault quote old start (Unclosed place) = (now : Spot) × (values : Bytes) × TakesElements quote old values now × ElementFault quote now start (Unclosed place)
+    (now : Spot) × (values : Bytes) × TakesElements quote old values now
+    × ElementFault quote now start (BadByte place) × ¬ (slice_get now.rest 0 ≡ Some quote)
+ElementsFault quote old start (Unclosed place) =
+    (now : Spot) × (values : Bytes) × TakesElements quote old values now × ElementFault quote now start (Unclosed place)
 ElementsFault quote old start (NumberTooLarge place) = ⊥
 ElementsFault quote old start TooManyTokens = ⊥
 ElementsFault quote old start OutOfMemory = Unit {0}

@@ -17,6 +17,14 @@ pub record Spot : Type 0 where
   pub rest : Bytes
   pub place : Place
 
+-- the next byte was taken
+abbrev pub TakesByte : Spot → ℕ → Spot → Type 0
+TakesByte old b new = (old.rest ≡ b ∷ new.rest) × (new.place ≡ past_byte old.place b)
+
+-- nothing was left, and nothing changed
+abbrev pub IsSpent : Spot → Spot → Type 0
+IsSpent old new = (old.rest ≡ []) × (new ≡ old)
+
 -- reading moved on over these bytes
 pub record Moved (old : Spot) (piece : Bytes) (new : Spot) : Type 0 where
   pub text : old.rest ≡ piece ++ new.rest

@@ -1,5 +1,5 @@
 -- The tokens of a text, and its first fault.
-use Rattle.std.specs.Prelude.{◌≡◌, ℕ, ◌+◌, ◌-◌, ◌^◌, ◌≤◌, true, not, ◌==◌, pos, ◌≤ℤ◌, List, [], ◌∷◌, ◌++◌, length, ◌⊎◌}
+use Rattle.std.specs.Prelude.{◌≡◌, ℕ, ◌+◌, ◌-◌, ◌^◌, ◌≤◌, IsTrue, not, ◌==◌, pos, ◌≤ℤ◌, List, [], ◌∷◌, ◌++◌, length, ◌⊎◌}
 use Rattle.fy_base.specs.Outside.{Bytes}
 use Rattle.fy_types.specs.Names.{with_name}
 use Rattle.fy_lexer.specs.declared.error.LexError.{LexError}
@@ -57,7 +57,7 @@ pub data Steps : Reading → Reading → Type 0 where
 abbrev pub start_of : List Bytes → Bytes → Reading
 start_of names text = record { spot = record { rest = text; place = record { line = 1; col = 1 } }; names = names; tokens = [] }
 
--- these are the tokens of the text, which is read to its end: it is a list of pieces, and the end comes last, just past the last byte
+-- these are the tokens of the text, which is pieces end to end; the end comes last, just past the last byte
 pub record IsTokensOf (names : List Bytes) (text : Bytes) (tokens : List Token) (after : List Bytes) : Type 0 where
   pub last : Reading
   pub steps : Steps (start_of names text) last
@@ -94,8 +94,8 @@ pub record IsFull (here : Reading) : Type 0 where
   pub byte : ℕ
   pub rest : Bytes
   pub is : here.spot.rest ≡ byte ∷ rest
-  pub visible : not (is_blank byte) ≡ true
-  pub no_comment : not (byte == 123) ≡ true
+  pub visible : IsTrue (not (is_blank byte))
+  pub no_comment : IsTrue (not (byte == 123))
   pub many : length here.tokens ≡ 262144
 
 -- the fault at which reading stops here

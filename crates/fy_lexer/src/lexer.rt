@@ -1,13 +1,13 @@
 //! Tokens, one after another.
 
-ghost use Rattle.std.specs.Prelude.{◌≡◌, ◌+◌, ◌<◌, ◌≤◌, List, IfOk, IfErr, OnOk, IsSomeAnd, IsTrue, length, slice_get, Some};
+ghost use Rattle.std.specs.Prelude.{◌≡◌, ◌+◌, ◌<◌, ◌≤◌, List, Some, IfOk, IfErr, OnOk, IsSomeAnd, IsTrue, length, slice_get};
+ghost use Rattle.std.specs.Map.{lookup};
+ghost use Rattle.std.specs.Str.{bytes_eq};
 ghost use Rattle.fy_base.specs.Outside.{Bytes};
 ghost use Rattle.fy_types.specs.Words.{is_letter};
 ghost use Rattle.fy_lexer.specs.Reading.{PieceFault, TakesGap, TakesLongest, TakesNamed, begins_no_gap, begins_other, reading_of, table_of};
 ghost use Rattle.fy_lexer.specs.Spellings.{keyword_of, symbol_of};
 ghost use Rattle.fy_lexer.specs.Tokens.{AreWithin, FaultAt, HasAdded, IsFaultOf, IsFit, IsTokensOf, IsWithin, Step};
-ghost use Rattle.std.specs.Map.{lookup};
-ghost use Rattle.std.specs.Str.{bytes_eq};
 
 use crate::error::LexError;
 use crate::reader::{Class, Reader, is_blank, is_digit, is_letter};
@@ -19,11 +19,12 @@ const MAX_TOKENS: usize = 262144;
 
 /// The tokens of a text, with the end as the last, and its identifiers numbered by the list of names.
 ///
-/// The text is read from left to right, and the longest token is taken. It is refused at its first fault: `BadByte` at the first byte
-/// that begins or continues no token, `Unclosed` at the first byte of a comment, string or character that isn't closed,
-/// `NumberTooLarge` at the first byte of a literal past 9223372036854775807, and `TooManyTokens` exactly where 262,144 tokens were read
-/// and a byte follows that begins neither a blank nor a comment. After a refusal the names may have gained entries at their end, and
-/// the rest of them stays.
+/// The text is read from left to right, and the longest token is taken. It is refused at its first
+/// fault: `BadByte` at the first byte that begins or continues no token, `Unclosed` at the first byte
+/// of a comment, string or character that isn't closed, `NumberTooLarge` at the first byte of a literal
+/// past 9223372036854775807, and `TooManyTokens` exactly where 262,144 tokens were read and a byte
+/// follows that begins neither a blank nor a comment. After a refusal the names may have gained entries
+/// at their end, and the rest of them stays.
 pub fn lex(alloc: Global, names: &mut Names, text: &[u8]) -> Result<Vec<Token>, LexError>
     requires text { length text.now ≤ 1048576 }
     requires names { length names.old ≤ 3000000000 }
@@ -57,7 +58,9 @@ fn step(
     requires next { slice_get reader.old.rest 0 ≡ Some byte }
     requires within { IsWithin tokens.old.items }
     requires names { length names.old < 4294967295 }
-    ensures ok { OnOk result (Step (reading_of reader.old names.old tokens.old.items) (reading_of reader.new names.new tokens.new.items)) }
+    ensures ok { let old = reading_of reader.old names.old tokens.old.items in
+        let new = reading_of reader.new names.new tokens.new.items in
+        OnOk result (Step old new) }
     ensures within { OnOk result (IsWithin tokens.new.items) }
     ensures err { IfErr result (FaultAt (reading_of reader.old names.old tokens.old.items)) }
     ensures names { HasAdded names.old names.new }
@@ -140,7 +143,8 @@ impl<'a> Reader<'a> {
     // Takes a symbol.
     fn symbol(&mut self) -> Result<Symbol, LexError>
         requires { IsSomeAnd (slice_get self.old.rest 0) (λ b. IsTrue (begins_other b)) }
-        ensures ok { IfOk result (λ symbol. (names : List Bytes) → TakesLongest names self.old (TokenKind.Sym symbol) self.new) }
+        ensures ok { IfOk result (λ symbol.
+            (names : List Bytes) → TakesLongest names self.old (TokenKind.Sym symbol) self.new) }
         ensures err { IfErr result (PieceFault self.old) }
     {
         let place = self.place();

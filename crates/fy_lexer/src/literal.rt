@@ -49,7 +49,8 @@ fn hex_value(byte: u8) -> Option<u8>
 // The value of digits, where it is within the limit.
 fn value_of(digits: &[u8]) -> Option<i64>
     requires { IsTrue (list_all is_digit digits.now) }
-    ensures { MatchOption result (2 ^ 63 ≤ decimal digits.now) (λ n. (n ≡ pos (decimal digits.now)) × (decimal digits.now < 2 ^ 63)) }
+    ensures { let value = decimal digits.now in
+        MatchOption result (2 ^ 63 ≤ value) (λ n. (n ≡ pos value) × (value < 2 ^ 63)) }
 {
     let mut value: u64 = 0;
     for digit in digits {
@@ -114,7 +115,8 @@ impl<'a> Reader<'a> {
 
     // Takes elements up to the closing quote, which stays.
     fn elements(&mut self, alloc: Global, start: Place) -> Result<Text, LexError>
-        ensures ok { IfOk result (λ values. TakesElements 34 self.old values self.new × (slice_get self.new.rest 0 ≡ Some 34)) }
+        ensures ok { IfOk result (λ values.
+            TakesElements 34 self.old values self.new × (slice_get self.new.rest 0 ≡ Some 34)) }
         ensures err { IfErr result (λ e. ElementsFault 34 self.old start e) }
     {
         let mut values = Text::new(alloc);
@@ -127,7 +129,8 @@ impl<'a> Reader<'a> {
     /// Takes a string, whose opening quote is next.
     pub fn string(&mut self, alloc: Global) -> Result<Text, LexError>
         requires { slice_get self.old.rest 0 ≡ Some 34 }
-        ensures ok { IfOk result (λ values. (names : List Bytes) → TakesLongest names self.old (TokenKind.Str values) self.new) }
+        ensures ok { IfOk result (λ values.
+            (names : List Bytes) → TakesLongest names self.old (TokenKind.Str values) self.new) }
         ensures err { IfErr result (λ e. PieceFault self.old e) }
     {
         let start = self.place();
@@ -140,7 +143,8 @@ impl<'a> Reader<'a> {
     /// Takes a character, whose opening quote is next, as the byte that it stands for.
     pub fn character(&mut self) -> Result<u8, LexError>
         requires { slice_get self.old.rest 0 ≡ Some 39 }
-        ensures ok { IfOk result (λ value. (names : List Bytes) → TakesLongest names self.old (TokenKind.Letter value) self.new) }
+        ensures ok { IfOk result (λ value.
+            (names : List Bytes) → TakesLongest names self.old (TokenKind.Letter value) self.new) }
         ensures err { IfErr result (λ e. PieceFault self.old e) }
     {
         let start = self.place();
@@ -157,7 +161,8 @@ impl<'a> Reader<'a> {
     /// Takes a number, whose first digit is next.
     pub fn number(&mut self) -> Result<i64, LexError>
         requires { IsSomeAnd (slice_get self.old.rest 0) (λ b. IsTrue (is_digit b)) }
-        ensures ok { IfOk result (λ n. (names : List Bytes) → TakesLongest names self.old (TokenKind.Number n) self.new) }
+        ensures ok { IfOk result (λ n.
+            (names : List Bytes) → TakesLongest names self.old (TokenKind.Number n) self.new) }
         ensures small { IfOk result IsSmall }
         ensures err { IfErr result (λ e. PieceFault self.old e) }
     {

@@ -1,11 +1,11 @@
 //! A text that is read byte by byte.
 
-ghost use Rattle.std.specs.Prelude.{◌≡◌, ◌<◌, ◌+◌, ◌^◌, length, [], ◌∷◌, MatchOption, slice_get, IsTrue};
+ghost use Rattle.std.specs.Prelude.{◌≡◌, ◌<◌, ◌+◌, ◌^◌, length, MatchOption, slice_get, IsTrue};
 ghost use Rattle.std.specs.List.{list_all, prefix_len};
 ghost use Rattle.fy_types.specs.Words.{is_digit, is_letter, is_name_byte};
 ghost use Rattle.fy_lexer.specs.Pieces.{is_blank};
 ghost use Rattle.fy_lexer.specs.Reading.{passes};
-ghost use Rattle.fy_lexer.specs.Spot.{Moved, Spot, past_byte};
+ghost use Rattle.fy_lexer.specs.Spot.{IsSpent, Moved, Spot, TakesByte};
 
 use fy_base::Place;
 use std::marker::Model;
@@ -75,7 +75,10 @@ impl<'a> Model for Reader<'a> {
 
     ghost view = { λ reader. record { rest = reader.rest.now; place = reader.place } };
 
-    ghost invariant = { λ reader. (reader.place.line + reader.place.col + length reader.rest.now < 2 ^ 32) × (1 ≤ reader.place.col) };
+    // A step that makes the line or the column greater leaves one byte fewer.
+    ghost invariant = { λ reader.
+        (reader.place.line + reader.place.col + length reader.rest.now < 2 ^ 32)
+        × (1 ≤ reader.place.col) };
 }
 
 impl<'a> Reader<'a> {
@@ -106,7 +109,7 @@ impl<'a> Reader<'a> {
 
     /// Takes the next byte.
     pub fn next(&mut self) -> Option<u8>
-        ensures { MatchOption result ((self.old.rest ≡ []) × (self.new ≡ self.old)) (λ b. (self.old.rest ≡ b ∷ self.new.rest) × (self.new.place ≡ past_byte self.old.place b)) }
+        ensures { MatchOption result (IsSpent self.old self.new) (λ b. TakesByte self.old b self.new) }
     {
         let byte = *self.rest.first()?;
         self.rest = &self.rest[1..];
