@@ -1,0 +1,5 @@
+pub mod Spellings
+pub mod Spot
+pub mod Pieces
+pub mod Tokens
+pub mod Reading

@@ -1,0 +1,20 @@
+//! Laws of the tokens of texts.
+
+ghost use Rattle.std.specs.Prelude.{◌≡◌, ◌≢◌, List};
+ghost use Rattle.fy_base.specs.Outside.{Bytes};
+ghost use Rattle.fy_lexer.specs.declared.error.LexError.{LexError};
+ghost use Rattle.fy_lexer.specs.declared.token.Token.{Token};
+ghost use Rattle.fy_lexer.specs.Tokens.{AreWithin, IsFaultOf, IsTokensOf};
+
+/// A text has at most one list of tokens, at most one first fault, and within the limits not both.
+pub fn tokens_are_unique()
+    ensures tokens { (names : List Bytes) (text : Bytes) (tokens others : List Token) (after last : List Bytes)
+        → IsTokensOf names text tokens after → IsTokensOf names text others last
+        → (tokens ≡ others) × (after ≡ last) }
+    ensures fault { (names : List Bytes) (text : Bytes) (error other : LexError)
+        → error ≢ LexError.OutOfMemory → other ≢ LexError.OutOfMemory
+        → IsFaultOf names text error → IsFaultOf names text other → error ≡ other }
+    ensures apart { (names : List Bytes) (text : Bytes) (tokens : List Token) (after : List Bytes) (error : LexError)
+        → error ≢ LexError.OutOfMemory → IsTokensOf names text tokens after → AreWithin tokens
+        → ¬ IsFaultOf names text error }
+{}

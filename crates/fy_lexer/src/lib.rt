@@ -1,0 +1,14 @@
+//! The tokens of a text.
+#![tactic(auto)]
+
+mod error;
+mod laws;
+mod lexer;
+mod literal;
+mod reader;
+mod token;
+
+pub use error::LexError;
+pub use laws::tokens_are_unique;
+pub use lexer::lex;
+pub use token::{Keyword, Symbol, Token, TokenKind};
