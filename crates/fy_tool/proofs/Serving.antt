@@ -9,7 +9,7 @@ use Rattle.fy_phrase.specs.Tree.{Tree}
 use Rattle.fy_tool.specs.World.{Contents, Counts, Later}
 use Rattle.fy_tool.specs.Said.{image_of}
 use Rattle.fy_tool.specs.Order.{Order, run}
-use Rattle.fy_tool.specs.Due.{Due, told, IsRefused, IsDue, usage, stopped, refused, runs, ran}
+use Rattle.fy_tool.specs.Due.{Due, told, IsRefused, IsDue, usage, stopped, refused, runs, ran, file_of}
 use Rattle.fy_tool.specs.Answers.{Caused, Did, IsOwn, Serves}
 use Rattle.fy_tool.specs.Working.{IsProgramOf, Worked, Works}
 use Rattle.fy_tool.specs.declared.note.Note.TheVariants as note
@@ -85,3 +85,7 @@ serves_program file text p b c d k k1 k2 result same l m held program own cause 
       is_due = r.is_due;
       did = r.did;
     }
+
+-- a command of one file
+pub serves_run : (order : Order) (file : Bytes) (b c : Contents) (k k1 : Counts) (result : Result ℕ Stop) → file ≡ file_of order → Serves (Some (run file)) b c k k1 result → Serves (Some order) b c k k1 result
+serves_run (run name) file b c k k1 result is s = subst (λ f. Serves (Some (run f)) b c k k1 result) is s

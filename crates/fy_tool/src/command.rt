@@ -12,6 +12,15 @@ pub enum Command<'a> {
     Run { file: &'a str },
 }
 
+/// The file that a command reads.
+pub fn file_of<'a>(command: Command<'a>) -> &'a str
+    ensures { result.now ≡ file_of (order_of command.entry) }
+{
+    match command {
+        Command::Run { file } => file,
+    }
+}
+
 // Whether a word with a byte or more is no option.
 fn is_operand(word: &str) -> bool
     ensures { result ≡ is_operand word.now }

@@ -13,7 +13,7 @@ ghost use Rattle.fy_tool.specs.Due.{told, status_of, note_of};
 ghost use Rattle.fy_tool.specs.Answers.{Caused, Did, IsOwn, Serves, Concludes};
 ghost use Rattle.fy_tool.specs.Working.{Judged, Reads, Works};
 
-use crate::command::Command;
+use crate::command::{Command, file_of};
 use crate::note::{Note, line_of};
 use crate::small::{compile, program_of};
 use crate::world::{Stop, World};
@@ -171,18 +171,24 @@ fn execute<W: World>(alloc: Global, p: &Phrase, world: &mut W) -> Result<u8, Sto
     }
 }
 
+// Builds an image of the text in a file, and runs it.
+fn run_file<W: World>(alloc: Global, file: &str, world: &mut W) -> Result<u8, Stop>
+    ensures serves { Serves (Some (run file.now)) (W.holds world.old) (W.holds world.new) (W.counts world.old) (W.counts world.new) result }
+    ensures same { W.names world.new ≡ W.names world.old }
+{
+    match source(alloc, file, world) {
+        Err(stop) => Err(stop),
+        Ok(None) => refuse(2, Note::Unbuilt, world),
+        Ok(Some(program)) => execute(alloc, &program, world),
+    }
+}
+
 /// Does what a command asks for.
 pub fn serve<W: World>(alloc: Global, command: Command, world: &mut W) -> Result<u8, Stop>
     ensures serves { Serves (Some (order_of command.entry)) (W.holds world.old) (W.holds world.new) (W.counts world.old) (W.counts world.new) result }
     ensures same { W.names world.new ≡ W.names world.old }
 {
-    match command {
-        Command::Run { file } => match source(alloc, file, world) {
-            Err(stop) => Err(stop),
-            Ok(None) => refuse(2, Note::Unbuilt, world),
-            Ok(Some(program)) => execute(alloc, &program, world),
-        },
-    }
+    run_file(alloc, file_of(command), world)
 }
 
 /// The status, and the last note where the outside failed or memory was wanting.
