@@ -10,3 +10,6 @@ mod world;
 
 pub use command::{Command, command_of};
 pub use top::forsythe;
+
+#[cfg(test)]
+mod tests;
