@@ -1,0 +1,2 @@
+putint(1); skip; putint(20 + 30 +
+   4)
