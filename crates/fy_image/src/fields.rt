@@ -163,7 +163,9 @@ impl<'a> Fields<'a> {
     /// Whether nothing is left.
     pub fn end(&self) -> Result<(), ImageError>
         ensures done { OnOk result (self.now ≡ []) }
-        ensures judged { MatchResult result (λ _. first_refusal [] self.now ≡ None) (λ e. first_refusal [] self.now ≡ Some e) }
+        ensures judged { MatchResult result
+            (λ _. first_refusal [] self.now ≡ None)
+            (λ e. first_refusal [] self.now ≡ Some e) }
     {
         if self.rest.is_empty() {
             Ok(())

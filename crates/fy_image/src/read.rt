@@ -28,7 +28,9 @@ struct Header {
 fn read_header_1(fields: &mut Fields) -> Result<Header, ImageError>
     ensures taken { IfOk result (λ header. fields.old ≡ header_bytes header ++ fields.new) }
     ensures ranges { IfOk result (λ header. HeaderFits header) }
-    ensures judged { MatchResult result (λ header. body_refusal fields.old ≡ first_refusal (lists_of header) fields.new) (λ e. IsCause e (body_refusal fields.old)) }
+    ensures judged { MatchResult result
+        (λ header. body_refusal fields.old ≡ first_refusal (lists_of header) fields.new)
+        (λ e. IsCause e (body_refusal fields.old)) }
 {
     let stack_words = fields.number_in(1024, 16_777_216, 1)?;
     let code_words = fields.number_in(1, 4_194_304, 2)?;
@@ -88,7 +90,8 @@ fn read(alloc: Global, bytes: &[u8]) -> Result<Image, ImageError>
 /// image's, but for `OutOfMemory`.
 pub fn read_image(alloc: Global, bytes: &[u8]) -> Result<Image, ImageError>
     ensures found { IfOk result (λ image. IsImageBytes image bytes.now) }
-    ensures only { (image : Image) → IsImageBytes image bytes.now → MatchResult result (λ read. read ≡ image) (λ e. e ≡ errors.OutOfMemory) }
+    ensures only { (image : Image) → IsImageBytes image bytes.now
+        → MatchResult result (λ read. read ≡ image) (λ e. e ≡ errors.OutOfMemory) }
     ensures judged { IsJudged result (refusal_of bytes.now) }
 {
     read(alloc, bytes)

@@ -6,3 +6,4 @@ pub mod Straight
 pub mod Blocks
 pub mod Blockwise
 pub mod Quiet
+pub mod Agreeing

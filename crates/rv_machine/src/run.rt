@@ -42,7 +42,8 @@ fn turn<I: Source, O: Sink>(m: &mut Machine, input: &mut I, output: &mut O) -> O
     requires { m.old.core.status ≡ Running }
     ensures program { m.new.program ≡ m.old.program }
     ensures status { m.new.core.status ≡ status_by result }
-    ensures did { (world : World) (before : Option Bytes) → world.ending ≡ Going → Shows world m.old.core (I.left input.old) before (O.held output.old)
+    ensures did { (world : World) (before : Option Bytes) → world.ending ≡ Going
+        → Shows world m.old.core (I.left input.old) before (O.held output.old)
         → Turned result m.old.program world m.new.core (I.left input.new) before (O.held output.new) }
     ensures end { IfSome result IsMachineEnd }
     ensures spent { result ≡ Some Ending.Spent → ⊥ }
@@ -87,7 +88,9 @@ pub fn run_machine<I: Source, O: Sink>(
     requires { m.old.core.status ≡ Running }
     ensures program { m.new.program ≡ m.old.program }
     ensures steps { result.steps ≤ steps }
-    ensures did { ForSome (I.left input.old) (λ left. RunsTo m.old.program (going_world m.old.core left) steps result m.new.core (I.left input.new) (O.held output.old) (O.held output.new)) }
+    ensures did { ForSome (I.left input.old) (λ left.
+        RunsTo m.old.program (going_world m.old.core left) steps
+        result m.new.core (I.left input.new) (O.held output.old) (O.held output.new)) }
     ensures end { IsMachineEnd result.end }
     ensures spent { result.end ≡ Ending.Spent → result.steps ≡ steps }
     ensures status { m.new.core.status ≡ status_at result.end }
