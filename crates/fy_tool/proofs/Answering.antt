@@ -1,5 +1,5 @@
 -- From what a command did and how the call concluded to its answer.
-use Rattle.std.proofs.Common.{◌≡◌, ◌≢◌, ℕ, ◌≤◌, List, [], ◌++◌, sym, ap, ◌∙◌, refl, subst, Some, None, inl, inr, take, arith, append_assoc}
+use Rattle.std.proofs.Common.{◌≡◌, ◌≢◌, ℕ, ◌≤◌, List, [], ◌++◌, sym, ap, ◌∙◌, refl, subst, inl, inr, take, arith, append_assoc}
 use Rattle.std.proofs.lemmas.List.{append-nil}
 use Rattle.std.specs.Prelude.{Any}
 use Rattle.std.specs.declared.option.Option.{Option}

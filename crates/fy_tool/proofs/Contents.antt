@@ -1,9 +1,9 @@
 -- What the objects hold, step by step.
-use Rattle.std.proofs.Common.{◌≡◌, ℕ, [], ◌++◌, sym, ap, ◌∙◌, refl, arith, append_assoc, Some, None}
+use Rattle.std.proofs.Common.{◌≡◌, [], ◌++◌, sym, ap, ◌∙◌, refl, arith, append_assoc, Some, None}
 use Rattle.std.proofs.lemmas.List.{append-nil}
 use Rattle.std.specs.declared.option.Option.{Option}
 use Rattle.fy_base.specs.Outside.{Bytes, appended, Gained, GainedPart}
-use Rattle.fy_tool.specs.World.{Contents, Counts, Later}
+use Rattle.fy_tool.specs.World.{Counts, Later}
 
 pub later_more : (a b c : Counts) → Later a b → Later b c → Later a c
 later_more a b c h k = record {

@@ -1,5 +1,5 @@
 -- What the copy rule does with the phrase of a small text.
-use Rattle.std.proofs.Common.{◌≡◌, ◌≢◌, ℕ, zero, suc, ◌+◌, ◌-◌, ◌*◌, ◌<◌, ◌≤◌, Bool, true, false, cond, List, [], ◌∷◌, ◌++◌, sym, ap, ◌∙◌, refl, subst, arith, append_assoc, Some, None, Ok, Err}
+use Rattle.std.proofs.Common.{◌≡◌, ◌≢◌, ℕ, ◌+◌, ◌*◌, ◌≤◌, Bool, true, false, cond, List, [], ◌∷◌, ◌++◌, sym, ap, ◌∙◌, refl, subst, arith, append_assoc, Some, None, Ok, Err}
 use Rattle.std.proofs.lemmas.List.{append-nil}
 use Rattle.std.proofs.Math.Nat.{mul-le-mul_right}
 use Rattle.std.specs.Prelude.{ℤ, ◌+ℤ◌}
@@ -7,22 +7,19 @@ use Rattle.std.specs.Fmt.{signed_decimal}
 use Rattle.std.specs.declared.option.Option.{Option}
 use Rattle.std.specs.declared.result.Result.{Result}
 use Rattle.fy_base.specs.Outside.{Bytes}
-use Rattle.fy_base.specs.Arithmetic.{is_int, binary_result}
+use Rattle.fy_base.specs.Arithmetic.{is_int}
 use Rattle.fy_base.specs.declared.data.Place.{Place}
-use Rattle.fy_base.specs.declared.data.Datum.{Datum}
 use Rattle.fy_base.specs.declared.data.Datum.TheVariants as datum
-use Rattle.fy_base.specs.declared.data.BinOp.{BinOp}
 use Rattle.fy_base.specs.declared.data.BinOp.TheVariants.{Add}
-use Rattle.fy_base.specs.declared.data.PutKind.{PutKind}
 use Rattle.fy_base.specs.declared.data.PutKind.TheVariants as kinds
 use Rattle.fy_base.specs.declared.data.FaultKind.TheVariants.{Overflow}
 use Rattle.fy_phrase.specs.Tree.{Tree, lit, binary, skip, seq, put}
 use Rattle.fy_phrase.specs.Sizes.{nodes}
 use Rattle.fy_phrase.specs.Contexts.{Pushed, op_l, op_r, put_c, then_c}
-use Rattle.fy_phrase.specs.Copy.{Cell, CopyState, Standing, going, ended, faulted, stuck, standing_at, CopyRun, tick, after_more, start_run, copy_after}
+use Rattle.fy_phrase.specs.Copy.{Cell, Standing, going, ended, faulted, standing_at, CopyRun, tick, after_more, start_run, copy_after}
 use Rattle.fy_phrase.specs.Bounds.{copy_bound}
 use Rattle.fy_phrase.proofs.Runs.{after_zero, after_one, after_both, over_later}
-use Rattle.fy_tool.specs.Said.{Said, said, said_then, said_value, value_of, added, int_of, IsIntDatum, IsAddition, IsCommand}
+use Rattle.fy_tool.specs.Said.{Said, said, said_then, said_value, value_of, added, IsAddition, IsCommand}
 
 -- ---- some steps
 

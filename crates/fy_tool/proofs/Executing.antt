@@ -19,13 +19,12 @@ use Rattle.fy_tool.specs.World.{Contents}
 use Rattle.fy_tool.specs.Note.{lines}
 use Rattle.fy_tool.specs.Said.{said, image_of, IsCommand, puts_of}
 use Rattle.fy_tool.specs.Due.{Due, run_limit, status_of, note_of, ran}
-use Rattle.fy_tool.specs.Answers.{Part, after_all}
-use Rattle.fy_tool.specs.Working.{Worked, Works}
+use Rattle.fy_tool.specs.Working.{Works}
 use Rattle.fy_tool.specs.declared.note.Note.TheVariants as note
 use Rattle.fy_tool.specs.declared.world.Stop.{Stop}
-use Rattle.fy_tool.specs.declared.world.Stop.TheVariants.{Notes, Memory}
+use Rattle.fy_tool.specs.declared.world.Stop.TheVariants.{Notes}
 use Rattle.fy_tool.proofs.Parts.{part_none, part_output, but_notes, tell_all, tell_part}
-use Rattle.fy_tool.proofs.Running.{first_world, count_said, end_said, event_said, not_going, RunsSo, runs_so, EndIs, as_said, input_fails, output_fails, end_is}
+use Rattle.fy_tool.proofs.Running.{first_world, count_said, end_said, event_said, not_going, runs_so, EndIs, as_said, input_fails, output_fails, end_is}
 
 -- what is due for the run of a phrase
 abbrev due_of : Tree → Bytes → Due

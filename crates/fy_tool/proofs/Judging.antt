@@ -1,15 +1,15 @@
 -- Texts and their programs.
-use Rattle.std.proofs.Common.{◌≡◌, ℕ, ◌≤◌, length, Some, None, inl, inr}
+use Rattle.std.proofs.Common.{◌≤◌, length, Some, None, inl, inr}
 use Rattle.std.specs.Prelude.{IfSome, MatchOption}
 use Rattle.std.specs.declared.option.Option.{Option}
-use Rattle.fy_base.specs.Outside.{Bytes, Folder, Tells, IsLong}
+use Rattle.fy_base.specs.Outside.{Bytes, Folder, IsLong}
 use Rattle.fy_phrase.specs.Tree.{Tree}
 use Rattle.fy_phrase.specs.Reads.{reads}
 use Rattle.fy_phrase.specs.declared.phrase.Phrase.{Phrase}
 use Rattle.fy_tool.specs.Small.{IsProgram}
 use Rattle.fy_tool.specs.Said.{IsCommand, puts_of}
 use Rattle.fy_tool.specs.Due.{IsRefused}
-use Rattle.fy_tool.specs.Working.{IsProgramOf, Judged}
+use Rattle.fy_tool.specs.Working.{Judged}
 
 pub judged : (text : Bytes) (found : Option Phrase) → length text ≤ 4096 → IfSome found (λ p. IsProgram text (reads p)) → IfSome found (λ p. IsCommand (reads p)) → IfSome found (λ p. puts_of (reads p) ≤ 4096)
     → MatchOption found ((p : Tree) → IsProgram text p → ⊥) (λ p. Unit {0}) → Judged text found

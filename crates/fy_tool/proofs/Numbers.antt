@@ -1,6 +1,6 @@
 -- Digits and their value.
-use Rattle.std.proofs.Common.{◌≡◌, ℕ, zero, suc, ◌+◌, ◌-◌, ◌*◌, ◌/◌, ◌%◌, ◌<◌, ◌≤◌, List, [], ◌∷◌, ◌++◌, length, take, drop, get_or, ltb, true, false, Bool, cond, sym, ap, ◌∙◌, refl, arith, subst, take_while, pos}
-use Rattle.std.proofs.Math.Seq.{drop-cons, take-suc}
+use Rattle.std.proofs.Common.{◌≡◌, ℕ, zero, suc, ◌+◌, ◌-◌, ◌*◌, ◌<◌, ◌≤◌, List, [], ◌∷◌, length, take, drop, get_or, ltb, true, false, Bool, cond, sym, ap, ◌∙◌, refl, arith, subst, take_while, pos}
+use Rattle.std.proofs.Math.Seq.{drop-cons}
 use Rattle.std.proofs.lemmas.Bool.{le-ltb}
 use Rattle.std.specs.List.{prefix_len}
 use Rattle.fy_base.specs.Outside.{Bytes}

@@ -1,6 +1,6 @@
 -- Doing what is due, or a part of it.
-use Rattle.std.proofs.Common.{◌≡◌, ◌≢◌, ℕ, List, [], ◌∷◌, sym, ap, ◌∙◌, refl, subst, Some, None, inl, inr, arith, ◌≤◌, ◌<◌}
-use Rattle.std.specs.Prelude.{IfOk, IfErr, Any}
+use Rattle.std.proofs.Common.{◌≡◌, ◌≢◌, ℕ, List, [], sym, ap, ◌∙◌, refl, subst, Some, None, inl, inr, arith, ◌≤◌, ◌<◌}
+use Rattle.std.specs.Prelude.{IfErr, Any}
 use Rattle.std.specs.declared.option.Option.{Option}
 use Rattle.std.specs.declared.result.Result.{Result}
 use Rattle.std.specs.declared.result.Result.TheVariants.{Ok, Err}

@@ -1,5 +1,5 @@
 -- What the phrase of a text is like: commands with sums, few of them, and places that count from 1.
-use Rattle.std.proofs.Common.{◌≡◌, ℕ, zero, suc, ◌+◌, ◌-◌, ◌*◌, ◌^◌, map, slice_index_or, ◌<◌, ◌≤◌, Bool, true, false, cond, List, [], ◌∷◌, ◌++◌, length, drop, slice_get, slice_index, sym, ap, ◌∙◌, refl, subst, arith, length-append, Some, None, codes, take_while, pos, nat_eq, nat_lt, ◌==◌, Err, Ok, All}
+use Rattle.std.proofs.Common.{◌≡◌, ℕ, zero, suc, ◌+◌, ◌-◌, ◌*◌, ◌^◌, map, slice_index_or, ◌<◌, ◌≤◌, Bool, true, false, cond, List, [], ◌∷◌, ◌++◌, length, drop, slice_get, slice_index, sym, ◌∙◌, refl, subst, arith, length-append, Some, None, codes, take_while, pos, nat_eq, nat_lt, ◌==◌, Err, Ok, All}
 use Rattle.std.proofs.lemmas.Bool.{ltb-true, leb-true, le-leb}
 use Rattle.std.proofs.Math.Bool.{and-true}
 use Rattle.std.proofs.lemmas.Fmt.{length-decimal-le, IsAscii-decimal}
@@ -17,7 +17,7 @@ use Rattle.fy_base.specs.declared.data.Place.{Place}
 use Rattle.fy_image.specs.Ranges.{IsPlace, IsImage}
 use Rattle.rv_machine.specs.Words.{Block, block_words, code_of, put_block}
 use Rattle.fy_phrase.specs.Tree.{Tree, lit, binary, skip, seq, put}
-use Rattle.fy_tool.specs.Small.{AreTokens, ends, blank, token, next_piece, number_piece, symbol_piece, is_blank, value_from, place_behind, place_after, first_place, IsSum, done, more, IsStatement, skips, puts, AreStatements, last, onward, IsSequence, one, halves, IsProgram}
+use Rattle.fy_tool.specs.Small.{AreTokens, ends, blank, token, next_piece, symbol_piece, is_blank, value_from, place_behind, place_after, first_place, IsSum, done, more, IsStatement, skips, puts, AreStatements, last, onward, IsSequence, one, halves}
 use Rattle.fy_tool.specs.Said.{Said, last_block, places_of, image_of, IsAddition, IsCommand, puts_of, said, said_then, said_value, value_of, added}
 use Rattle.fy_tool.specs.declared.small.tokens.Token.{Token}
 use Rattle.fy_tool.specs.declared.small.tokens.Token.TheVariants.{Skip, PutInt, Open, Close, Plus, Semicolon, Number}

@@ -1,5 +1,5 @@
 -- The run of a phrase's image: it stops where and as the copy rule does.
-use Rattle.std.proofs.Common.{◌≡◌, ◌≢◌, ℕ, ◌+◌, ◌-◌, ◌*◌, ◌<◌, ◌≤◌, [], ◌∷◌, ◌++◌, length, map, sym, ap, ◌∙◌, refl, subst, arith, inl, inr, Some, None, All}
+use Rattle.std.proofs.Common.{◌≡◌, ◌≢◌, ℕ, ◌+◌, ◌*◌, ◌<◌, ◌≤◌, [], length, sym, ap, ◌∙◌, refl, arith, inl, inr, Some, None, All}
 use Rattle.std.proofs.lemmas.Bool.{cases_lt}
 use Rattle.std.specs.declared.option.Option.{Option}
 use Rattle.fy_base.specs.Outside.{Bytes}
@@ -10,11 +10,10 @@ use Rattle.fy_base.specs.declared.data.FaultKind.TheVariants.{Overflow}
 use Rattle.fy_base.specs.declared.data.Ending.{Ending}
 use Rattle.fy_base.specs.declared.data.Ending.TheVariants as ends
 use Rattle.fy_phrase.specs.Tree.{Tree}
-use Rattle.fy_phrase.specs.Bounds.{copy_bound}
-use Rattle.fy_phrase.specs.Copy.{Standing, copy_after}
+use Rattle.fy_phrase.specs.Copy.{Standing}
 use Rattle.fy_image.specs.declared.image.Image.{Image}
 use Rattle.rv_machine.specs.Step.{Program}
-use Rattle.rv_machine.specs.Start.{program_of, start_of, machine_after}
+use Rattle.rv_machine.specs.Start.{program_of, start_of}
 use Rattle.rv_machine.specs.Run.{World, going_world, run}
 use Rattle.rv_machine.specs.Ends.{StandsAt, EndsSo, IsSpent, IsMachineEnd}
 use Rattle.rv_machine.specs.declared.event.Event.{Event}
@@ -23,7 +22,7 @@ use Rattle.rv_machine.proofs.Blockwise.{Stops, stops_ended, stops_overflow, star
 use Rattle.fy_tool.specs.Said.{Said, said, image_saying, image_of, IsCommand, puts_of}
 use Rattle.fy_tool.specs.Due.{run_limit, SameEnd, EndsAsCopyRule}
 use Rattle.fy_tool.proofs.Programs.{text_is}
-use Rattle.fy_tool.proofs.CopyRuns.{IsOverAt, standing_said, over_within}
+use Rattle.fy_tool.proofs.CopyRuns.{standing_said, over_within}
 
 abbrev pub event_said : Option Place → Event
 event_said None = events.Ended

@@ -1,5 +1,5 @@
 -- Sequences of statements, halved.
-use Rattle.std.proofs.Common.{◌≡◌, ℕ, ◌+◌, ◌-◌, ◌/◌, ◌≤◌, List, [], ◌∷◌, ◌++◌, length, map, sym, ap, ◌∙◌, refl, subst, arith, append_assoc, length-append, Some, option_to_list}
+use Rattle.std.proofs.Common.{◌≡◌, ℕ, ◌-◌, ◌/◌, ◌≤◌, List, [], ◌∷◌, ◌++◌, length, map, sym, ap, ◌∙◌, refl, subst, arith, append_assoc, length-append, Some, option_to_list}
 use Rattle.std.specs.declared.option.Option.{Option}
 use Rattle.fy_phrase.specs.Tree.{Tree, seq}
 use Rattle.fy_phrase.specs.Reads.{reads}

@@ -1,9 +1,9 @@
 -- From the parts of a command's work to what is due for the words.
-use Rattle.std.proofs.Common.{◌≡◌, ℕ, [], ◌∷◌, sym, ap, ◌∙◌, refl, subst, Some, None}
+use Rattle.std.proofs.Common.{◌≡◌, ℕ, [], ◌∷◌, sym, refl, subst, Some, None}
 use Rattle.std.specs.Prelude.{IfOk, IfErr, IsSome}
 use Rattle.std.specs.declared.option.Option.{Option}
 use Rattle.std.specs.declared.result.Result.{Result}
-use Rattle.std.specs.declared.result.Result.TheVariants.{Ok, Err}
+use Rattle.std.specs.declared.result.Result.TheVariants.{Err}
 use Rattle.fy_base.specs.Outside.{Bytes, Tells}
 use Rattle.fy_phrase.specs.Tree.{Tree}
 use Rattle.fy_tool.specs.World.{Contents, Counts, Later}
@@ -11,11 +11,11 @@ use Rattle.fy_tool.specs.Said.{image_of}
 use Rattle.fy_tool.specs.Order.{Order, run}
 use Rattle.fy_tool.specs.Due.{Due, told, IsRefused, IsDue, usage, stopped, refused, runs, ran, file_of}
 use Rattle.fy_tool.specs.Answers.{Caused, Did, IsOwn, Serves}
-use Rattle.fy_tool.specs.Working.{IsProgramOf, Worked, Works}
+use Rattle.fy_tool.specs.Working.{IsProgramOf, Works}
 use Rattle.fy_tool.specs.declared.note.Note.TheVariants as note
 use Rattle.fy_tool.specs.declared.world.Stop.{Stop}
 use Rattle.fy_tool.proofs.Contents.{later_more}
-use Rattle.fy_tool.proofs.Parts.{content_of, part_none, keeps_more, if_caused_more}
+use Rattle.fy_tool.proofs.Parts.{content_of, part_none, if_caused_more}
 use Rattle.fy_tool.proofs.Programs.{image_is}
 
 -- words that are no command

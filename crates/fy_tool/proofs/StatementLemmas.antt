@@ -1,8 +1,6 @@
 -- What stands at a token decides what may be read there.
-use Rattle.std.proofs.Common.{◌≡◌, ◌≢◌, ℤ, ℕ, zero, suc, ◌+◌, ◌<◌, ◌≤◌, List, [], ◌∷◌, ◌++◌, length, map, slice_get, sym, ap, ◌∙◌, refl, subst, arith, Some, None, append_assoc}
-use Rattle.std.specs.Prelude.{IsSomeAnd}
+use Rattle.std.proofs.Common.{◌≡◌, ℤ, ℕ, zero, suc, ◌+◌, ◌<◌, ◌≤◌, List, [], ◌∷◌, ◌++◌, length, map, slice_get, sym, ap, ◌∙◌, refl, subst, arith, Some, None, append_assoc}
 use Rattle.std.specs.declared.option.Option.{Option}
-use Rattle.std.proofs.lemmas.List.{append-nil}
 use Rattle.fy_base.specs.declared.data.Place.{Place}
 use Rattle.fy_base.specs.declared.data.Datum.TheVariants as datum
 use Rattle.fy_base.specs.declared.data.PutKind.TheVariants as kind
@@ -10,9 +8,9 @@ use Rattle.fy_phrase.specs.Tree.{Tree, lit, skip, put}
 use Rattle.fy_phrase.specs.Reads.{reads}
 use Rattle.fy_phrase.specs.declared.phrase.Phrase.{Phrase}
 use Rattle.fy_tool.specs.Small.{IsSum, done, more, IsStatement, skips, puts, AreStatements, last, onward}
-use Rattle.fy_tool.specs.Reading.{with_addend, AddendAt, NoAddendAt, Found, IsFound, OpenedAt, NoneOpenedAt, NoneClosedAt, IsSumTo, IsStatementTo}
+use Rattle.fy_tool.specs.Reading.{with_addend, AddendAt, NoAddendAt, Found, OpenedAt, NoneOpenedAt, NoneClosedAt, IsSumTo, IsStatementTo}
 use Rattle.fy_tool.specs.declared.small.tokens.Token.{Token}
-use Rattle.fy_tool.specs.declared.small.tokens.Token.TheVariants.{Skip, PutInt, Open, Close, Plus, Semicolon, Number}
+use Rattle.fy_tool.specs.declared.small.tokens.Token.TheVariants.{Skip, PutInt, Open, Close, Semicolon, Number}
 use Rattle.fy_tool.specs.declared.small.statements.Addend.{Addend}
 use Rattle.fy_tool.specs.declared.small.statements.Opened.{Opened}
 

@@ -5,7 +5,6 @@ use Rattle.fy_base.specs.Outside.{Bytes}
 use Rattle.fy_base.specs.declared.data.Place.{Place}
 use Rattle.fy_tool.specs.Small.{AreTokens, ends, blank, token, next_piece, place_behind, place_after, first_place}
 use Rattle.fy_tool.specs.declared.small.tokens.Token.{Token}
-use Rattle.fy_tool.specs.declared.small.tokens.Piece.{Piece}
 use Rattle.fy_tool.specs.declared.small.tokens.Piece.TheVariants as piece
 
 -- the tokens from a place on, after the end

@@ -1,5 +1,5 @@
 -- What the words ask for.
-use Rattle.std.specs.Prelude.{ℕ, ◌==◌, ◌&&◌, not, Bool, if◌then◌else◌, List, [], ◌∷◌, length, take, Some, None, codes}
+use Rattle.std.specs.Prelude.{◌&&◌, not, Bool, if◌then◌else◌, List, [], ◌∷◌, take, Some, None, codes}
 use Rattle.std.specs.declared.option.Option.{Option}
 use Rattle.std.specs.Str.{bytes_eq}
 use Rattle.fy_base.specs.Outside.{Bytes}

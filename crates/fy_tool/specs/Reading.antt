@@ -1,16 +1,15 @@
 -- What the reader of the small texts finds: what the grammar has there, and nothing else.
-use Rattle.std.specs.Prelude.{◌≡◌, ◌≢◌, ℕ, ◌+◌, ◌≤◌, ℤ, List, [], ◌∷◌, ◌++◌, length, map, slice_get, Some, MatchOption, IfSome, IsSomeAnd}
+use Rattle.std.specs.Prelude.{◌≡◌, ℕ, ◌+◌, ◌≤◌, ℤ, List, length, slice_get, Some, IfSome, IsSomeAnd}
 use Rattle.std.specs.declared.option.Option.{Option}
 use Rattle.fy_base.specs.declared.data.Place.{Place}
 use Rattle.fy_base.specs.declared.data.Datum.TheVariants as datum
 use Rattle.fy_base.specs.declared.data.BinOp.TheVariants.{Add}
-use Rattle.fy_base.specs.declared.data.PutKind.TheVariants as kind
-use Rattle.fy_phrase.specs.Tree.{Tree, lit, binary, put}
+use Rattle.fy_phrase.specs.Tree.{Tree, lit, binary}
 use Rattle.fy_phrase.specs.Reads.{reads}
 use Rattle.fy_phrase.specs.declared.phrase.Phrase.{Phrase}
-use Rattle.fy_tool.specs.Small.{IsSum, IsStatement, AreStatements}
+use Rattle.fy_tool.specs.Small.{IsSum, IsStatement}
 use Rattle.fy_tool.specs.declared.small.tokens.Token.{Token}
-use Rattle.fy_tool.specs.declared.small.tokens.Token.TheVariants.{Skip, PutInt, Open, Close, Plus, Semicolon, Number}
+use Rattle.fy_tool.specs.declared.small.tokens.Token.TheVariants.{Open, Close, Plus, Semicolon, Number}
 use Rattle.fy_tool.specs.declared.small.statements.Addend.{Addend}
 use Rattle.fy_tool.specs.declared.small.statements.Opened.{Opened}
 

@@ -9,7 +9,7 @@ use Rattle.fy_phrase.specs.declared.phrase.Phrase.{Phrase}
 use Rattle.fy_tool.specs.World.{Contents}
 use Rattle.fy_tool.specs.Small.{IsProgram}
 use Rattle.fy_tool.specs.Said.{IsCommand, puts_of, image_of}
-use Rattle.fy_tool.specs.Due.{Due, IsRefused, EndsAsCopyRule, ran}
+use Rattle.fy_tool.specs.Due.{IsRefused, EndsAsCopyRule, ran}
 use Rattle.fy_tool.specs.Answers.{Did}
 use Rattle.fy_tool.specs.declared.world.Stop.{Stop}
 

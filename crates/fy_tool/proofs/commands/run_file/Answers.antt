@@ -1,7 +1,4 @@
-use Rattle.std.proofs.Common.{sym, subst, Some}
-use Rattle.std.specs.Prelude.{Option}
 use Rattle.fy_phrase.specs.Reads.{reads}
-use Rattle.fy_tool.specs.Order.{order_of}
 use Rattle.fy_tool.proofs.Serving.{serves_stopped, serves_refused, serves_program}
 use Rattle.fy_tool.proofs.commands.run_file.Goals as goal
 

@@ -1,5 +1,4 @@
-use Rattle.std.proofs.Common.{◌≡◌, ◌≤◌, ◌∙◌, List, ap, sym, arith, subst, length, Some}
-use Rattle.std.specs.Prelude.{IfSome}
+use Rattle.std.proofs.Common.{arith}
 use Rattle.fy_phrase.specs.Reads.{reads}
 use Rattle.fy_tool.proofs.Programs.{phrase_is}
 use Rattle.fy_tool.proofs.small.program_of.Goals as goal

@@ -1,8 +1,7 @@
-use Rattle.std.proofs.Common.{◌≡◌, ◌<◌, ◌≤◌, ◌+◌, ◌∷◌, [], ◌++◌, List, length, map, sym, ap, ◌∙◌, arith, subst, Some}
+use Rattle.std.proofs.Common.{◌≡◌, ◌<◌, ◌+◌, ◌∷◌, [], ◌++◌, List, length, map, sym, ap, ◌∙◌, arith, subst}
 use Rattle.std.specs.declared.option.Option.{Option}
 use Rattle.fy_phrase.specs.Tree.{Tree}
 use Rattle.fy_phrase.specs.Reads.{reads}
-use Rattle.fy_phrase.specs.declared.phrase.Phrase.{Phrase}
 use Rattle.fy_tool.specs.Small.{AreStatements}
 use Rattle.fy_tool.specs.Reading.{Found, IsStatementTo}
 use Rattle.fy_tool.proofs.StatementLemmas.{StatedTo, stated_bad, stated_last, stated_more, reads_more, past_end, before_end}

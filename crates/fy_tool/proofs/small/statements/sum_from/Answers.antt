@@ -1,7 +1,7 @@
 use Rattle.std.proofs.Common.{◌+◌, sym, arith, subst}
 use Rattle.fy_phrase.specs.Reads.{reads}
 use Rattle.fy_phrase.specs.Tree.{Tree}
-use Rattle.fy_tool.proofs.StatementLemmas.{SumFrom, sum_more, sum_stop, sum_long}
+use Rattle.fy_tool.proofs.StatementLemmas.{SumFrom, sum_more, sum_stop}
 use Rattle.fy_tool.proofs.small.statements.sum_from.Goals as goal
 
 pub loop-addend-preserved : goal.loop-addend-preserved

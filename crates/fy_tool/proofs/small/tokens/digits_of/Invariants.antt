@@ -1,4 +1,4 @@
-use Rattle.std.proofs.Common.{◌≡◌, ◌≤◌, ◌++◌, take, drop, length, take_while}
+use Rattle.std.proofs.Common.{◌≡◌, ◌++◌, take, drop, take_while}
 use Rattle.std.specs.Char.{is_ascii_digit}
 use Rattle.fy_tool.proofs.small.tokens.digits_of.Given as goal
 

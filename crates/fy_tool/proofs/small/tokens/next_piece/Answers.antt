@@ -1,4 +1,4 @@
-use Rattle.std.proofs.Common.{ap, ◌∙◌, subst, sym, ◌<◌, length, slice_index_or, take_while, List, ℕ, IsTrue}
+use Rattle.std.proofs.Common.{subst, sym, ◌<◌, length, slice_index_or, List, ℕ, IsTrue}
 use Rattle.std.specs.Char.{is_ascii_digit}
 use Rattle.fy_tool.proofs.Numbers.{taken_pass}
 use Rattle.fy_tool.proofs.small.tokens.next_piece.Goals as goal

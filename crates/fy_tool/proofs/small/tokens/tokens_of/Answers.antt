@@ -1,8 +1,8 @@
-use Rattle.std.proofs.Common.{◌≡◌, ◌≤◌, ◌+◌, ◌∙◌, ap, sym, drop, length, arith, List, ◌∷◌, [], ◌++◌, slice_index, subst, length-append}
+use Rattle.std.proofs.Common.{◌≡◌, ◌≤◌, ◌+◌, ◌∙◌, sym, length, arith, List, ◌∷◌, [], ◌++◌, slice_index, subst, length-append}
 use Rattle.fy_base.specs.declared.data.Place.{Place}
-use Rattle.fy_tool.specs.Small.{place_behind, place_after}
+use Rattle.fy_tool.specs.Small.{place_after}
 use Rattle.fy_tool.specs.declared.small.tokens.Token.{Token}
-use Rattle.fy_tool.proofs.TokenLemmas.{ReadTo, read_none, read_blank, read_token, read_all, read_only, read_bad, behind_near}
+use Rattle.fy_tool.proofs.TokenLemmas.{ReadTo, read_blank, read_token, read_all, read_only, read_bad, behind_near}
 use Rattle.fy_tool.proofs.small.tokens.tokens_of.Goals as goal
 
 pub returns-in-End-clause-found : goal.returns-in-End-clause-found
