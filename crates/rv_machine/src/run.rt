@@ -7,12 +7,12 @@ ghost use Rattle.fy_base.specs.Outside.{Bytes, HasCause, Rose};
 ghost use Rattle.rv_machine.specs.Ends.{IsMachineEnd, RunsTo, status_at, status_by};
 ghost use Rattle.rv_machine.specs.Run.{World, going_world};
 ghost use Rattle.rv_machine.specs.Turn.{Shows, Turned};
-ghost use Rattle.rv_machine.specs.declared.event.Event.TheVariants.{Going};
-ghost use Rattle.rv_machine.specs.declared.event.Status.TheVariants.{Running};
+ghost use Rattle.rv_insn.specs.declared.events.Event.TheVariants.{Going};
+ghost use Rattle.rv_insn.specs.declared.events.Status.TheVariants.{Running};
 
-use crate::event::Event;
 use crate::machine::Machine;
 use fy_base::{Ending, Failed, Sink, Source};
+use rv_insn::Event;
 
 /// How a run ended, and how many instructions were executed. The last one counts, also where it
 /// trapped, or where its read or its put failed.
