@@ -1,5 +1,5 @@
 -- From the parts of a command's work to what is due for the words.
-use Rattle.std.proofs.Common.{◌≡◌, ℕ, [], ◌∷◌, sym, refl, subst, Some, None}
+use Rattle.std.proofs.Common.{◌≡◌, ℕ, [], ◌∷◌, sym, refl, subst, Some, None, inl, inr}
 use Rattle.std.specs.Prelude.{IfOk, IfErr, IsSome}
 use Rattle.std.specs.declared.option.Option.{Option}
 use Rattle.std.specs.declared.result.Result.{Result}
@@ -14,6 +14,7 @@ use Rattle.fy_tool.specs.Answers.{Caused, Did, IsOwn, Serves}
 use Rattle.fy_tool.specs.Working.{IsProgramOf, Works}
 use Rattle.fy_tool.specs.declared.note.Note.TheVariants as note
 use Rattle.fy_tool.specs.declared.world.Stop.{Stop}
+use Rattle.fy_tool.specs.declared.world.Stop.TheVariants.{Memory}
 use Rattle.fy_tool.proofs.Contents.{later_more}
 use Rattle.fy_tool.proofs.Parts.{content_of, part_none, if_caused_more}
 use Rattle.fy_tool.proofs.Programs.{image_is}
@@ -54,6 +55,12 @@ serves_refused file text b c d k k1 k2 result same l m held why own cause did = 
   did = λ _. subst (λ (c : Contents). Did (told 2 (note.Unbuilt ∷ []) c.input) c d result) same did;
 }
 
+-- memory was wanting, and nothing was done
+did_none : (due : Due) (b d : Contents) (result : Result ℕ Stop) → result ≡ Err Memory → d ≡ b → Did due b d result
+did_none due b d result memory same =
+    let none : Did due b d (Err Memory) = subst (λ (c : Contents). Did due b c (Err Memory)) (sym same) (part_none due b Memory) in
+    subst (λ (r : Result ℕ Stop). Did due b d r) (sym memory) none
+
 -- the due of a program, by what is told of the input
 record Runs (file text : Bytes) (b d : Contents) (input : Option Bytes) (result : Result ℕ Stop) : Type 0 where
   due : Due
@@ -62,11 +69,18 @@ record Runs (file text : Bytes) (b d : Contents) (input : Option Bytes) (result 
 
 runs_told : (file text : Bytes) (p : Tree) (b d : Contents) (result : Result ℕ Stop) (input : Option Bytes) → b.input ≡ input → IsProgramOf text p → Works p b d result → Runs file text b d input result
 runs_told file text p b d result None is program works = record { due = told 7 [] None; is_due = λ some. absurd (cc); did = λ some. absurd (cc) }
-runs_told file text p b d result (Some left) is program works =
+runs_told file text p b d result (Some left) is program (inl unbegun) =
+    let due = told 7 [] (Some left) in
+    record {
+      due = due;
+      is_due = λ _. stopped (run file) (Some text) (Some left);
+      did = λ _. did_none due b d result unbegun.memory unbegun.same;
+    }
+runs_told file text p b d result (Some left) is program (inr works) =
     let w = works left is in
     record {
-      due = ran (image_of p) left w.n w.end (Some left);
-      is_due = λ _. runs file text (Some left) p (image_of p) w.n w.end program.short program.program (image_is p program.command program.few) w.ends;
+      due = ran w.program (image_of p) left w.n w.end (Some left);
+      is_due = λ _. runs file text (Some left) p (image_of p) w.program w.n w.end program.short program.program (image_is p program.command program.few) w.ends;
       did = λ _. w.did;
     }
 

@@ -8,7 +8,8 @@ use Rattle.fy_phrase.specs.Copy.{Standing, ended, faulted, copy_after}
 use Rattle.fy_phrase.specs.Bounds.{copy_bound}
 use Rattle.fy_image.specs.Ranges.{IsImage}
 use Rattle.fy_image.specs.declared.image.Image.{Image}
-use Rattle.rv_machine.specs.Start.{program_of, start_of, machine_after}
+use Rattle.rv_insn.specs.Program.{Program}
+use Rattle.rv_machine.specs.Start.{IsProgramOf, start_of, machine_after}
 use Rattle.rv_machine.specs.Run.{going_world}
 use Rattle.rv_machine.specs.Ends.{EndsSo}
 use Rattle.fy_base.specs.declared.data.Ending.{Ending}
@@ -45,11 +46,12 @@ SameEnd _ standing = ⊥
 
 -- the image's run ends so after n instructions, and the copy rule has ended so, has written the same and has left the same at
 -- input, within the steps that n instructions stand for
-pub record EndsAsCopyRule (p : Tree) (image : Image) (input : Bytes) (n : ℕ) (end : Ending) : Type 0 where
-  pub ends_so : EndsSo end (program_of image) (going_world (start_of image) input) n run_limit
+pub record EndsAsCopyRule (p : Tree) (image : Image) (program : Program) (input : Bytes) (n : ℕ) (end : Ending) : Type 0 where
+  pub is_the_images : IsProgramOf image program
+  pub ends_so : EndsSo end program (going_world (start_of image) input) n run_limit
   pub end_is_the_copy_rules : SameEnd end (copy_after p input (copy_bound p n)).standing
-  pub output_is_the_copy_rules : (machine_after image input n).output ≡ (copy_after p input (copy_bound p n)).output
-  pub rest_is_the_copy_rules : (machine_after image input n).input ≡ (copy_after p input (copy_bound p n)).input
+  pub output_is_the_copy_rules : (machine_after program image input n).output ≡ (copy_after p input (copy_bound p n)).output
+  pub rest_is_the_copy_rules : (machine_after program image input n).input ≡ (copy_after p input (copy_bound p n)).input
 
 -- the status and the note of a run's end
 abbrev pub status_of : Ending → ℕ
@@ -67,13 +69,13 @@ note_of (ends.Trap kind) = Some (note.Trapped kind)
 note_of _ = None
 
 -- what a run of so many instructions that ended so has to show
-abbrev pub ran : Image → Bytes → ℕ → Ending → Option Bytes → Due
-ran image left n end input = record {
+abbrev pub ran : Program → Image → Bytes → ℕ → Ending → Option Bytes → Due
+ran program image left n end input = record {
   status = status_of end;
-  output = (machine_after image left n).output;
+  output = (machine_after program image left n).output;
   notes = option_to_list (note_of end) ++ note.Instructions n ∷ [];
   kept = None;
-  input = option_map (λ _. (machine_after image left n).input) input;
+  input = option_map (λ _. (machine_after program image left n).input) input;
 }
 
 -- what is due for the words, by the content of the file that they name, if it has one, and the input
@@ -85,8 +87,8 @@ pub data IsDue : Option Order → Option Bytes → Option Bytes → Due → Type
   -- `run` of a text that is refused
   refused : (file text : Bytes) (input : Option Bytes) → IsRefused text → IsDue (Some (run file)) (Some text) input (told 2 (note.Unbuilt ∷ []) input)
   -- `run` of a program
-  runs : (file text : Bytes) (input : Option Bytes) (p : Tree) (image : Image) (n : ℕ) (end : Ending) → length text ≤ 4096 → IsProgram text p → IsImage image
-      → EndsAsCopyRule p image (unwrap_or input []) n end → IsDue (Some (run file)) (Some text) input (ran image (unwrap_or input []) n end input)
+  runs : (file text : Bytes) (input : Option Bytes) (p : Tree) (image : Image) (program : Program) (n : ℕ) (end : Ending) → length text ≤ 4096 → IsProgram text p → IsImage image
+      → EndsAsCopyRule p image program (unwrap_or input []) n end → IsDue (Some (run file)) (Some text) input (ran program image (unwrap_or input []) n end input)
 
 -- the files that an order reads and those that it keeps
 abbrev pub file_of : Order → Bytes

@@ -6,8 +6,8 @@ ghost use Rattle.fy_phrase.specs.Reads.{reads};
 ghost use Rattle.fy_tool.specs.World.{Later};
 ghost use Rattle.fy_tool.specs.Note.{lines};
 ghost use Rattle.fy_tool.specs.Said.{IsCommand, puts_of, image_of};
-ghost use Rattle.rv_machine.specs.Start.{program_of, start_of};
-ghost use Rattle.rv_machine.specs.declared.event.Status.TheVariants.{Running};
+ghost use Rattle.rv_machine.specs.Start.{IsProgramOf, start_of};
+ghost use Rattle.rv_insn.specs.declared.events.Status.TheVariants.{Running};
 ghost use Rattle.fy_tool.specs.Order.{order_of, run};
 ghost use Rattle.fy_tool.specs.Due.{told, status_of, note_of};
 ghost use Rattle.fy_tool.specs.Answers.{Caused, Did, IsOwn, Serves, Concludes};
@@ -90,7 +90,8 @@ fn source<W: World>(alloc: Global, file: &str, world: &mut W) -> Result<Option<P
 fn load(alloc: Global, p: &Phrase) -> Result<Machine, Stop>
     requires command { IsCommand (reads p.now) }
     requires few { puts_of (reads p.now) ≤ 4096 }
-    ensures start { IfOk result (λ m. m ≡ record { program = program_of (image_of (reads p.now)); core = start_of (image_of (reads p.now)) }) }
+    ensures program { IfOk result (λ m. IsProgramOf (image_of (reads p.now)) m.program) }
+    ensures start { IfOk result (λ m. m.core ≡ start_of (image_of (reads p.now))) }
     ensures running { IfOk result (λ m. m.core.status ≡ Running) }
     ensures memory { IfErr result (λ stop. stop ≡ Stop.Memory) }
 {

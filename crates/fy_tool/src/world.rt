@@ -6,7 +6,7 @@ ghost use Rattle.std.specs.Borrow.{GName};
 ghost use Rattle.fy_base.specs.Outside.{Rose, GainedPart, Tells, IsLong, appended};
 ghost use Rattle.rv_machine.specs.Run.{going_world};
 ghost use Rattle.rv_machine.specs.Ends.{RunsTo, IsMachineEnd};
-ghost use Rattle.rv_machine.specs.declared.event.Status.TheVariants.{Running};
+ghost use Rattle.rv_insn.specs.declared.events.Status.TheVariants.{Running};
 ghost use Rattle.fy_tool.specs.World.{Contents, Counts, Later};
 
 use fy_base::{Ending, FetchError, Files, Sink, Source};

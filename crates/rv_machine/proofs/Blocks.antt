@@ -3,15 +3,16 @@ use Rattle.std.proofs.Common.{◌≡◌, ℕ, zero, suc, ◌+◌, ◌*◌, ◌%�
 use Rattle.std.proofs.lemmas.List.{length-set, get_or-set_same, get_or-set_other}
 use Rattle.fy_base.specs.declared.data.Place.{Place}
 use Rattle.fy_base.specs.declared.data.FaultKind.TheVariants.{Overflow}
-use Rattle.rv_machine.specs.Step.{Program}
+use Rattle.rv_insn.specs.Program.{Program, AreRead}
 use Rattle.rv_machine.specs.Run.{World, run, tick}
 use Rattle.rv_machine.specs.Words.{Block, addi_word, ecall_word}
-use Rattle.rv_machine.specs.declared.event.Event.TheVariants.{Going, Ended, Fault}
+use Rattle.rv_insn.specs.declared.events.Event.TheVariants.{Going, Ended, Fault}
 use Rattle.rv_machine.proofs.Runs.{run_none}
 use Rattle.rv_machine.proofs.Straight.{tick_addi, tick_put, tick_end, tick_overflow}
 
--- the words of a block stand as block number k of the code, and its numbers fit their immediates
+-- the code is read, the words of a block stand as block number k of the code, and its numbers fit their immediates
 pub record HasBlock (program : Program) (k : ℕ) (block : Block) : Type 0 where
+  pub read : AreRead program.words program.instructions
   pub word_0 : slice_get program.words (4 * k) ≡ Some (addi_word 10 0 block.first)
   pub word_1 : slice_get program.words (4 * k + 1) ≡ Some (addi_word 11 0 block.second)
   pub word_2 : slice_get program.words (4 * k + 2) ≡ Some (addi_word 17 0 block.service)
@@ -20,11 +21,12 @@ pub record HasBlock (program : Program) (k : ℕ) (block : Block) : Type 0 where
   pub second_fits : block.second < 2048
   pub service_fits : block.service < 2048
 
--- a world that goes on and comes to block number k
+-- a world that goes on and comes to block number k, with x0 as it is
 pub record AtBlock (world : World) (k : ℕ) : Type 0 where
   pub goes : world.ending ≡ Going
   pub pc_is : world.core.pc ≡ 65536 + 16 * k
   pub regs_are : length world.core.regs ≡ 32
+  pub zero_is : slice_index world.core.regs 0 ≡ 0
 
 -- the world after an `addi` to a register
 abbrev pub loads : World → ℕ → ℕ → World
@@ -34,22 +36,26 @@ loads world rd value = record world { core = record (world.core) { regs = slice_
 abbrev pub loaded : World → Block → World
 loaded world block = loads (loads (loads world 10 block.first) 11 block.second) 17 block.service
 
+-- x0 stays where another register takes a value
+kept_0 : (regs : List ℕ) (rd value : ℕ) → 0 < rd → slice_index regs 0 ≡ 0 → slice_index (slice_set regs rd value) 0 ≡ 0
+kept_0 regs rd value some none = get_or-set_other regs rd 0 value 0 (λ e. omega arith) ∙ none
+
 -- the first three instructions of a block
 pub block_1 : (program : Program) (world : World) (k : ℕ) (block : Block) → HasBlock program k block → AtBlock world k → run program 1 world ≡ loads world 10 block.first
 unfolding run
-block_1 program world k block has at = tick_addi program world (4 * k) 10 block.first at.goes has.word_0 (omega (arith, at.pc_is)) (omega arith) (omega arith) has.first_fits
+block_1 program world k block has at = tick_addi program world (4 * k) 10 block.first has.read at.goes has.word_0 (omega (arith, at.pc_is)) at.zero_is (omega arith) (omega arith) has.first_fits
 
 pub block_2 : (program : Program) (world : World) (k : ℕ) (block : Block) → HasBlock program k block → AtBlock world k → run program 2 world ≡ loads (loads world 10 block.first) 11 block.second
 unfolding run
 block_2 program world k block has at =
     ap (λ w. tick program w) (block_1 program world k block has at)
-    ∙ tick_addi program (loads world 10 block.first) (4 * k + 1) 11 block.second at.goes has.word_1 (omega (arith, at.pc_is)) (omega arith) (omega arith) has.second_fits
+    ∙ tick_addi program (loads world 10 block.first) (4 * k + 1) 11 block.second has.read at.goes has.word_1 (omega (arith, at.pc_is)) (kept_0 world.core.regs 10 block.first (omega arith) at.zero_is) (omega arith) (omega arith) has.second_fits
 
 pub block_3 : (program : Program) (world : World) (k : ℕ) (block : Block) → HasBlock program k block → AtBlock world k → run program 3 world ≡ loaded world block
 unfolding run
 block_3 program world k block has at =
     ap (λ w. tick program w) (block_2 program world k block has at)
-    ∙ tick_addi program (loads (loads world 10 block.first) 11 block.second) (4 * k + 2) 17 block.service at.goes has.word_2 (omega (arith, at.pc_is)) (omega arith) (omega arith) has.service_fits
+    ∙ tick_addi program (loads (loads world 10 block.first) 11 block.second) (4 * k + 2) 17 block.service has.read at.goes has.word_2 (omega (arith, at.pc_is)) (kept_0 (slice_set world.core.regs 10 block.first) 11 block.second (omega arith) (kept_0 world.core.regs 10 block.first (omega arith) at.zero_is)) (omega arith) (omega arith) has.service_fits
 
 -- a block goes on before its service
 pub block_goes : (program : Program) (world : World) (k : ℕ) (block : Block) → HasBlock program k block → AtBlock world k → (j : ℕ) → j < 4 → (run program j world).ending ≡ Going
@@ -68,19 +74,19 @@ block_holds program world k block has at (suc (suc (suc zero))) lt = ap (λ w. w
 block_holds program world k block has at (suc (suc (suc (suc j)))) lt = absurd (omega arith)
 
 -- what the service reads
-abbrev pub three : List ℕ → ℕ → ℕ → ℕ → List ℕ
+abbrev three : List ℕ → ℕ → ℕ → ℕ → List ℕ
 three regs first second service = slice_set (slice_set (slice_set regs 10 first) 11 second) 17 service
 
-pub reads_10 : (regs : List ℕ) (first second service : ℕ) → length regs ≡ 32 → slice_index (three regs first second service) 10 ≡ first
+reads_10 : (regs : List ℕ) (first second service : ℕ) → length regs ≡ 32 → slice_index (three regs first second service) 10 ≡ first
 reads_10 regs first second service long =
     get_or-set_other (slice_set (slice_set regs 10 first) 11 second) 17 10 service 0 (λ e. omega arith) ∙ get_or-set_other (slice_set regs 10 first) 11 10 second 0 (λ e. omega arith)
     ∙ get_or-set_same regs 10 first 0 (omega arith)
 
-pub reads_11 : (regs : List ℕ) (first second service : ℕ) → length regs ≡ 32 → slice_index (three regs first second service) 11 ≡ second
+reads_11 : (regs : List ℕ) (first second service : ℕ) → length regs ≡ 32 → slice_index (three regs first second service) 11 ≡ second
 reads_11 regs first second service long =
     get_or-set_other (slice_set (slice_set regs 10 first) 11 second) 17 11 service 0 (λ e. omega arith) ∙ get_or-set_same (slice_set regs 10 first) 11 second 0 (omega (arith, length-set regs 10 first))
 
-pub reads_17 : (regs : List ℕ) (first second service : ℕ) → length regs ≡ 32 → slice_index (three regs first second service) 17 ≡ service
+reads_17 : (regs : List ℕ) (first second service : ℕ) → length regs ≡ 32 → slice_index (three regs first second service) 17 ≡ service
 reads_17 regs first second service long =
     get_or-set_same (slice_set (slice_set regs 10 first) 11 second) 17 service 0 (omega (arith, length-set regs 10 first, length-set (slice_set regs 10 first) 11 second))
 
@@ -106,7 +112,7 @@ pub block_4 : (program : Program) (world : World) (k : ℕ) (block : Block) → 
 unfolding run
 block_4 program world k block puts has at =
     ap (λ w. tick program w) (block_3 program world k block has at)
-    ∙ tick_put program (loaded world block) (4 * k + 3) at.goes has.word_3 (omega (arith, at.pc_is)) (reads_17 world.core.regs block.first block.second block.service at.regs_are ∙ puts)
+    ∙ tick_put program (loaded world block) (4 * k + 3) has.read at.goes has.word_3 (omega (arith, at.pc_is)) (reads_17 world.core.regs block.first block.second block.service at.regs_are ∙ puts)
 
 pub block_puts : (program : Program) (world : World) (k : ℕ) (block : Block) → block.service ≡ 1 → HasBlock program k block → AtBlock world k → Puts program world k block.first
 block_puts program world k block puts has at =
@@ -117,6 +123,7 @@ block_puts program world k block puts has at =
         goes = ap (λ w. w.ending) there ∙ at.goes;
         pc_is = ap (λ w. w.core.pc) there ∙ omega (arith, at.pc_is);
         regs_are = ap (λ w. length w.core.regs) there ∙ three_long regs block.first block.second block.service at.regs_are;
+        zero_is = ap (λ w. slice_index w.core.regs 0) there ∙ kept_0 (slice_set (slice_set world.core.regs 10 block.first) 11 block.second) 17 block.service (omega arith) (kept_0 (slice_set world.core.regs 10 block.first) 11 block.second (omega arith) (kept_0 world.core.regs 10 block.first (omega arith) at.zero_is));
       };
       output = ap (λ w. w.output) there ∙ ap (λ b. world.output ++ (b % 256) ∷ []) (reads_10 regs block.first block.second block.service at.regs_are);
       input = ap (λ w. w.input) there;
@@ -127,7 +134,7 @@ pub block_ends : (program : Program) (world : World) (k : ℕ) (block : Block) �
 unfolding run
 block_ends program world k block ends has at =
     let there = ap (λ w. tick program w) (block_3 program world k block has at)
-    ∙ tick_end program (loaded world block) (4 * k + 3) at.goes has.word_3 (omega (arith, at.pc_is)) (reads_17 world.core.regs block.first block.second block.service at.regs_are ∙ ends) in
+    ∙ tick_end program (loaded world block) (4 * k + 3) has.read at.goes has.word_3 (omega (arith, at.pc_is)) (reads_17 world.core.regs block.first block.second block.service at.regs_are ∙ ends) in
     (ap (λ w. w.ending) there, ap (λ w. w.output) there, ap (λ w. w.input) there)
 
 -- a block that faults with an overflow at a place
@@ -137,7 +144,7 @@ unfolding run
 block_overflows program world k block place faults kind named has at =
     let regs = world.core.regs in
     let there = ap (λ w. tick program w) (block_3 program world k block has at)
-    ∙ tick_overflow program (loaded world block) (4 * k + 3) place at.goes has.word_3 (omega (arith, at.pc_is)) (reads_17 regs block.first block.second block.service at.regs_are ∙ faults)
+    ∙ tick_overflow program (loaded world block) (4 * k + 3) place has.read at.goes has.word_3 (omega (arith, at.pc_is)) (reads_17 regs block.first block.second block.service at.regs_are ∙ faults)
     (reads_10 regs block.first block.second block.service at.regs_are ∙ kind)
     (ap (λ n. slice_get program.places n) (reads_11 regs block.first block.second block.service at.regs_are) ∙ named) in
     (ap (λ w. w.ending) there, ap (λ w. w.output) there, ap (λ w. w.input) there)

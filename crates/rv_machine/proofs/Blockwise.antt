@@ -8,13 +8,13 @@ use Rattle.fy_base.specs.declared.data.Place.{Place}
 use Rattle.fy_base.specs.declared.data.FaultKind.TheVariants.{Overflow}
 use Rattle.fy_image.specs.Start.{start_memory}
 use Rattle.fy_image.specs.declared.image.Image.{Image}
-use Rattle.rv_machine.specs.Step.{Program}
+use Rattle.rv_insn.specs.Program.{Program, AreRead}
 use Rattle.rv_machine.specs.Start.{start_of}
 use Rattle.rv_machine.specs.Run.{World, going_world, run}
 use Rattle.rv_machine.specs.Ends.{IsGoingBelow, StandsAt}
 use Rattle.rv_machine.specs.Words.{Block, block_words, code_of, put_block, end_block, overflow_block}
-use Rattle.rv_machine.specs.declared.event.Event.{Event}
-use Rattle.rv_machine.specs.declared.event.Event.TheVariants.{Going, Ended, Fault}
+use Rattle.rv_insn.specs.declared.events.Event.{Event}
+use Rattle.rv_insn.specs.declared.events.Event.TheVariants.{Going, Ended, Fault}
 use Rattle.rv_machine.proofs.Runs.{run_none, run_split}
 use Rattle.rv_machine.proofs.Blocks.{HasBlock, AtBlock, block_goes, block_puts, block_ends, block_overflows}
 
@@ -38,11 +38,11 @@ block_at (x ∷ xs) (suc k) block j lt stands =
     ap (λ n. slice_get (code_of (x ∷ xs)) n) behind ∙ block_at xs k block j lt stands
 
 -- code of blocks has its block number k
-pub has_block : (program : Program) (blocks : List Block) (k : ℕ) (block : Block) → program.words ≡ code_of blocks → slice_get blocks k ≡ Some block → block.first < 2048 → block.second < 2048 → block.service < 2048 → HasBlock program k block
-has_block program blocks k block code stands f s c =
+pub has_block : (program : Program) (blocks : List Block) (k : ℕ) (block : Block) → AreRead program.words program.instructions → program.words ≡ code_of blocks → slice_get blocks k ≡ Some block → block.first < 2048 → block.second < 2048 → block.service < 2048 → HasBlock program k block
+has_block program blocks k block read code stands f s c =
     let plain : 4 * k ≡ 4 * k + 0 = omega arith in
-    let P : (j : ℕ) (w : ℕ) → Type 0 = λ j w. slice_get program.words (4 * k + j) ≡ Some w in
     record {
+      read = read;
       word_0 = ap (λ ws. slice_get ws (4 * k)) code ∙ ap (λ n. slice_get (code_of blocks) n) plain ∙ block_at blocks k block 0 (omega arith) stands;
       word_1 = ap (λ ws. slice_get ws (4 * k + 1)) code ∙ block_at blocks k block 1 (omega arith) stands;
       word_2 = ap (λ ws. slice_get ws (4 * k + 2)) code ∙ block_at blocks k block 2 (omega arith) stands;
@@ -111,15 +111,15 @@ reaches_more program world bytes k lt small has so_far =
     }
 
 -- after the first k blocks of code that begins with a block for each byte
-pub reaches : (program : Program) (world : World) (bytes : Bytes) (rest : List Block) (k : ℕ) → program.words ≡ code_of (map put_block bytes ++ rest) → All (λ b. b < 256) bytes → AtBlock world 0 → k ≤ length bytes → Reaches program world bytes k
-reaches program world bytes rest zero code small at le = reaches_none program world bytes at
-reaches program world bytes rest (suc k) code small at le =
+pub reaches : (program : Program) (world : World) (bytes : Bytes) (rest : List Block) (k : ℕ) → AreRead program.words program.instructions → program.words ≡ code_of (map put_block bytes ++ rest) → All (λ b. b < 256) bytes → AtBlock world 0 → k ≤ length bytes → Reaches program world bytes k
+reaches program world bytes rest zero read code small at le = reaches_none program world bytes at
+reaches program world bytes rest (suc k) read code small at le =
     let e : suc k ≡ k + 1 = omega arith in
     let lt : k < length bytes = omega arith in
     let byte : get_or bytes k 0 < 256 = All-get_or (λ b. b < 256) bytes k 0 lt small in
-    let has = has_block program (map put_block bytes ++ rest) k (put_block (get_or bytes k 0)) code (put_at bytes rest k lt) (omega arith) (omega arith) (omega arith) in
+    let has = has_block program (map put_block bytes ++ rest) k (put_block (get_or bytes k 0)) read code (put_at bytes rest k lt) (omega arith) (omega arith) (omega arith) in
     let P : ℕ → Type 0 = λ n. Reaches program world bytes n in
-    subst P (sym e) (reaches_more program world bytes k lt byte has (reaches program world bytes rest k code small at (omega arith)))
+    subst P (sym e) (reaches_more program world bytes k lt byte has (reaches program world bytes rest k read code small at (omega arith)))
 
 take_whole : (bytes : Bytes) → take (length bytes) bytes ≡ bytes
 take_whole [] = refl
@@ -148,20 +148,20 @@ stops program world bytes block event has reached last =
     }
 
 -- blocks that put bytes, and then a block that ends
-pub stops_ended : (program : Program) (world : World) (bytes : Bytes) (rest : List Block) → program.words ≡ code_of (map put_block bytes ++ end_block ∷ rest) → All (λ b. b < 256) bytes → AtBlock world 0 → Stops program world bytes Ended
-stops_ended program world bytes rest code small at =
-    let has = has_block program _ (length bytes) end_block code (behind_at bytes end_block rest) (omega arith) (omega arith) (omega arith) in
-    stops program world bytes end_block Ended has (reaches program world bytes (end_block ∷ rest) (length bytes) code small at (omega arith)) (block_ends program _ (length bytes) end_block refl has)
+pub stops_ended : (program : Program) (world : World) (bytes : Bytes) (rest : List Block) → AreRead program.words program.instructions → program.words ≡ code_of (map put_block bytes ++ end_block ∷ rest) → All (λ b. b < 256) bytes → AtBlock world 0 → Stops program world bytes Ended
+stops_ended program world bytes rest read code small at =
+    let has = has_block program _ (length bytes) end_block read code (behind_at bytes end_block rest) (omega arith) (omega arith) (omega arith) in
+    stops program world bytes end_block Ended has (reaches program world bytes (end_block ∷ rest) (length bytes) read code small at (omega arith)) (block_ends program _ (length bytes) end_block refl has)
 
 -- blocks that put bytes, and then a block that faults at a place
-pub stops_overflow : (program : Program) (world : World) (bytes : Bytes) (number : ℕ) (place : Place) (rest : List Block) → program.words ≡ code_of (map put_block bytes ++ overflow_block number ∷ rest) → All (λ b. b < 256) bytes → number < 2048
+pub stops_overflow : (program : Program) (world : World) (bytes : Bytes) (number : ℕ) (place : Place) (rest : List Block) → AreRead program.words program.instructions → program.words ≡ code_of (map put_block bytes ++ overflow_block number ∷ rest) → All (λ b. b < 256) bytes → number < 2048
     → slice_get program.places number ≡ Some place → AtBlock world 0 → Stops program world bytes (Fault Overflow place)
-stops_overflow program world bytes number place rest code small low named at =
-    let has = has_block program _ (length bytes) (overflow_block number) code (behind_at bytes (overflow_block number) rest) (omega arith) low (omega arith) in
-    stops program world bytes (overflow_block number) (Fault Overflow place) has (reaches program world bytes (overflow_block number ∷ rest) (length bytes) code small at (omega arith))
+stops_overflow program world bytes number place rest read code small low named at =
+    let has = has_block program _ (length bytes) (overflow_block number) read code (behind_at bytes (overflow_block number) rest) (omega arith) low (omega arith) in
+    stops program world bytes (overflow_block number) (Fault Overflow place) has (reaches program world bytes (overflow_block number ∷ rest) (length bytes) read code small at (omega arith))
     (block_overflows program _ (length bytes) (overflow_block number) place refl refl named has)
 
 -- the start of an image is at its first block
 pub start_at : (image : Image) (input : Bytes) → AtBlock (going_world (start_of image) input) 0
 unfolding start_of start_memory
-start_at image input = record { goes = refl; pc_is = refl; regs_are = refl }
+start_at image input = record { goes = refl; pc_is = refl; regs_are = refl; zero_is = refl }

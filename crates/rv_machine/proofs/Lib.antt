@@ -1,9 +1,9 @@
-pub mod Instructions
-pub mod Loading
 pub mod Runs
 pub mod Turns
+pub mod Parts
+pub mod Accesses
+pub mod Fetching
+pub mod Loading
 pub mod Straight
 pub mod Blocks
 pub mod Blockwise
-pub mod Quiet
-pub mod Agreeing

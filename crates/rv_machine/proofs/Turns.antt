@@ -6,13 +6,15 @@ use Rattle.std.specs.declared.option.Option.{Option}
 use Rattle.fy_base.specs.Outside.{Bytes, IsPrefix, Gained, GainedPart}
 use Rattle.fy_base.specs.declared.data.Ending.{Ending}
 use Rattle.fy_base.specs.declared.data.Ending.TheVariants as ends
-use Rattle.rv_machine.specs.Step.{Program, Core, instruction_step}
-use Rattle.rv_machine.specs.Run.{World, going_world, run, tick, tick_from, settle}
+use Rattle.rv_insn.specs.Program.{Program}
+use Rattle.rv_insn.specs.Step.{Core, instruction_step}
+use Rattle.rv_insn.specs.Run.{tick_from, settled}
+use Rattle.rv_machine.specs.Run.{World, going_world, run, tick}
 use Rattle.rv_machine.specs.Ends.{IsGoingBelow, StandsAt, RunsTo}
 use Rattle.rv_machine.specs.Turn.{Shows, Came, Turned}
-use Rattle.rv_machine.specs.declared.event.Event.{Event}
-use Rattle.rv_machine.specs.declared.event.Event.TheVariants as events
-use Rattle.rv_machine.proofs.Runs.{run_more, outputs_grow}
+use Rattle.rv_insn.specs.declared.events.Event.{Event}
+use Rattle.rv_insn.specs.declared.events.Event.TheVariants as events
+use Rattle.rv_machine.proofs.Runs.{run_none, run_more, outputs_grow}
 
 -- a run that goes on after n instructions, as a machine, a source and a sink show it
 pub record Reached (program : Program) (world : World) (n : ℕ) (core : Core) (left before now : Option Bytes) : Type 0 where
@@ -25,11 +27,13 @@ gained_none (Some bytes) = ap (λ b. Some b) (sym (append-nil bytes))
 
 -- before the first instruction
 pub reached_start : (program : Program) (core : Core) (input : Bytes) (left held : Option Bytes) → left ≡ Some input → Reached program (going_world core input) 0 core left held held
-unfolding run
-reached_start program core input left held told = record {
-  going = λ k lt. let first : k ≡ 0 = omega arith in ap (λ n. (run program n (going_world core input)).ending) first;
-  shows = record { core_is = refl; input_is = told; output_is = gained_none held };
-}
+reached_start program core input left held told =
+    let none : run program 0 (going_world core input) ≡ going_world core input = run_none program (going_world core input) in
+    let shows : Shows (going_world core input) core left held held = record { core_is = refl; input_is = told; output_is = gained_none held } in
+    record {
+      going = λ k lt. let first : k ≡ 0 = omega arith in ap (λ n. (run program n (going_world core input)).ending) first ∙ ap (λ w. w.ending) none;
+      shows = let P : World → Type 0 = λ w. Shows w core left held held in subst P (sym none) shows;
+    }
 
 -- below n and at n
 below_next : (program : Program) (world : World) (n : ℕ) → IsGoingBelow program world n → (run program n world).ending ≡ events.Going → IsGoingBelow program world (n + 1)
@@ -67,7 +71,7 @@ ends_by program world n limit event core left before now below lt came =
 -- a read changes no output
 ask_puts_none : (program : Program) (world : World) → world.ending ≡ events.Going → (instruction_step program world.core).event ≡ events.WantByte → (tick program world).output ≡ world.output
 ask_puts_none program world going asks =
-    ap (λ e. (tick_from e program world).output) going ∙ ap (λ e. (settle e (instruction_step program world.core).core world).output) asks
+    ap (λ e. (tick_from e program world).output) going ∙ ap (λ e. (settled e (instruction_step program world.core).core world).output) asks
 
 part_longer : (before now : Option Bytes) (short long : Bytes) → GainedPart before now short → IsPrefix short long → GainedPart before now long
 part_longer before now short long gained begins = record {

@@ -4,12 +4,13 @@ use Rattle.std.specs.declared.option.Option.{Option}
 use Rattle.fy_base.specs.Outside.{Bytes, Gained, GainedPart}
 use Rattle.fy_base.specs.declared.data.Ending.{Ending}
 use Rattle.fy_base.specs.declared.data.Ending.TheVariants as ends
-use Rattle.rv_machine.specs.Step.{Program, Core, instruction_step}
+use Rattle.rv_insn.specs.Program.{Program}
+use Rattle.rv_insn.specs.Step.{Core, instruction_step}
 use Rattle.rv_machine.specs.Run.{World, run}
-use Rattle.rv_machine.specs.declared.event.Event.{Event}
-use Rattle.rv_machine.specs.declared.event.Event.TheVariants as events
-use Rattle.rv_machine.specs.declared.event.Status.{Status}
-use Rattle.rv_machine.specs.declared.event.Status.TheVariants.{Running, Waiting, Stopped}
+use Rattle.rv_insn.specs.declared.events.Event.{Event}
+use Rattle.rv_insn.specs.declared.events.Event.TheVariants as events
+use Rattle.rv_insn.specs.declared.events.Status.{Status}
+use Rattle.rv_insn.specs.declared.events.Status.TheVariants.{Running, Waiting, Stopped}
 use Rattle.rv_machine.specs.declared.run.MachineRun.{MachineRun}
 
 -- a run goes on after each count of instructions below n

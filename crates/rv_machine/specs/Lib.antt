@@ -1,8 +1,8 @@
-pub mod Step
 pub mod Run
 pub mod Start
 pub mod State
 pub mod View
+pub mod Fetch
 pub mod Ends
 pub mod Turn
 pub mod Words

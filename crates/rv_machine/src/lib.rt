@@ -1,16 +1,19 @@
 //! The machine that runs images: RV64IM with three regions of memory and five services.
 #![tactic(auto)]
 
-mod event;
+mod forms;
 mod laws;
 mod machine;
+mod memory;
+mod operations;
 mod run;
+mod services;
 mod step;
 
-pub use event::{Event, Status};
-pub use laws::laws_of_runs;
+pub use laws::{fetch_traps_have_no_word, images_have_one_program, laws_of_runs};
 pub use machine::Machine;
 pub use run::{MachineRun, run_machine};
+pub use rv_insn::{Event, Status};
 
 #[cfg(test)]
 mod tests;

@@ -7,12 +7,12 @@ ghost use Rattle.fy_base.specs.Outside.{Bytes, HasCause, Rose};
 ghost use Rattle.rv_machine.specs.Ends.{IsMachineEnd, RunsTo, status_at, status_by};
 ghost use Rattle.rv_machine.specs.Run.{World, going_world};
 ghost use Rattle.rv_machine.specs.Turn.{Shows, Turned};
-ghost use Rattle.rv_machine.specs.declared.event.Event.TheVariants.{Going};
-ghost use Rattle.rv_machine.specs.declared.event.Status.TheVariants.{Running};
+ghost use Rattle.rv_insn.specs.declared.events.Event.TheVariants.{Going};
+ghost use Rattle.rv_insn.specs.declared.events.Status.TheVariants.{Running};
 
-use crate::event::Event;
 use crate::machine::Machine;
 use fy_base::{Ending, Failed, Sink, Source};
+use rv_insn::Event;
 
 /// How a run ended, and how many instructions were executed. The last one counts, also where it
 /// trapped, or where its read or its put failed.
@@ -42,8 +42,7 @@ fn turn<I: Source, O: Sink>(m: &mut Machine, input: &mut I, output: &mut O) -> O
     requires { m.old.core.status ≡ Running }
     ensures program { m.new.program ≡ m.old.program }
     ensures status { m.new.core.status ≡ status_by result }
-    ensures did { (world : World) (before : Option Bytes) → world.ending ≡ Going
-        → Shows world m.old.core (I.left input.old) before (O.held output.old)
+    ensures did { (world : World) (before : Option Bytes) → world.ending ≡ Going → Shows world m.old.core (I.left input.old) before (O.held output.old)
         → Turned result m.old.program world m.new.core (I.left input.new) before (O.held output.new) }
     ensures end { IfSome result IsMachineEnd }
     ensures spent { result ≡ Some Ending.Spent → ⊥ }
@@ -88,9 +87,7 @@ pub fn run_machine<I: Source, O: Sink>(
     requires { m.old.core.status ≡ Running }
     ensures program { m.new.program ≡ m.old.program }
     ensures steps { result.steps ≤ steps }
-    ensures did { ForSome (I.left input.old) (λ left.
-        RunsTo m.old.program (going_world m.old.core left) steps
-        result m.new.core (I.left input.new) (O.held output.old) (O.held output.new)) }
+    ensures did { ForSome (I.left input.old) (λ left. RunsTo m.old.program (going_world m.old.core left) steps result m.new.core (I.left input.new) (O.held output.old) (O.held output.new)) }
     ensures end { IsMachineEnd result.end }
     ensures spent { result.end ≡ Ending.Spent → result.steps ≡ steps }
     ensures status { m.new.core.status ≡ status_at result.end }

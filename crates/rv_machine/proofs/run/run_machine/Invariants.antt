@@ -1,7 +1,7 @@
 use Rattle.std.proofs.Common.{◌≡◌, ◌≤◌}
 use Rattle.std.specs.Option.{ForSome}
 use Rattle.rv_machine.specs.Run.{going_world}
-use Rattle.rv_machine.specs.declared.event.Status.TheVariants.{Running}
+use Rattle.rv_insn.specs.declared.events.Status.TheVariants.{Running}
 use Rattle.rv_machine.proofs.Turns.{Reached}
 use Rattle.rv_machine.proofs.run.run_machine.Given as goal
 
