@@ -1,0 +1,15 @@
+//! The tree of the grammar: what it is, which tokens spell it and how deep it is.
+#![tactic(auto)]
+
+mod depth;
+mod laws;
+mod surface;
+mod types;
+
+pub use depth::nesting;
+pub use laws::grammar_is_unambiguous;
+pub use surface::{Def, DefList, Link, LinkList, PrefixList, Prefixed, Surface, SurfaceList};
+pub use types::{Decl, DeclList, NameList, SurfaceTy, SurfaceTyList};
+
+#[cfg(test)]
+mod tests;
