@@ -4,3 +4,10 @@ pub mod TypesComplete
 pub mod Fronts
 pub mod Complete
 pub mod Unique
+pub mod RangeLemmas
+pub mod KindTexts
+pub mod WrittenLemmas
+pub mod PlaceLemmas
+pub mod LexedLemmas
+pub mod PrintLemmas
+pub mod Examples

@@ -4,3 +4,7 @@ pub mod Signs
 pub mod Spells
 pub mod Nesting
 pub mod Reader
+pub mod Print
+pub mod Ranges
+pub mod Places
+pub mod Printing

@@ -1,13 +1,15 @@
-//! The tree of the grammar: what it is, which tokens spell it and how deep it is.
+//! The tree of the grammar: what it is, which tokens spell it, how deep it is, and its text.
 #![tactic(auto)]
 
 mod depth;
 mod laws;
+mod printer;
 mod surface;
 mod types;
 
 pub use depth::nesting;
 pub use laws::grammar_is_unambiguous;
+pub use printer::print_surface;
 pub use surface::{Def, DefList, Link, LinkList, PrefixList, Prefixed, Surface, SurfaceList};
 pub use types::{Decl, DeclList, NameList, SurfaceTy, SurfaceTyList};
 
