@@ -1,5 +1,7 @@
 pub mod Runs
+pub mod Watching
 pub mod Turns
+pub mod Exchanges
 pub mod Parts
 pub mod Accesses
 pub mod Fetching

@@ -1,12 +1,16 @@
--- How a run over a source and a sink ends, told by the machine's run on the input that is left.
-use Rattle.std.specs.Prelude.{◌≡◌, ℕ, ◌-◌, ◌<◌, Some, None}
+-- How a run over a source and a sink ends, told by the machine's run on an input.
+use Rattle.std.specs.Prelude.{◌≡◌, ℕ, ◌-◌, ◌<◌, List, ◌++◌, Some, None}
+use Rattle.std.specs.Option.{ForSome, option_map}
 use Rattle.std.specs.declared.option.Option.{Option}
 use Rattle.fy_base.specs.Outside.{Bytes, Gained, GainedPart}
 use Rattle.fy_base.specs.declared.data.Ending.{Ending}
 use Rattle.fy_base.specs.declared.data.Ending.TheVariants as ends
 use Rattle.rv_insn.specs.Program.{Program}
 use Rattle.rv_insn.specs.Step.{Core, instruction_step}
-use Rattle.rv_machine.specs.Run.{World, run}
+use Rattle.rv_machine.specs.Run.{World, going_world, run}
+use Rattle.rv_machine.specs.Fetch.{fetches}
+use Rattle.rv_machine.specs.declared.watch.Fetched.{Fetched}
+use Rattle.circular_buffer.specs.Buffer.{keep_last}
 use Rattle.rv_insn.specs.declared.events.Event.{Event}
 use Rattle.rv_insn.specs.declared.events.Event.TheVariants as events
 use Rattle.rv_insn.specs.declared.events.Status.{Status}
@@ -68,14 +72,22 @@ abbrev pub core_after : Ending → Program → World → ℕ → Core
 core_after ends.InputFault program world n = (instruction_step program (run program (n - 1) world).core).core
 core_after _ program world n = (run program n world).core
 
--- what a run of at most so many instructions came to: its end, the machine after it, the input left, and what
--- the sink gained, which is a beginning of all that the machine puts within the limit
-pub record RunsTo (program : Program) (world : World) (limit : ℕ) (done : MachineRun) (after : Core) (left before now : Option Bytes) : Type 0 where
-  pub end : EndsSo done.end program world done.steps limit
-  pub core : after ≡ core_after done.end program world done.steps
-  pub input : left ≡ Some (run program (taken_after done.end done.steps) world).input
-  pub output : HasPut done.end before now (run program done.steps world).output
-  pub part : GainedPart before now (run program limit world).output
+-- what a run of at most so many instructions came to, told by an input that explains it, which is what was left at the
+-- source where that is told: its end, the machine after it, what is left then, and what the sink gained, which is a
+-- beginning of all that the machine puts within the limit
+pub record RunsTo (program : Program) (core : Core) (limit : ℕ) (done : MachineRun) (after : Core) (left left_now before now : Option Bytes) : Type 0 where
+  pub fed : Bytes
+  pub told : ForSome left (λ bytes. fed ≡ bytes)
+  pub end : EndsSo done.end program (going_world core fed) done.steps limit
+  pub core_is : after ≡ core_after done.end program (going_world core fed) done.steps
+  pub rest : left_now ≡ option_map (λ _. (run program (taken_after done.end done.steps) (going_world core fed)).input) left
+  pub output : HasPut done.end before now (run program done.steps (going_world core fed)).output
+  pub part : GainedPart before now (run program limit (going_world core fed)).output
+
+-- what a watched run came to, and that its watch holds the last words that were fetched
+pub record Watched (program : Program) (core : Core) (limit : ℕ) (done : MachineRun) (after : Core) (left left_now before now : Option Bytes) (room : ℕ) (held held_now : List Fetched) : Type 0 where
+  pub runs : RunsTo program core limit done after left left_now before now
+  pub watched : held_now ≡ keep_last room (held ++ fetches program (going_world core runs.fed) done.steps)
 
 -- the ends that a machine's run has
 abbrev pub IsMachineEnd : Ending → Type 0

@@ -1,16 +1,16 @@
 //! Runs of the machine over a source and a sink.
 
-ghost use Rattle.std.specs.Prelude.{◌≡◌, ◌≤◌, None, Some, IfOk, IfSome, OnErr, slice_get, drop};
-ghost use Rattle.std.specs.declared.option.Option.{Option};
-ghost use Rattle.std.specs.Option.{ForSome};
-ghost use Rattle.fy_base.specs.Outside.{Bytes, HasCause, Rose};
-ghost use Rattle.rv_machine.specs.Ends.{IsMachineEnd, RunsTo, status_at, status_by};
-ghost use Rattle.rv_machine.specs.Run.{World, going_world};
-ghost use Rattle.rv_machine.specs.Turn.{Shows, Turned};
-ghost use Rattle.rv_insn.specs.declared.events.Event.TheVariants.{Going};
+ghost use Rattle.std.specs.Prelude.{◌≡◌, ◌≤◌, ◌++◌, IsTrue, IfOk, IfSome, OnErr, is_none, length};
+ghost use Rattle.std.specs.Option.{option_to_list};
+ghost use Rattle.fy_base.specs.Outside.{HasCause, IsAtEnd, Rose};
+ghost use Rattle.rv_machine.specs.Ends.{IsMachineEnd, RunsTo, Watched, status_at, status_by};
+ghost use Rattle.rv_machine.specs.Fetch.{fetched_at};
+ghost use Rattle.circular_buffer.specs.Buffer.{keep_last};
+ghost use Rattle.rv_machine.specs.Turn.{Drew, Turned};
 ghost use Rattle.rv_insn.specs.declared.events.Status.TheVariants.{Running};
 
 use crate::machine::Machine;
+use crate::watch::{Unwatched, Watch};
 use fy_base::{Ending, Failed, Sink, Source};
 use rv_insn::Event;
 
@@ -22,28 +22,42 @@ pub struct MachineRun {
     pub steps: u64,
 }
 
-// The next byte of the input, or `None` at its end.
-fn next_byte<I: Source>(input: &mut I) -> Result<Option<u8>, Failed>
-    ensures byte { IfOk result (λ byte. ForSome (I.left input.old) (λ left. byte ≡ slice_get left 0)) }
-    ensures rest { IfOk result (λ byte. ForSome (I.left input.old) (λ left. I.left input.new ≡ Some (drop 1 left))) }
+// The next byte of the input, or `None` at its end. A source that was at its end once is over, and
+// isn't asked again.
+fn next_byte<I: Source>(input: &mut I, over: &mut bool) -> Result<Option<u8>, Failed>
+    requires { IsTrue over.old → IsAtEnd (I.left input.old) }
+    ensures drew { IfOk result (λ byte. Drew (I.left input.old) (I.left input.new) over.old over.new (option_to_list byte)) }
+    ensures over { IfOk result (λ byte. over.new ≡ is_none byte) }
     ensures none { OnErr result (I.left input.new ≡ I.left input.old) }
+    ensures stays { OnErr result (over.new ≡ over.old) }
     ensures cause { HasCause (I.faults input.old) (I.faults input.new) result }
 {
+    if *over {
+        return Ok(None);
+    }
     let mut room = [0];
     match input.take(&mut room)? {
-        0 => Ok(None),
+        0 => {
+            *over = true;
+            Ok(None)
+        }
         _ => Ok(Some(room[0])),
     }
 }
 
 // Executes one instruction with its input and output: how the run ended by it, or `None` where it
 // goes on.
-fn turn<I: Source, O: Sink>(m: &mut Machine, input: &mut I, output: &mut O) -> Option<Ending>
-    requires { m.old.core.status ≡ Running }
+fn turn<I: Source, O: Sink>(
+    m: &mut Machine,
+    input: &mut I,
+    output: &mut O,
+    over: &mut bool,
+) -> Option<Ending>
+    requires running { m.old.core.status ≡ Running }
+    requires at_end { IsTrue over.old → IsAtEnd (I.left input.old) }
     ensures program { m.new.program ≡ m.old.program }
     ensures status { m.new.core.status ≡ status_by result }
-    ensures did { (world : World) (before : Option Bytes) → world.ending ≡ Going → Shows world m.old.core (I.left input.old) before (O.held output.old)
-        → Turned result m.old.program world m.new.core (I.left input.new) before (O.held output.new) }
+    ensures did { Turned result m.old.program m.old.core m.new.core (I.left input.old) (I.left input.new) over.old over.new (O.held output.old) (O.held output.new) }
     ensures end { IfSome result IsMachineEnd }
     ensures spent { result ≡ Some Ending.Spent → ⊥ }
     ensures input_fault { result ≡ Some Ending.InputFault → Rose (I.faults input.old) (I.faults input.new) }
@@ -57,7 +71,7 @@ fn turn<I: Source, O: Sink>(m: &mut Machine, input: &mut I, output: &mut O) -> O
             Ok(()) => None,
             Err(Failed) => Some(Ending::OutputFault),
         },
-        Event::WantByte => match next_byte(input) {
+        Event::WantByte => match next_byte(input, over) {
             Ok(byte) => {
                 m.give(byte);
                 None
@@ -71,13 +85,61 @@ fn turn<I: Source, O: Sink>(m: &mut Machine, input: &mut I, output: &mut O) -> O
     }
 }
 
-/// Runs the machine for at most `steps` instructions. It takes one byte of input at a time and
-/// puts one byte of output at a time. The machine must be running.
+// Tells the watch of the word that is fetched next, if there is one.
+#[inline(always)]
+fn tell<W: Watch>(m: &Machine, watch: &mut W)
+    requires { length (W.held watch.old) ≤ W.room watch.old }
+    ensures room { W.room watch.new ≡ W.room watch.old }
+    ensures held { W.held watch.new ≡ keep_last (W.room watch.old) (W.held watch.old ++ option_to_list (fetched_at m.now.program m.now.core)) }
+{
+    if let Some(word) = m.word() {
+        watch.fetched(m.pc(), word);
+    }
+}
+
+/// Runs the machine for at most `steps` instructions, and tells the watch of each word that is
+/// fetched. It takes one byte of input at a time and puts one byte of output at a time. After the
+/// end of input it asks for no more. The machine must be running.
 ///
 /// The end is `Ended`, `Fault`, `Exhausted` or `Trap` exactly as the machine's run says, and
 /// `Spent` exactly where that still goes on after `steps` instructions. `InputFault` and
 /// `OutputFault` come only where that object's count of faults rose in this call; then the last
 /// instruction reads, or puts. The end is never `TooBig`, `Stuck` or `Gone`.
+pub fn run_watched<I: Source, O: Sink, W: Watch>(
+    m: &mut Machine,
+    input: &mut I,
+    output: &mut O,
+    watch: &mut W,
+    steps: u64,
+) -> MachineRun
+    requires running { m.old.core.status ≡ Running }
+    requires room { length (W.held watch.old) ≤ W.room watch.old }
+    ensures program { m.new.program ≡ m.old.program }
+    ensures steps { result.steps ≤ steps }
+    ensures did { Watched m.old.program m.old.core steps result m.new.core (I.left input.old) (I.left input.new) (O.held output.old) (O.held output.new) (W.room watch.old) (W.held watch.old) (W.held watch.new) }
+    ensures room { W.room watch.new ≡ W.room watch.old }
+    ensures end { IsMachineEnd result.end }
+    ensures spent { result.end ≡ Ending.Spent → result.steps ≡ steps }
+    ensures status { m.new.core.status ≡ status_at result.end }
+    ensures input_fault { result.end ≡ Ending.InputFault → Rose (I.faults input.old) (I.faults input.new) }
+    ensures output_fault { result.end ≡ Ending.OutputFault → Rose (O.faults output.old) (O.faults output.new) }
+    ensures input_later { I.faults input.old ≤ I.faults input.new }
+    ensures output_later { O.faults output.old ≤ O.faults output.new }
+{
+    let mut over = false;
+    for k in 0..steps {
+        tell(m, watch);
+        if let Some(end) = turn(m, input, output, &mut over) {
+            return MachineRun { end, steps: k + 1 };
+        }
+    }
+    MachineRun {
+        end: Ending::Spent,
+        steps,
+    }
+}
+
+/// Runs the machine for at most `steps` instructions, as `run_watched` does, unwatched.
 pub fn run_machine<I: Source, O: Sink>(
     m: &mut Machine,
     input: &mut I,
@@ -87,7 +149,7 @@ pub fn run_machine<I: Source, O: Sink>(
     requires { m.old.core.status ≡ Running }
     ensures program { m.new.program ≡ m.old.program }
     ensures steps { result.steps ≤ steps }
-    ensures did { ForSome (I.left input.old) (λ left. RunsTo m.old.program (going_world m.old.core left) steps result m.new.core (I.left input.new) (O.held output.old) (O.held output.new)) }
+    ensures did { RunsTo m.old.program m.old.core steps result m.new.core (I.left input.old) (I.left input.new) (O.held output.old) (O.held output.new) }
     ensures end { IsMachineEnd result.end }
     ensures spent { result.end ≡ Ending.Spent → result.steps ≡ steps }
     ensures status { m.new.core.status ≡ status_at result.end }
@@ -96,13 +158,5 @@ pub fn run_machine<I: Source, O: Sink>(
     ensures input_later { I.faults input.old ≤ I.faults input.new }
     ensures output_later { O.faults output.old ≤ O.faults output.new }
 {
-    for k in 0..steps {
-        if let Some(end) = turn(m, input, output) {
-            return MachineRun { end, steps: k + 1 };
-        }
-    }
-    MachineRun {
-        end: Ending::Spent,
-        steps,
-    }
+    run_watched(m, input, output, &mut Unwatched, steps)
 }
