@@ -7,12 +7,12 @@ use Rattle.std.specs.declared.result.Result.{Result}
 use Rattle.std.specs.declared.result.Result.TheVariants.{Ok, Err}
 use Rattle.fy_base.specs.Outside.{Bytes, appended, GainedPart, Rose}
 use Rattle.fy_tool.specs.World.{Contents, Counts, Later}
-use Rattle.fy_tool.specs.Note.{lines}
+use Rattle.fy_tool.specs.Note.{ended_lines}
 use Rattle.fy_tool.specs.declared.world.Stop.{Stop}
 use Rattle.fy_tool.specs.declared.world.Stop.TheVariants.{Files, Input, Output, Notes, Memory}
 use Rattle.fy_tool.specs.Order.{Order}
 use Rattle.fy_tool.specs.Due.{Due}
-use Rattle.fy_tool.specs.Answers.{FilesPart, Part, Caused, Serves, Concludes, last_line, all_reads_of, all_keeps_of, Answers}
+use Rattle.fy_tool.specs.Answers.{FilesPart, InputPart, Part, Caused, Serves, Concludes, last_line, all_reads_of, all_keeps_of, Answers}
 use Rattle.fy_tool.proofs.Contents.{later_more, gained_both}
 
 -- the last note touches nothing else
@@ -21,6 +21,9 @@ part_files due b c d stop e p = subst (λ f. FilesPart due.kept b.files f) (sym 
 
 part_output : (due : Due) (b c d : Contents) (stop : Stop) → d ≡ record c { notes = d.notes } → Part due b c stop → GainedPart b.output d.output due.output
 part_output due b c d stop e p = subst (λ o. GainedPart b.output o due.output) (sym (ap (λ (x : Contents). x.output) e)) p.output
+
+part_input : (due : Due) (b c d : Contents) (stop : Stop) → d ≡ record c { notes = d.notes } → Part due b c stop → InputPart due.running b.input d.input
+part_input due b c d stop e p = subst (λ i. InputPart due.running b.input i) (sym (ap (λ (x : Contents). x.input) e)) p.input
 
 any_map : (P Q : Bytes → Type 0) (names : List Bytes) → ((name : Bytes) → P name → Q name) → Any P names → Any Q names
 any_map P Q names f a = (a.0, a.1, a.2, a.3, f a.1 a.4)
@@ -49,14 +52,18 @@ answer_outside order b c d k k1 k2 stop status other w e =
       content = w.content;
       told = w.told;
       due = w.due;
+      input = w.input;
+      fed = w.fed;
       is_due = w.is_due;
       stop = stop;
       caused = λ _. (other, caused_later (all_reads_of order) (all_keeps_of order) stop k k1 k2 e.never_less w.caused);
-      due_done = λ not_seven _ _. absurd (not_seven last.0);
-      outside = λ _ fed.
-          let p = w.did fed in
+      due_done = λ not_seven _. absurd (not_seven last.0);
+      outside = λ _.
+          let p = w.did in
           record {
             files = part_files w.due b c d stop e.rest p;
+            input = part_input w.due b c d stop e.rest p;
+            asks = p.asks;
             output = part_output w.due b c d stop e.rest p;
             notes = record {
               first = p.notes.part;
@@ -66,7 +73,8 @@ answer_outside order b c d k k1 k2 stop status other w e =
               ends = last.1.begins;
             };
           };
-      memory = λ nine _. absurd (let seven : status ≡ 7 = last.0 in omega arith);
+      memory = λ nine. absurd (let seven : status ≡ 7 = last.0 in omega arith);
+      ready = λ _ nine. absurd (let seven : status ≡ 7 = last.0 in omega arith);
       never_less = later_more k k1 k2 w.never_less e.never_less;
     }
 
@@ -78,12 +86,15 @@ answer_done order b c d k k1 k2 code status w e =
       content = w.content;
       told = w.told;
       due = w.due;
+      input = w.input;
+      fed = w.fed;
       is_due = w.is_due;
       stop = Files;
       caused = λ seven. absurd (w.own.0 (sym last.0 ∙ seven));
-      due_done = λ _ _ fed. (last.0 ∙ (w.did fed).0, e.rest ∙ ap (λ n. record { files = c.files; input = c.input; output = c.output; notes = n }) last.1 ∙ (w.did fed).1);
-      outside = λ seven fed. absurd (w.own.0 (sym last.0 ∙ seven));
-      memory = λ nine fed. absurd (w.own.1 (sym last.0 ∙ nine));
+      due_done = λ _ _. (last.0 ∙ w.did.0, e.rest ∙ ap (λ n. record { files = c.files; input = c.input; output = c.output; notes = n }) last.1 ∙ w.did.1);
+      outside = λ seven. absurd (w.own.0 (sym last.0 ∙ seven));
+      memory = λ nine. absurd (w.own.1 (sym last.0 ∙ nine));
+      ready = λ _ nine. absurd (w.own.1 (sym last.0 ∙ nine));
       never_less = later_more k k1 k2 w.never_less e.never_less;
     }
 
@@ -94,42 +105,48 @@ answer_memory order b c d k k1 k2 status w e =
       content = w.content;
       told = w.told;
       due = w.due;
+      input = w.input;
+      fed = w.fed;
       is_due = w.is_due;
       stop = Notes;
       caused = λ seven. (λ clash. cc, rose_earlier _ _ _ w.never_less.notes (e.lost refl seven).0);
-      due_done = λ not_seven not_nine _. absurd (not_nine (e.memory refl not_seven).0);
-      outside = λ seven fed.
-          let p = w.did fed in
+      due_done = λ not_seven not_nine. absurd (not_nine (e.memory refl not_seven).0);
+      outside = λ seven.
+          let p = w.did in
           let lost = (e.lost refl seven).1 in
           let whole = p.whole refl in
           record {
             files = part_files w.due b c d Memory e.rest p;
+            input = part_input w.due b c d Memory e.rest p;
+            asks = λ clash. cc;
             output = part_output w.due b c d Memory e.rest p;
             notes = record {
-              first = lines (take whole.count w.due.notes) ++ lost.part;
+              first = ended_lines (take whole.count w.due.notes) ++ lost.part;
               second = [];
               gained = gained_both b.notes c.notes d.notes _ lost.part whole.gained lost.gained ∙ ap (λ t. appended b.notes t) (sym (append-nil _));
               begins = inr (
                 whole.count,
                 record {
                   rest = lost.begins.rest;
-                  is = ap (λ t. lines (take whole.count w.due.notes) ++ t) lost.begins.is ∙ sym (append_assoc _ lost.part lost.begins.rest);
+                  is = ap (λ t. ended_lines (take whole.count w.due.notes) ++ t) lost.begins.is ∙ sym (append_assoc _ lost.part lost.begins.rest);
                 },
               );
               ends = record { rest = []; is = refl };
             };
           };
-      memory = λ nine fed.
-          let p = w.did fed in
+      memory = λ nine.
+          let p = w.did in
           let not_seven : status ≢ 7 = (λ seven. omega arith) in
           let last = (e.memory refl not_seven).1 in
           let whole = p.whole refl in
           record {
-            files = part_files w.due b c d Memory e.rest p;
+            files = ap (λ (x : Contents). x.files) e.rest ∙ p.unchanged refl;
+            input = part_input w.due b c d Memory e.rest p;
             output = part_output w.due b c d Memory e.rest p;
             count = whole.count;
             notes = gained_both b.notes c.notes d.notes _ (last_line Memory) whole.gained last;
           };
+      ready = λ first nine. ap (λ (x : Contents). x.output) e.rest ∙ w.ready first refl;
       never_less = later_more k k1 k2 w.never_less e.never_less;
     }
 

@@ -14,6 +14,9 @@ later_more a b c h k = record {
   notes = let x = h.notes in let y = k.notes in omega arith;
 }
 
+pub later_same : (a : Counts) → Later a a
+later_same a = record { fetches = λ name. omega arith; keeps = λ name. omega arith; input = omega arith; output = omega arith; notes = omega arith }
+
 pub appended-appended : (held : Option Bytes) (x y : Bytes) → appended (appended held x) y ≡ appended held (x ++ y)
 appended-appended None x y = refl
 appended-appended (Some h) x y = ap (λ t. Some t) (append_assoc h x y)

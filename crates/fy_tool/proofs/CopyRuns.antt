@@ -72,6 +72,26 @@ run_at p o = record {
   standing = standing_at p o.contexts;
 }
 
+-- the steps of a sum and of a command that come to no fault
+abbrev steps_of : Tree → ℕ
+steps_of (binary op p q at) = 3 + steps_of p + steps_of q
+steps_of (seq p q at) = 2 + steps_of p + steps_of q
+steps_of (put kind e at) = 2 + steps_of e
+steps_of _ = 0
+
+-- fewer than two for each node
+few_steps : (p : Tree) → steps_of p + 2 ≤ 2 * nodes p
+few_steps (binary op p q at) =
+    let few_p = few_steps p in
+    let few_q = few_steps q in
+    omega arith
+few_steps (seq p q at) =
+    let few_p = few_steps p in
+    let few_q = few_steps q in
+    omega arith
+few_steps (put kind e at) = let few_e = few_steps e in omega arith
+few_steps _ = omega arith
+
 -- ---- sums
 
 abbrev Yields : Result ℤ Place → Tree → Round → ℕ → Type 0
@@ -114,33 +134,29 @@ leads_step : (r s t : CopyRun) (k m : ℕ) → k + 1 ≤ m → tick r ≡ s → 
 leads_step r s t k m le is l = then r s t 1 k m (omega arith) (step r s is) l
 
 -- the sum of two, from what each yields
-both : (u v : Result ℤ Place) (p q : Tree) (at : Place) (o : Round) → Yields u p (left_of q at o) (3 * nodes p) → ((x : ℤ) → Yields v q (right_of x at o) (3 * nodes q))
-    → Yields (added u v at) (binary Add p q at) o (3 * (1 + nodes p + nodes q))
-both (Err a) v p q at o left right = fails_step (run_at (binary Add p q at) o) (run_at p (left_of q at o)) (3 * nodes p) _ a o.input o.output (omega arith) refl left
+both : (u v : Result ℤ Place) (p q : Tree) (at : Place) (o : Round) → Yields u p (left_of q at o) (steps_of p) → ((x : ℤ) → Yields v q (right_of x at o) (steps_of q))
+    → Yields (added u v at) (binary Add p q at) o (3 + steps_of p + steps_of q)
+both (Err a) v p q at o left right = fails_step (run_at (binary Add p q at) o) (run_at p (left_of q at o)) (steps_of p) _ a o.input o.output (omega arith) refl left
 both (Ok x) (Err a) p q at o left right =
-    let first = leads_step (run_at (binary Add p q at) o) (run_at p (left_of q at o)) (run_at (lit (datum.Int x) left.0) (left_of q at o)) (3 * nodes p) (3 * nodes p + 1) (omega arith) refl left.1 in
-    let second : Fails (run_at (lit (datum.Int x) left.0) (left_of q at o)) (3 * nodes q + 1) a o.input o.output =
-    fails_step (run_at (lit (datum.Int x) left.0) (left_of q at o)) (run_at q (right_of x at o)) (3 * nodes q) (3 * nodes q + 1) a o.input o.output (omega arith) refl (right x) in
-    fails_then (run_at (binary Add p q at) o) (run_at (lit (datum.Int x) left.0) (left_of q at o)) (3 * nodes p + 1) (3 * nodes q + 1) _ a o.input o.output (omega arith) first second
+    let first = leads_step (run_at (binary Add p q at) o) (run_at p (left_of q at o)) (run_at (lit (datum.Int x) left.0) (left_of q at o)) (steps_of p) (steps_of p + 1) (omega arith) refl left.1 in
+    let second : Fails (run_at (lit (datum.Int x) left.0) (left_of q at o)) (steps_of q + 1) a o.input o.output =
+    fails_step (run_at (lit (datum.Int x) left.0) (left_of q at o)) (run_at q (right_of x at o)) (steps_of q) (steps_of q + 1) a o.input o.output (omega arith) refl (right x) in
+    fails_then (run_at (binary Add p q at) o) (run_at (lit (datum.Int x) left.0) (left_of q at o)) (steps_of p + 1) (steps_of q + 1) _ a o.input o.output (omega arith) first second
 both (Ok x) (Ok y) p q at o left right =
-    let first = leads_step (run_at (binary Add p q at) o) (run_at p (left_of q at o)) (run_at (lit (datum.Int x) left.0) (left_of q at o)) (3 * nodes p) (3 * nodes p + 1) (omega arith) refl left.1 in
-    let second = leads_step (run_at (lit (datum.Int x) left.0) (left_of q at o)) (run_at q (right_of x at o)) (run_at (lit (datum.Int y) (right x).0) (right_of x at o)) (3 * nodes q) (3 * nodes q + 1) (omega arith) refl (right x).1 in
-    let all = then (run_at (binary Add p q at) o) (run_at (lit (datum.Int x) left.0) (left_of q at o)) (run_at (lit (datum.Int y) (right x).0) (right_of x at o)) (3 * nodes p + 1) (3 * nodes q + 1) (3 * nodes p + 3 * nodes q + 2) (omega arith) first second in
-    let count : 3 * nodes p + 3 * nodes q + 2 + 1 ≡ 3 * (1 + nodes p + nodes q) = omega arith in
+    let first = leads_step (run_at (binary Add p q at) o) (run_at p (left_of q at o)) (run_at (lit (datum.Int x) left.0) (left_of q at o)) (steps_of p) (steps_of p + 1) (omega arith) refl left.1 in
+    let second = leads_step (run_at (lit (datum.Int x) left.0) (left_of q at o)) (run_at q (right_of x at o)) (run_at (lit (datum.Int y) (right x).0) (right_of x at o)) (steps_of q) (steps_of q + 1) (omega arith) refl (right x).1 in
+    let all = then (run_at (binary Add p q at) o) (run_at (lit (datum.Int x) left.0) (left_of q at o)) (run_at (lit (datum.Int y) (right x).0) (right_of x at o)) (steps_of p + 1) (steps_of q + 1) (steps_of p + steps_of q + 2) (omega arith) first second in
+    let count : steps_of p + steps_of q + 2 + 1 ≡ 3 + steps_of p + steps_of q = omega arith in
     subst (λ k. Yields (added (Ok x) (Ok y) at) (binary Add p q at) o k) count
-    (last_step (is_int (x +ℤ y)) x y (right x).0 at o refl (3 * nodes p + 3 * nodes q + 2) (run_at (binary Add p q at) o) all (binary Add p q at) refl)
+    (last_step (is_int (x +ℤ y)) x y (right x).0 at o refl (steps_of p + steps_of q + 2) (run_at (binary Add p q at) o) all (binary Add p q at) refl)
 
 -- what a sum yields
-pub sums : (e : Tree) → IsAddition e → (o : Round) → Yields (value_of e) e o (3 * nodes e)
-sums (lit (datum.Int v) at) is o = (at, none (run_at (lit (datum.Int v) at) o) (3 * 1))
-sums (lit (datum.Bool b) at) is o = absurd is
-sums (lit (datum.Char c) at) is o = absurd is
+pub sums : (e : Tree) → IsAddition e → (o : Round) → Yields (value_of e) e o (steps_of e)
+sums (lit (datum.Int v) at) is o = (at, none (run_at (lit (datum.Int v) at) o) 0)
 sums (binary op p q at) is o =
-    subst (λ op. Yields (added (value_of p) (value_of q) at) (binary op p q at) o (3 * (1 + nodes p + nodes q))) (sym is.0)
+    subst (λ op. Yields (added (value_of p) (value_of q) at) (binary op p q at) o (3 + steps_of p + steps_of q)) (sym is.0)
     (both (value_of p) (value_of q) p q at o (sums p is.2 (left_of q at o)) (λ x. sums q is.3 (right_of x at o)))
-sums (skip at) is o = absurd is
-sums (seq p q at) is o = absurd is
-sums (put kind e at) is o = absurd is
+sums _ is o = absurd is
 
 -- ---- commands
 
@@ -162,40 +178,39 @@ then_of q o = record o { contexts = (record { base = o.load; context = then_c q 
 nothing_more : (p : Tree) (o : Round) → run_at p o ≡ run_at p (with_output o [])
 nothing_more p o = ap (λ out. run_at p (record o { output = out })) (sym (append-nil o.output))
 
-put_does : (u : Result ℤ Place) (e : Tree) (at : Place) (o : Round) → Yields u e (put_of o) (3 * nodes e) → Does (said_value u).fault (said_value u).text (put kinds.Int e at) o (3 * (1 + nodes e))
+put_does : (u : Result ℤ Place) (e : Tree) (at : Place) (o : Round) → Yields u e (put_of o) (steps_of e) → Does (said_value u).fault (said_value u).text (put kinds.Int e at) o (2 + steps_of e)
 put_does (Ok v) e at o y =
-    let first = leads_step (run_at (put kinds.Int e at) o) (run_at e (put_of o)) (run_at (lit (datum.Int v) y.0) (put_of o)) (3 * nodes e) (3 * nodes e + 1) (omega arith) refl y.1 in (
+    let first = leads_step (run_at (put kinds.Int e at) o) (run_at e (put_of o)) (run_at (lit (datum.Int v) y.0) (put_of o)) (steps_of e) (steps_of e + 1) (omega arith) refl y.1 in (
       y.0,
-      then (run_at (put kinds.Int e at) o) (run_at (lit (datum.Int v) y.0) (put_of o)) (run_at (skip y.0) (with_output o (signed_decimal v))) (3 * nodes e + 1) 1 _ (omega arith) first
+      then (run_at (put kinds.Int e at) o) (run_at (lit (datum.Int v) y.0) (put_of o)) (run_at (skip y.0) (with_output o (signed_decimal v))) (steps_of e + 1) 1 _ (omega arith) first
           (step (run_at (lit (datum.Int v) y.0) (put_of o)) (run_at (skip y.0) (with_output o (signed_decimal v))) refl),
     )
 put_does (Err a) e at o y =
-    subst (λ out. Fails (run_at (put kinds.Int e at) o) (3 * (1 + nodes e)) a o.input out) (sym (append-nil o.output))
-    (fails_step (run_at (put kinds.Int e at) o) (run_at e (put_of o)) (3 * nodes e) _ a o.input o.output (omega arith) refl y)
+    subst (λ out. Fails (run_at (put kinds.Int e at) o) (2 + steps_of e) a o.input out) (sym (append-nil o.output))
+    (fails_step (run_at (put kinds.Int e at) o) (run_at e (put_of o)) (steps_of e) _ a o.input o.output (omega arith) refl y)
 
-seq_does : (fp fq : Option Place) (tp tq : Bytes) (p q : Tree) (at : Place) (o : Round) → Does fp tp p (then_of q o) (3 * nodes p) → Does fq tq q (with_output o tp) (3 * nodes q)
-    → Does (said_then fp tp (record { text = tq; fault = fq })).fault (said_then fp tp (record { text = tq; fault = fq })).text (seq p q at) o (3 * (1 + nodes p + nodes q))
-seq_does (Some a) fq tp tq p q at o left right = fails_step (run_at (seq p q at) o) (run_at p (then_of q o)) (3 * nodes p) _ a o.input (o.output ++ tp) (omega arith) refl left
+seq_does : (fp fq : Option Place) (tp tq : Bytes) (p q : Tree) (at : Place) (o : Round) → Does fp tp p (then_of q o) (steps_of p) → Does fq tq q (with_output o tp) (steps_of q)
+    → Does (said_then fp tp (record { text = tq; fault = fq })).fault (said_then fp tp (record { text = tq; fault = fq })).text (seq p q at) o (2 + steps_of p + steps_of q)
+seq_does (Some a) fq tp tq p q at o left right = fails_step (run_at (seq p q at) o) (run_at p (then_of q o)) (steps_of p) _ a o.input (o.output ++ tp) (omega arith) refl left
 seq_does None (Some a) tp tq p q at o left right =
-    let first = leads_step (run_at (seq p q at) o) (run_at p (then_of q o)) (run_at (skip left.0) (with_output (then_of q o) tp)) (3 * nodes p) (3 * nodes p + 1) (omega arith) refl left.1 in
-    let second : Fails (run_at (skip left.0) (with_output (then_of q o) tp)) (3 * nodes q + 1) a o.input ((o.output ++ tp) ++ tq) =
-    fails_step (run_at (skip left.0) (with_output (then_of q o) tp)) (run_at q (with_output o tp)) (3 * nodes q) (3 * nodes q + 1) a o.input ((o.output ++ tp) ++ tq) (omega arith) refl right in
-    subst (λ out. Fails (run_at (seq p q at) o) (3 * (1 + nodes p + nodes q)) a o.input out) (append_assoc o.output tp tq)
-    (fails_then (run_at (seq p q at) o) (run_at (skip left.0) (with_output (then_of q o) tp)) (3 * nodes p + 1) (3 * nodes q + 1) _ a o.input ((o.output ++ tp) ++ tq) (omega arith) first second)
+    let first = leads_step (run_at (seq p q at) o) (run_at p (then_of q o)) (run_at (skip left.0) (with_output (then_of q o) tp)) (steps_of p) (steps_of p + 1) (omega arith) refl left.1 in
+    let second : Fails (run_at (skip left.0) (with_output (then_of q o) tp)) (steps_of q + 1) a o.input ((o.output ++ tp) ++ tq) =
+    fails_step (run_at (skip left.0) (with_output (then_of q o) tp)) (run_at q (with_output o tp)) (steps_of q) (steps_of q + 1) a o.input ((o.output ++ tp) ++ tq) (omega arith) refl right in
+    subst (λ out. Fails (run_at (seq p q at) o) (2 + steps_of p + steps_of q) a o.input out) (append_assoc o.output tp tq)
+    (fails_then (run_at (seq p q at) o) (run_at (skip left.0) (with_output (then_of q o) tp)) (steps_of p + 1) (steps_of q + 1) _ a o.input ((o.output ++ tp) ++ tq) (omega arith) first second)
 seq_does None None tp tq p q at o left right =
-    let first = leads_step (run_at (seq p q at) o) (run_at p (then_of q o)) (run_at (skip left.0) (with_output (then_of q o) tp)) (3 * nodes p) (3 * nodes p + 1) (omega arith) refl left.1 in
-    let second = leads_step (run_at (skip left.0) (with_output (then_of q o) tp)) (run_at q (with_output o tp)) (run_at (skip right.0) (with_output (with_output o tp) tq)) (3 * nodes q) (3 * nodes q + 1) (omega arith) refl right.1 in
-    let all = then (run_at (seq p q at) o) (run_at (skip left.0) (with_output (then_of q o) tp)) (run_at (skip right.0) (with_output (with_output o tp) tq)) (3 * nodes p + 1) (3 * nodes q + 1) (3 * (1 + nodes p + nodes q)) (omega arith) first second in
-    (right.0, subst (λ out. Leads (run_at (seq p q at) o) (3 * (1 + nodes p + nodes q)) (run_at (skip right.0) (record o { output = out }))) (append_assoc o.output tp tq) all)
+    let first = leads_step (run_at (seq p q at) o) (run_at p (then_of q o)) (run_at (skip left.0) (with_output (then_of q o) tp)) (steps_of p) (steps_of p + 1) (omega arith) refl left.1 in
+    let second = leads_step (run_at (skip left.0) (with_output (then_of q o) tp)) (run_at q (with_output o tp)) (run_at (skip right.0) (with_output (with_output o tp) tq)) (steps_of q) (steps_of q + 1) (omega arith) refl right.1 in
+    let all = then (run_at (seq p q at) o) (run_at (skip left.0) (with_output (then_of q o) tp)) (run_at (skip right.0) (with_output (with_output o tp) tq)) (steps_of p + 1) (steps_of q + 1) (2 + steps_of p + steps_of q) (omega arith) first second in
+    (right.0, subst (λ out. Leads (run_at (seq p q at) o) (2 + steps_of p + steps_of q) (run_at (skip right.0) (record o { output = out }))) (append_assoc o.output tp tq) all)
 
 -- what a command does
-pub commands : (p : Tree) → IsCommand p → (o : Round) → Does (said p).fault (said p).text p o (3 * nodes p)
-commands (lit v at) is o = absurd is
-commands (binary op p q at) is o = absurd is
-commands (skip at) is o = (at, subst (λ r. Leads (run_at (skip at) o) (3 * 1) r) (nothing_more (skip at) o) (none (run_at (skip at) o) (3 * 1)))
+pub commands : (p : Tree) → IsCommand p → (o : Round) → Does (said p).fault (said p).text p o (steps_of p)
+commands (skip at) is o = (at, subst (λ r. Leads (run_at (skip at) o) 0 r) (nothing_more (skip at) o) (none (run_at (skip at) o) 0))
 commands (seq p q at) is o = seq_does (said p).fault (said q).fault (said p).text (said q).text p q at o (commands p is.0 (then_of q o)) (commands q is.1 (with_output o (said p).text))
 commands (put kind e at) is o =
-    subst (λ kind. Does (said_value (value_of e)).fault (said_value (value_of e)).text (put kind e at) o (3 * (1 + nodes e))) (sym is.0) (put_does (value_of e) e at o (sums e is.1 (put_of o)))
+    subst (λ kind. Does (said_value (value_of e)).fault (said_value (value_of e)).text (put kind e at) o (2 + steps_of e)) (sym is.0) (put_does (value_of e) e at o (sums e is.1 (put_of o)))
+commands _ is o = absurd is
 
 -- ---- whole runs
 
@@ -230,8 +245,9 @@ over_by (Some at) text p input k f =
     later p input f.leads.steps k _ f.leads.few
     (record { standing = ap (λ r. r.standing) f.leads.is ∙ f.standing; output = ap (λ r. r.output) f.leads.is ∙ f.output_is; input_is = ap (λ r. r.input) f.leads.is ∙ f.input_is })
 
--- the run of a text's phrase is over within the steps that two instructions or more stand for
-pub over_within : (p : Tree) (input : Bytes) (n : ℕ) → IsCommand p → 2 ≤ n → IsOverAt p input (copy_bound p n) (said p)
-over_within p input n is two =
-    let enough : 3 * (nodes p + 1) ≤ (n + 1) * (nodes p + 1) = mul-le-mul_right (nodes p + 1) (omega arith) in
-    later p input (3 * nodes p) (copy_bound p n) (said p) (omega arith) (over_by (said p).fault (said p).text p input (3 * nodes p) (commands p is (outermost input)))
+-- the run of a text's phrase is over within the steps that one instruction or more stands for
+pub over_within : (p : Tree) (input : Bytes) (n : ℕ) → IsCommand p → 1 ≤ n → IsOverAt p input (copy_bound p n) (said p)
+over_within p input n is some =
+    let enough : 2 * (nodes p + 1) ≤ (n + 1) * (nodes p + 1) = mul-le-mul_right (nodes p + 1) (omega arith) in
+    let few = few_steps p in
+    later p input (steps_of p) (copy_bound p n) (said p) (omega arith) (over_by (said p).fault (said p).text p input (steps_of p) (commands p is (outermost input)))

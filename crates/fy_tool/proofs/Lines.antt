@@ -8,8 +8,16 @@ use Rattle.std.specs.declared.result.Result.TheVariants.{Ok, Err}
 use Rattle.fy_base.specs.Outside.{Bytes, appended, GainedPart}
 use Rattle.fy_tool.specs.World.{Contents}
 use Rattle.fy_tool.specs.declared.note.Note.{Note}
-use Rattle.fy_tool.specs.Note.{note_text, lines}
+use Rattle.fy_tool.specs.Note.{note_text, texts, ended_lines}
 use Rattle.fy_tool.proofs.Contents.{appended-appended}
+
+-- the lines of these notes
+abbrev lines : List Note → Bytes
+lines notes = ended_lines (texts notes)
+
+pub ended-append : (xs ys : List Bytes) → ended_lines (xs ++ ys) ≡ ended_lines xs ++ ended_lines ys
+ended-append [] ys = refl
+ended-append (x ∷ xs) ys = ap (λ t. x ++ 10 ∷ t) (ended-append xs ys) ∙ sym (append_assoc x (10 ∷ ended_lines xs) (ended_lines ys))
 
 lines-append : (xs ys : List Note) → lines (xs ++ ys) ≡ lines xs ++ lines ys
 lines-append [] ys = refl

@@ -208,9 +208,7 @@ added_at (Ok x) (Ok y) here hx hy is = at (is_int (x +ℤ y))
 value_at : (e : Tree) → IsAddition e → IfErr (value_of e) IsPlace
 value_at (lit v at) is = tt
 value_at (binary op p q at) is = added_at (value_of p) (value_of q) at (value_at p is.2) (value_at q is.3) is.1
-value_at (skip at) is = tt
-value_at (seq p q at) is = tt
-value_at (put kind e at) is = tt
+value_at _ is = absurd is
 
 said_value_at : (v : Result ℤ Place) → IfErr v IsPlace → IfSome (said_value v).fault IsPlace
 said_value_at (Ok v) is = tt
@@ -221,11 +219,10 @@ said_then_at (Some at) other text text' is is' = is
 said_then_at None other text text' is is' = is'
 
 pub fault_at : (p : Tree) → IsCommand p → IfSome (said p).fault IsPlace
-fault_at (lit v at) is = tt
-fault_at (binary op p q at) is = tt
 fault_at (skip at) is = tt
 fault_at (seq p q at) is = said_then_at (said p).fault (said q).fault (said p).text (said q).text (fault_at p is.0) (fault_at q is.1)
 fault_at (put kind e at) is = said_value_at (value_of e) (value_at e is.1)
+fault_at _ is = absurd is
 
 -- ---- what is said
 
@@ -241,12 +238,8 @@ added_fits (Ok x) (Ok y) here = fits (is_int (x +ℤ y)) refl
 
 value_fits : (e : Tree) → IsAddition e → IfOk (value_of e) (λ v. IsTrue (is_int v))
 value_fits (lit (datum.Int v) at) is = is
-value_fits (lit (datum.Bool b) at) is = absurd is
-value_fits (lit (datum.Char c) at) is = absurd is
 value_fits (binary op p q at) is = added_fits (value_of p) (value_of q) at
-value_fits (skip at) is = absurd is
-value_fits (seq p q at) is = absurd is
-value_fits (put kind e at) is = absurd is
+value_fits _ is = absurd is
 
 -- bytes, and not many
 pub record IsShort (text : Bytes) (most : ℕ) : Type 0 where
@@ -266,7 +259,7 @@ first_byte b text most lt is = let short = is.short in record { short = omega ar
     all zero d lt' = lt
     all (suc k) d lt' = is.bytes k d (omega arith)
 
-number_short : (v : ℤ) → IsTrue (is_int v) → IsShort (signed_decimal v) 21
+pub number_short : (v : ℤ) → IsTrue (is_int v) → IsShort (signed_decimal v) 21
 number_short (pos n) is = let s = digits_short n (let le = leb-true n (2 ^ 63 - 1) is in omega arith) in let short = s.short in record { short = omega arith; bytes = s.bytes }
 number_short (negsuc n) is = first_byte 45 (decimal (suc n)) 20 (omega arith) (digits_short (suc n) (below n is))
   where
@@ -295,11 +288,10 @@ said_then_short None text other m n a b =
 
 -- the text that a phrase writes
 said_short : (p : Tree) → IsCommand p → IsShort (said p).text (40 * puts_of p)
-said_short (lit v at) is = absurd is
-said_short (binary op p q at) is = absurd is
 said_short (skip at) is = record { short = omega arith; bytes = λ k d lt. absurd (omega arith) }
 said_short (seq p q at) is = said_then_short (said p).fault (said p).text (said q) (puts_of p) (puts_of q) (said_short p is.0) (said_short q is.1)
 said_short (put kind e at) is = said_value_short (value_of e) (value_fits e is.1)
+said_short _ is = absurd is
 
 -- ---- the image's ranges
 
@@ -320,8 +312,8 @@ places_few (Some at) is = (omega arith, only)
     only (suc k) d lt = absurd (omega arith)
 
 -- the image of a text's phrase keeps every range
-pub image_is : (p : Tree) → IsCommand p → puts_of p ≤ 4096 → IsImage (image_of p)
-image_is p is few =
+pub image_is : (stack : ℕ) (p : Tree) → 1024 ≤ stack → stack ≤ 16777216 → IsCommand p → puts_of p ≤ 4096 → IsImage (image_of stack p)
+image_is stack p least most is few =
     let text = (said p).text in
     let last = last_block (said p).fault in
     let short = (said_short p is).short in

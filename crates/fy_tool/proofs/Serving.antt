@@ -1,105 +1,196 @@
 -- From the parts of a command's work to what is due for the words.
-use Rattle.std.proofs.Common.{◌≡◌, ℕ, [], ◌∷◌, sym, refl, subst, Some, None, inl, inr}
-use Rattle.std.specs.Prelude.{IfOk, IfErr, IsSome}
+use Rattle.std.proofs.Common.{◌≡◌, ◌≢◌, ℕ, [], ◌∷◌, sym, ap, ◌∙◌, refl, subst, Some, None, inl, inr}
+use Rattle.std.specs.Prelude.{IfOk, IfErr}
+use Rattle.std.specs.Option.{ForSome}
 use Rattle.std.specs.declared.option.Option.{Option}
 use Rattle.std.specs.declared.result.Result.{Result}
 use Rattle.std.specs.declared.result.Result.TheVariants.{Err}
 use Rattle.fy_base.specs.Outside.{Bytes, Tells}
+use Rattle.fy_base.specs.declared.data.Ending.{Ending}
+use Rattle.fy_base.specs.declared.data.Ending.TheVariants as ends
 use Rattle.fy_phrase.specs.Tree.{Tree}
+use Rattle.fy_image.specs.Form.{IsImageBytes}
+use Rattle.fy_image.specs.Refusals.{refusal_of}
+use Rattle.fy_image.specs.declared.error.ImageError.{ImageError}
+use Rattle.fy_image.specs.declared.image.Image.{Image}
+use Rattle.rv_insn.specs.Program.{Program}
+use Rattle.rv_machine.specs.Start.{start_of, IsProgramOf as IsProgramOfImage}
+use Rattle.rv_machine.specs.Ends.{IsMachineEnd}
 use Rattle.fy_tool.specs.World.{Contents, Counts, Later}
 use Rattle.fy_tool.specs.Said.{image_of}
-use Rattle.fy_tool.specs.Order.{Order, run}
-use Rattle.fy_tool.specs.Due.{Due, told, IsRefused, IsDue, usage, stopped, refused, runs, ran, file_of}
+use Rattle.fy_tool.specs.Order.{Order, build, exec, run, list}
+use Rattle.fy_tool.specs.Note.{refusal_note}
+use Rattle.fy_tool.specs.Due.{Due, told, BuildsText, IsRefused, IsBuilt, IsOwnEnd, IsDue, usage, stopped, refused, builds, lists, unread, executes, runs, stack_wanted, steps_wanted, kept_as, file_of, keeps_of, IsReadyFirst}
 use Rattle.fy_tool.specs.Answers.{Caused, Did, IsOwn, Serves}
-use Rattle.fy_tool.specs.Working.{IsProgramOf, Works}
+use Rattle.fy_tool.specs.Working.{IsProgramOf, IsUnbegun, Keeps, Executes, KeepsAndRuns, HasRun, listed}
+use Rattle.fy_tool.specs.declared.note.Note.{Note}
 use Rattle.fy_tool.specs.declared.note.Note.TheVariants as note
 use Rattle.fy_tool.specs.declared.world.Stop.{Stop}
-use Rattle.fy_tool.specs.declared.world.Stop.TheVariants.{Memory}
+use Rattle.fy_tool.specs.declared.world.Stop.TheVariants.{Input, Memory}
 use Rattle.fy_tool.proofs.Contents.{later_more}
-use Rattle.fy_tool.proofs.Parts.{content_of, part_none, if_caused_more}
-use Rattle.fy_tool.proofs.Programs.{image_is}
+use Rattle.fy_tool.proofs.Parts.{content_of, part_none, if_caused_more, keeps_more}
+use Rattle.fy_tool.proofs.Keeping.{some_input}
+use Rattle.fy_tool.proofs.Headlines.{small_runs_as_copy_rule, small_never_sticks, shows_copy_rule, one_program}
 
 -- words that are no command
-pub serves_usage : (b c : Contents) (k k1 : Counts) (result : Result ℕ Stop) → Later k k1 → IfErr result (λ stop. Caused [] [] stop k k1) → IfOk result IsOwn
-    → Did (told 5 (note.Usage ∷ []) b.input) b c result → Serves None b c k k1 result
-serves_usage b c k k1 result l cause own did =
-    record { never_less = l; caused = cause; own = own; content = None; told = tt; due = told 5 (note.Usage ∷ []) b.input; is_due = λ _. usage None b.input; did = λ _. did }
+pub serves_usage : (b c : Contents) (k k1 : Counts) (result : Result ℕ Stop) → Later k k1 → IfErr result (λ stop. Caused [] [] stop k k1) → IfOk result IsOwn → result ≢ Err Memory
+    → Did (told 5 (note.Usage ∷ [])) b c result → Serves None b c k k1 result
+serves_usage b c k k1 result l cause own ready did =
+    let input = some_input b.input in
+    record {
+      never_less = l;
+      caused = cause;
+      own = own;
+      content = None;
+      told = tt;
+      input = input.0;
+      fed = input.1;
+      due = told 5 (note.Usage ∷ []);
+      is_due = usage None input.0;
+      did = did;
+      ready = λ _ memory. absurd (ready memory);
+    }
 
--- a call that was stopped before its program was known
-pub serves_stopped : (file : Bytes) (b c : Contents) (k k1 : Counts) (stop : Stop) → c ≡ b → Later k k1 → Caused (file ∷ []) [] stop k k1 → Serves (Some (run file)) b c k k1 (Err stop)
-serves_stopped file b c k k1 stop same l cause =
-    let content = content_of b.files file in
-    let due = told 7 [] b.input in
+-- a call that was stopped before it did anything
+pub serves_stopped : (order : Order) (content : Option Bytes) (b c : Contents) (k k1 : Counts) (stop : Stop) → Tells b.files (file_of order) content → c ≡ b → Later k k1 → Caused (file_of order ∷ []) (keeps_of order) stop k k1 → stop ≢ Input
+    → Serves (Some order) b c k k1 (Err stop)
+serves_stopped order content b c k k1 stop held same l cause other =
+    let input = some_input b.input in
+    let due = told 7 [] in
     record {
       never_less = l;
       caused = cause;
       own = tt;
-      content = content.0;
-      told = content.1;
+      content = content;
+      told = held;
+      input = input.0;
+      fed = input.1;
       due = due;
-      is_due = λ _. stopped (run file) content.0 b.input;
-      did = λ _. subst (λ (c : Contents). Did due b c (Err stop)) (sym same) (part_none due b stop);
+      is_due = stopped order content input.0;
+      did = subst (λ (c : Contents). Did due b c (Err stop)) (sym same) (part_none due b stop other);
+      ready = λ _ _. ap (λ (x : Contents). x.output) same;
     }
 
--- a text that is refused
-pub serves_refused : (file text : Bytes) (b c d : Contents) (k k1 k2 : Counts) (result : Result ℕ Stop) → c ≡ b → Later k k1 → Later k1 k2 → Tells b.files file (Some text) → IsRefused text
-    → IfOk result IsOwn → IfErr result (λ stop. Caused [] [] stop k1 k2) → Did (told 2 (note.Unbuilt ∷ []) c.input) c d result → Serves (Some (run file)) b d k k2 result
-serves_refused file text b c d k k1 k2 result same l m held why own cause did = record {
-  never_less = later_more k k1 k2 l m;
-  caused = if_caused_more (file ∷ []) [] result k k1 k2 l cause;
-  own = own;
-  content = Some text;
-  told = held;
-  due = told 2 (note.Unbuilt ∷ []) b.input;
-  is_due = λ _. refused file text b.input why;
-  did = λ _. subst (λ (c : Contents). Did (told 2 (note.Unbuilt ∷ []) c.input) c d result) same did;
+-- a file that wasn't fetched
+pub serves_unread : (order : Order) (b c : Contents) (k k1 : Counts) (stop : Stop) → c ≡ b → Later k k1 → Caused (file_of order ∷ []) [] stop k k1 → stop ≢ Input → Serves (Some order) b c k k1 (Err stop)
+serves_unread order b c k k1 stop same l cause other =
+    let content = content_of b.files (file_of order) in
+    serves_stopped order content.0 b c k k1 stop content.1 same l (keeps_more (file_of order ∷ []) (keeps_of order) stop k k1 cause) other
+
+-- memory was wanting before anything was done
+serves_unbegun : (order : Order) (content : Bytes) (b c d : Contents) (k k1 k2 : Counts) (result : Result ℕ Stop) → Tells b.files (file_of order) (Some content) → c ≡ b → Later k k1 → Later k1 k2 → IsUnbegun c d result
+    → Serves (Some order) b d k k2 result
+serves_unbegun order content b c d k k1 k2 result held same l m unbegun =
+    subst (λ r. Serves (Some order) b d k k2 r) (sym unbegun.memory)
+    (serves_stopped order (Some content) b d k k2 Memory held (unbegun.same ∙ same) (later_more k k1 k2 l m) tt (λ clash. cc))
+
+-- what a call did after its file was read, which changed nothing
+pub record After (order : Order) (content : Bytes) (b c d : Contents) (k k1 k2 : Counts) (result : Result ℕ Stop) : Type 0 where
+  held : Tells b.files (file_of order) (Some content)
+  same : c ≡ b
+  first : Later k k1
+  then : Later k1 k2
+  own : IfOk result IsOwn
+  cause : IfErr result (λ stop. Caused [] (keeps_of order) stop k1 k2)
+
+pub after : (order : Order) (content : Bytes) (b c d : Contents) (k k1 k2 : Counts) (result : Result ℕ Stop) → Tells b.files (file_of order) (Some content) → c ≡ b → Later k k1 → Later k1 k2 → IfOk result IsOwn
+    → IfErr result (λ stop. Caused [] (keeps_of order) stop k1 k2) → After order content b c d k k1 k2 result
+after order content b c d k k1 k2 result held same first then own cause = record { held = held; same = same; first = first; then = then; own = own; cause = cause }
+
+-- what was done is what is due
+done : (order : Order) (content : Bytes) (b c d : Contents) (k k1 k2 : Counts) (result : Result ℕ Stop) (due : Due) (input : Bytes) → After order content b c d k k1 k2 result → ForSome c.input (λ left. input ≡ left) → IsDue (Some order) (Some content) input due
+    → Did due c d result → (IsReadyFirst order → result ≡ Err Memory → d.output ≡ c.output) → Serves (Some order) b d k k2 result
+done order content b c d k k1 k2 result due input a fed is_due did ready = record {
+  never_less = later_more k k1 k2 a.first a.then;
+  caused = if_caused_more (file_of order ∷ []) (keeps_of order) result k k1 k2 a.first a.cause;
+  own = a.own;
+  content = Some content;
+  told = a.held;
+  input = input;
+  fed = subst (λ (x : Contents). ForSome x.input (λ left. input ≡ left)) a.same fed;
+  due = due;
+  is_due = is_due;
+  did = subst (λ (x : Contents). Did due x d result) a.same did;
+  ready = λ first memory. ready first memory ∙ ap (λ (x : Contents). x.output) a.same;
 }
 
--- memory was wanting, and nothing was done
-did_none : (due : Due) (b d : Contents) (result : Result ℕ Stop) → result ≡ Err Memory → d ≡ b → Did due b d result
-did_none due b d result memory same =
-    let none : Did due b d (Err Memory) = subst (λ (c : Contents). Did due b c (Err Memory)) (sym same) (part_none due b Memory) in
-    subst (λ (r : Result ℕ Stop). Did due b d r) (sym memory) none
+-- nothing was done
+pub none_done : (order : Order) (content : Bytes) (b c d : Contents) (k k1 k2 : Counts) (result : Result ℕ Stop) → After order content b c d k k1 k2 result → IsUnbegun c d result → Serves (Some order) b d k k2 result
+none_done order content b c d k k1 k2 result a unbegun = serves_unbegun order content b c d k k1 k2 result a.held a.same a.first a.then unbegun
 
--- the due of a program, by what is told of the input
-record Runs (file text : Bytes) (b d : Contents) (input : Option Bytes) (result : Result ℕ Stop) : Type 0 where
-  due : Due
-  is_due : IsSome input → IsDue (Some (run file)) (Some text) input due
-  did : IsSome input → Did due b d result
+-- a text that is refused
+pub serves_refused : (order : Order) (text : Bytes) (b c d : Contents) (k k1 k2 : Counts) (result : Result ℕ Stop) → BuildsText order → IsRefused text → After order text b c d k k1 k2 result → result ≢ Err Memory → Did (told 2 (note.Unbuilt ∷ [])) c d result
+    → Serves (Some order) b d k k2 result
+serves_refused order text b c d k k1 k2 result is_text why a ready did =
+    let input = some_input c.input in
+    done order text b c d k k1 k2 result (told 2 (note.Unbuilt ∷ [])) input.0 a input.1 (refused order text input.0 is_text why) did (λ _ memory. absurd (ready memory))
 
-runs_told : (file text : Bytes) (p : Tree) (b d : Contents) (result : Result ℕ Stop) (input : Option Bytes) → b.input ≡ input → IsProgramOf text p → Works p b d result → Runs file text b d input result
-runs_told file text p b d result None is program works = record { due = told 7 [] None; is_due = λ some. absurd (cc); did = λ some. absurd (cc) }
-runs_told file text p b d result (Some left) is program (inl unbegun) =
-    let due = told 7 [] (Some left) in
-    record {
-      due = due;
-      is_due = λ _. stopped (run file) (Some text) (Some left);
-      did = λ _. did_none due b d result unbegun.memory unbegun.same;
-    }
-runs_told file text p b d result (Some left) is program (inr works) =
-    let w = works left is in
-    record {
-      due = ran w.program (image_of p) left w.n w.end (Some left);
-      is_due = λ _. runs file text (Some left) p (image_of p) w.program w.n w.end program.short program.program (image_is p program.command program.few) w.ends;
-      did = λ _. w.did;
-    }
+is_built : (text : Bytes) (stack : ℕ) (p : Tree) → IsProgramOf text p → IsBuilt text stack p (image_of stack p)
+is_built text stack p is = record { short = is.short; program = is.program; stack_is = refl; runs = small_runs_as_copy_rule stack p is.command is.few }
 
--- the text of a program
-pub serves_program : (file text : Bytes) (p : Tree) (b c d : Contents) (k k1 k2 : Counts) (result : Result ℕ Stop) → c ≡ b → Later k k1 → Later k1 k2 → Tells b.files file (Some text) → IsProgramOf text p
-    → IfOk result IsOwn → IfErr result (λ stop. Caused [] [] stop k1 k2) → Works p c d result → Serves (Some (run file)) b d k k2 result
-serves_program file text p b c d k k1 k2 result same l m held program own cause works =
-    let r = runs_told file text p b d result b.input refl program (subst (λ (c : Contents). Works p c d result) same works) in
-    record {
-      never_less = later_more k k1 k2 l m;
-      caused = if_caused_more (file ∷ []) [] result k k1 k2 l cause;
-      own = own;
-      content = Some text;
-      told = held;
-      due = r.due;
-      is_due = r.is_due;
-      did = r.did;
-    }
+-- `build` of a program
+pub serves_build : (file name : Bytes) (stack : Option ℕ) (text : Bytes) (p : Tree) (b c d : Contents) (k k1 k2 : Counts) (result : Result ℕ Stop) → IsProgramOf text p → After (build file name stack) text b c d k k1 k2 result
+    → Keeps (image_of (stack_wanted stack) p) name c d result → Serves (Some (build file name stack)) b d k k2 result
+serves_build file name stack text p b c d k k1 k2 result is a (inl unbegun) = none_done (build file name stack) text b c d k k1 k2 result a unbegun
+serves_build file name stack text p b c d k k1 k2 result is a (inr was) =
+    let input = some_input c.input in
+    let built = is_built text (stack_wanted stack) p is in
+    done (build file name stack) text b c d k k1 k2 result _ input.0 a input.1 (builds file name stack text input.0 p (image_of (stack_wanted stack) p) was.bytes built was.spelled) was.did
+    (λ _ memory. absurd (was.ready memory))
 
--- a command of one file
-pub serves_run : (order : Order) (file : Bytes) (b c : Contents) (k k1 : Counts) (result : Result ℕ Stop) → file ≡ file_of order → Serves (Some (run file)) b c k k1 result → Serves (Some order) b c k k1 result
-serves_run (run name) file b c k k1 result is s = subst (λ f. Serves (Some (run f)) b c k k1 result) is s
+-- `list` of a program
+pub serves_list : (file text : Bytes) (p : Tree) (b c d : Contents) (k k1 k2 : Counts) (result : Result ℕ Stop) → IsProgramOf text p → After (list file) text b c d k k1 k2 result
+    → ((program : Program) → IsProgramOfImage (image_of 1048576 p) program → Did (listed program) c d result) → Serves (Some (list file)) b d k k2 result
+serves_list file text p b c d k k1 k2 result is a did =
+    let input = some_input c.input in
+    let built = is_built text (stack_wanted None) p is in
+    done (list file) text b c d k k1 k2 result (listed built.runs.program) input.0 a input.1 (lists file text input.0 p (image_of 1048576 p) built) (did built.runs.program built.runs.is_the_images) (λ ready. absurd ready)
+
+-- `exec` of bytes that are no image
+pub serves_no_image : (name : Bytes) (steps trace : Option ℕ) (bytes : Bytes) (error : ImageError) (why : Note) (b c d : Contents) (k k1 k2 : Counts) (result : Result ℕ Stop) → refusal_of bytes ≡ Some error → refusal_note error ≡ Some why
+    → After (exec name steps trace) bytes b c d k k1 k2 result → result ≢ Err Memory → Did (told 6 (why ∷ [])) c d result → Serves (Some (exec name steps trace)) b d k k2 result
+serves_no_image name steps trace bytes error why b c d k k1 k2 result refusal is a ready did =
+    let input = some_input c.input in
+    done (exec name steps trace) bytes b c d k k1 k2 result (told 6 (why ∷ [])) input.0 a input.1 (unread name steps trace bytes input.0 error why refusal is) did (λ _ memory. absurd (ready memory))
+
+-- `exec` of an image
+pub serves_exec : (name : Bytes) (steps trace : Option ℕ) (bytes : Bytes) (image : Image) (b c d : Contents) (k k1 k2 : Counts) (result : Result ℕ Stop) → IsImageBytes image bytes → After (exec name steps trace) bytes b c d k k1 k2 result
+    → (trace ≡ None → result ≡ Err Memory → d.output ≡ c.output) → Executes image (steps_wanted steps) trace c d result → Serves (Some (exec name steps trace)) b d k k2 result
+serves_exec name steps trace bytes image b c d k k1 k2 result spelled a ready (inl unbegun) = none_done (exec name steps trace) bytes b c d k k1 k2 result a unbegun
+serves_exec name steps trace bytes image b c d k k1 k2 result spelled a ready (inr e) =
+    let r = e.has_run in
+    done (exec name steps trace) bytes b c d k k1 k2 result _ r.input a r.fed (executes name steps trace bytes r.input image e.program r.n r.end spelled e.is_the_images r.is_run) r.did (quiet trace ready)
+  where
+    quiet : (trace : Option ℕ) → (trace ≡ None → result ≡ Err Memory → d.output ≡ c.output) → IsReadyFirst (exec name steps trace) → result ≡ Err Memory → d.output ≡ c.output
+    quiet None ready first = ready refl
+    quiet (Some count) ready first = absurd first
+
+machine_end : (end : Ending) → IsOwnEnd end → IsMachineEnd end
+machine_end ends.Ended own = tt
+machine_end (ends.Fault kind place) own = tt
+machine_end ends.Exhausted own = tt
+machine_end (ends.Trap kind) own = tt
+machine_end ends.Spent own = tt
+machine_end ends.InputFault own = tt
+machine_end ends.OutputFault own = tt
+machine_end ends.TooBig own = own
+machine_end ends.Stuck own = own
+machine_end ends.Gone own = own
+
+-- `run` of a program
+pub serves_run : (file : Bytes) (steps stack : Option ℕ) (name : Option Bytes) (text : Bytes) (p : Tree) (b c d : Contents) (k k1 k2 : Counts) (result : Result ℕ Stop) → IsProgramOf text p → After (run file steps stack name) text b c d k k1 k2 result
+    → KeepsAndRuns (image_of (stack_wanted stack) p) (steps_wanted steps) (kept_as file name) c d result → Serves (Some (run file steps stack name)) b d k k2 result
+serves_run file steps stack name text p b c d k k1 k2 result is a (inl unbegun) = none_done (run file steps stack name) text b c d k k1 k2 result a unbegun
+serves_run file steps stack name text p b c d k k1 k2 result is a (inr e) =
+    let image = image_of (stack_wanted stack) p in
+    let built = is_built text (stack_wanted stack) p is in
+    let program = one_program image e.executed.program built.runs.program e.executed.is_the_images built.runs.is_the_images in
+    let R : Program → Type 0 = λ program. HasRun program (start_of image) (steps_wanted steps) None (Some (kept_as file name, e.bytes)) c d result in
+    let r = subst R program e.executed.has_run in
+    let shows = shows_copy_rule p image built.runs r.input r.n (steps_wanted steps) r.end r.is_run.ends (machine_end r.end r.is_run.own) (λ m. small_never_sticks p r.input m is.command) in
+    done (run file steps stack name) text b c d k k1 k2 result _ r.input a r.fed (runs file steps stack name text r.input p image e.bytes r.n r.end built e.spelled r.is_run shows) r.did (λ _ memory. absurd (e.ready memory))
+
+-- memory was wanting before anything was read
+pub serves_nothing : (order : Order) (b : Contents) (k : Counts) (stop : Stop) → stop ≡ Memory → Later k k → Serves (Some order) b b k k (Err stop)
+serves_nothing order b k stop memory l =
+    subst (λ s. Serves (Some order) b b k k (Err s)) (sym memory) (serves_unread order b b k k Memory refl l tt (λ clash. cc))

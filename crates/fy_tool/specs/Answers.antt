@@ -1,16 +1,16 @@
 -- How a call answers: all that is due was done, or the outside failed, or memory was wanting.
-use Rattle.std.specs.Prelude.{◌≡◌, ◌≢◌, ℕ, List, [], ◌∷◌, ◌++◌, ◌⊎◌, take, Some, None, Any, MatchResult, IfOk, IfErr}
-use Rattle.std.specs.Option.{option_map}
+use Rattle.std.specs.Prelude.{◌≡◌, ◌≢◌, ℕ, ◌≤◌, List, [], ◌∷◌, ◌++◌, ◌⊎◌, take, Some, None, Any, MatchResult, IfOk, IfErr}
+use Rattle.std.specs.Option.{option_map, ForSome}
 use Rattle.std.specs.declared.option.Option.{Option}
 use Rattle.std.specs.declared.result.Result.{Result}
 use Rattle.std.specs.declared.result.Result.TheVariants.{Ok, Err}
 use Rattle.std.specs.FinMap.{insert}
-use Rattle.fy_base.specs.Outside.{Bytes, Folder, Rose, appended, Gained, GainedPart, IsPrefix, Tells, Kept, OthersStay}
+use Rattle.fy_base.specs.Outside.{Bytes, Folder, Rose, Gave, appended, Gained, GainedPart, IsPrefix, Tells, Kept, OthersStay}
+use Rattle.rv_machine.specs.Ends.{AsksAt}
 use Rattle.fy_tool.specs.World.{Contents, Counts, Later}
-use Rattle.fy_tool.specs.Note.{lines}
+use Rattle.fy_tool.specs.Note.{texts, ended_lines}
 use Rattle.fy_tool.specs.Order.{Order}
-use Rattle.fy_tool.specs.Due.{Due, IsDue, file_of, keeps_of, Feeds}
-use Rattle.fy_tool.specs.declared.note.Note.{Note}
+use Rattle.fy_tool.specs.Due.{Due, Running, IsDue, file_of, keeps_of, IsReadyFirst}
 use Rattle.fy_tool.specs.declared.note.Note.TheVariants as note
 use Rattle.fy_tool.specs.declared.world.Stop.{Stop}
 use Rattle.fy_tool.specs.declared.world.Stop.TheVariants.{Files, Input, Output, Notes, Memory}
@@ -22,13 +22,18 @@ abbrev pub files_after : Option Folder → Option (Bytes × Bytes) → Option Fo
 files_after files None = files
 files_after files (Some kept) = option_map (λ folder. insert folder kept.0 kept.1) files
 
+-- the input after the due rest was left, or all of it
+abbrev pub input_after : Option Bytes → Option Bytes → Option Bytes
+input_after input None = input
+input_after input (Some rest) = option_map (λ _. rest) input
+
 -- the objects after all that is due was done
 abbrev pub after_all : Due → Contents → Contents
 after_all due before = record {
   files = files_after before.files due.kept;
-  input = due.input;
+  input = input_after before.input due.rest;
   output = appended before.output due.output;
-  notes = appended before.notes (lines due.notes);
+  notes = appended before.notes (ended_lines due.notes);
 }
 
 -- ---- a part of it
@@ -38,16 +43,30 @@ abbrev pub FilesPart : Option (Bytes × Bytes) → Option Folder → Option Fold
 FilesPart None before now = now ≡ before
 FilesPart (Some kept) before now = (now ≡ before) ⊎ Kept before now kept.0 kept.1 ⊎ OthersStay before now kept.0
 
--- whole lines of the due notes
-pub record WholeLines (notes : List Note) (before now : Option Bytes) : Type 0 where
-  pub count : ℕ
-  pub gained : Gained before now (lines (take count notes))
+-- a run takes bytes of input, and nothing else does
+abbrev pub InputPart : Option Running → Option Bytes → Option Bytes → Type 0
+InputPart None before now = now ≡ before
+InputPart (Some running) before now = (taken : Bytes) × Gave before now taken
 
+-- a run comes to an instruction, within its limit, that reads a byte
+abbrev pub Asks : Option Running → Type 0
+Asks None = ⊥
+Asks (Some running) = (n : ℕ) × (n ≤ running.limit) × AsksAt running.program running.first n
+
+-- whole lines of the due notes
+pub record WholeLines (notes : List Bytes) (before now : Option Bytes) : Type 0 where
+  pub count : ℕ
+  pub gained : Gained before now (ended_lines (take count notes))
+
+-- where memory was wanting, the files are as before, and the lines of notes are whole; where the input failed, a run asked for a byte
 pub record Part (due : Due) (before now : Contents) (stop : Stop) : Type 0 where
   pub files : FilesPart due.kept before.files now.files
+  pub input : InputPart due.running before.input now.input
   pub output : GainedPart before.output now.output due.output
-  pub notes : GainedPart before.notes now.notes (lines due.notes)
+  pub notes : GainedPart before.notes now.notes (ended_lines due.notes)
+  pub unchanged : stop ≡ Memory → now.files ≡ before.files
   pub whole : stop ≡ Memory → WholeLines due.notes before.notes now.notes
+  pub asks : stop ≡ Input → Asks due.running
 
 -- ---- causes
 
@@ -82,9 +101,9 @@ abbrev pub TellsAll : Option Order → Option Folder → Option Bytes → Type 0
 TellsAll None files content = Unit {0}
 TellsAll (Some order) files content = Tells files (file_of order) content
 
-abbrev pub FeedsAll : Option Order → Option Bytes → Type 0
-FeedsAll None input = Unit {0}
-FeedsAll (Some order) input = Feeds order input
+abbrev pub IsAllReadyFirst : Option Order → Type 0
+IsAllReadyFirst None = Unit {0}
+IsAllReadyFirst (Some order) = IsReadyFirst order
 
 -- the work of an order, or of none
 pub record Serves (order : Option Order) (before now : Contents) (counts counts' : Counts) (result : Result ℕ Stop) : Type 0 where
@@ -93,19 +112,22 @@ pub record Serves (order : Option Order) (before now : Contents) (counts counts'
   pub own : IfOk result IsOwn
   pub content : Option Bytes
   pub told : TellsAll order before.files content
+  pub input : Bytes
+  pub fed : ForSome before.input (λ left. input ≡ left)
   pub due : Due
-  pub is_due : FeedsAll order before.input → IsDue order content before.input due
-  pub did : FeedsAll order before.input → Did due before now result
+  pub is_due : IsDue order content input due
+  pub did : Did due before now result
+  pub ready : IsAllReadyFirst order → result ≡ Err Memory → now.output ≡ before.output
 
 -- ---- the end of a call
 
 -- how a stop is told at notes: its line, where notes didn't fail
 abbrev pub last_line : Stop → Bytes
-last_line Files = lines (note.OutsideFiles ∷ [])
-last_line Input = lines (note.OutsideInput ∷ [])
-last_line Output = lines (note.OutsideOutput ∷ [])
+last_line Files = ended_lines (texts (note.OutsideFiles ∷ []))
+last_line Input = ended_lines (texts (note.OutsideInput ∷ []))
+last_line Output = ended_lines (texts (note.OutsideOutput ∷ []))
 last_line Notes = []
-last_line Memory = lines (note.Memory ∷ [])
+last_line Memory = ended_lines (texts (note.Memory ∷ []))
 
 -- the status, and the last line where there is one
 pub record Concludes (result : Result ℕ Stop) (before now : Contents) (counts counts' : Counts) (status : ℕ) : Type 0 where
@@ -121,32 +143,40 @@ pub record NotesPart (due : Due) (stop : Stop) (before now : Option Bytes) : Typ
   pub first : Bytes
   pub second : Bytes
   pub gained : Gained before now (first ++ second)
-  pub begins : IsPrefix first (lines due.notes) ⊎ ((count : ℕ) × IsPrefix first (lines (take count due.notes) ++ last_line Memory))
+  pub begins : IsPrefix first (ended_lines due.notes) ⊎ ((count : ℕ) × IsPrefix first (ended_lines (take count due.notes) ++ last_line Memory))
   pub ends : IsPrefix second (last_line stop)
 
 -- status 7: a part of what is due was done
 pub record IsOutside (due : Due) (before now : Contents) (stop : Stop) : Type 0 where
   pub files : FilesPart due.kept before.files now.files
+  pub input : InputPart due.running before.input now.input
+  pub asks : stop ≡ Input → Asks due.running
   pub output : GainedPart before.output now.output due.output
   pub notes : NotesPart due stop before.notes now.notes
 
--- status 9: a part of what is due was done, in whole lines of notes, and then the line `memory`
+-- status 9: no file changed, a part of what is due was done, in whole lines of notes, and then the line `memory`
 pub record IsMemory (due : Due) (before now : Contents) : Type 0 where
-  pub files : FilesPart due.kept before.files now.files
+  pub files : now.files ≡ before.files
+  pub input : InputPart due.running before.input now.input
   pub output : GainedPart before.output now.output due.output
   pub count : ℕ
-  pub notes : Gained before.notes now.notes (lines (take count due.notes) ++ last_line Memory)
+  pub notes : Gained before.notes now.notes (ended_lines (take count due.notes) ++ last_line Memory)
 
 -- How a call answers. With status 7 a count rose that licenses it; with another but 9 all that is due was done, and nothing else.
 pub record Answers (order : Option Order) (before now : Contents) (counts counts' : Counts) (status : ℕ) : Type 0 where
   -- what the named file holds, or that there is none; where files are told, that
   pub content : Option Bytes
   pub told : TellsAll order before.files content
+  -- the input; where it tells what is left, that
+  pub input : Bytes
+  pub fed : ForSome before.input (λ left. input ≡ left)
   pub due : Due
-  pub is_due : FeedsAll order before.input → IsDue order content before.input due
+  pub is_due : IsDue order content input due
   pub stop : Stop
   pub caused : status ≡ 7 → (stop ≢ Memory) × Caused (all_reads_of order) (all_keeps_of order) stop counts counts'
-  pub due_done : status ≢ 7 → status ≢ 9 → FeedsAll order before.input → (status ≡ due.status) × (now ≡ after_all due before)
-  pub outside : status ≡ 7 → FeedsAll order before.input → IsOutside due before now stop
-  pub memory : status ≡ 9 → FeedsAll order before.input → IsMemory due before now
+  pub due_done : status ≢ 7 → status ≢ 9 → (status ≡ due.status) × (now ≡ after_all due before)
+  pub outside : status ≡ 7 → IsOutside due before now stop
+  pub memory : status ≡ 9 → IsMemory due before now
+  -- where all memory is taken first, none of it was wanting once a byte was put to output
+  pub ready : IsAllReadyFirst order → status ≡ 9 → now.output ≡ before.output
   pub never_less : Later counts counts'

@@ -1,57 +1,93 @@
 -- What is due for an order: its status, its output, its notes, the file that it keeps and what it leaves at input.
-use Rattle.std.specs.Prelude.{◌≡◌, ◌⊎◌, ℕ, ◌≤◌, ◌<◌, List, [], ◌∷◌, ◌++◌, length, Some, None, unwrap_or, IsSome, option_to_list}
-use Rattle.std.specs.Option.{option_map}
+use Rattle.std.specs.Prelude.{◌≡◌, ◌⊎◌, ℕ, ◌≤◌, ◌<◌, List, [], ◌∷◌, ◌++◌, length, map, codes, Some, None, unwrap_or, option_to_list}
 use Rattle.std.specs.declared.option.Option.{Option}
+use Rattle.circular_buffer.specs.Buffer.{keep_last}
 use Rattle.fy_base.specs.Outside.{Bytes}
-use Rattle.fy_phrase.specs.Tree.{Tree}
-use Rattle.fy_phrase.specs.Copy.{Standing, ended, faulted, copy_after}
-use Rattle.fy_phrase.specs.Bounds.{copy_bound}
-use Rattle.fy_image.specs.Ranges.{IsImage}
-use Rattle.fy_image.specs.declared.image.Image.{Image}
-use Rattle.rv_insn.specs.Program.{Program}
-use Rattle.rv_machine.specs.Start.{IsProgramOf, start_of, machine_after}
-use Rattle.rv_machine.specs.Run.{going_world}
-use Rattle.rv_machine.specs.Ends.{EndsSo}
 use Rattle.fy_base.specs.declared.data.Ending.{Ending}
 use Rattle.fy_base.specs.declared.data.Ending.TheVariants as ends
+use Rattle.fy_phrase.specs.Tree.{Tree}
+use Rattle.fy_image.specs.Form.{IsImageBytes}
+use Rattle.fy_image.specs.Refusals.{refusal_of}
+use Rattle.fy_image.specs.declared.error.ImageError.{ImageError}
+use Rattle.fy_image.specs.declared.image.Image.{Image}
+use Rattle.rv_insn.specs.Program.{Program}
+use Rattle.rv_machine.specs.Fetch.{fetches}
+use Rattle.rv_machine.specs.Start.{IsProgramOf, start_of}
+use Rattle.rv_machine.specs.Run.{World, run, going_world}
+use Rattle.rv_machine.specs.Ends.{EndsSo}
 use Rattle.fy_tool.specs.Small.{IsProgram}
-use Rattle.fy_tool.specs.Order.{Order, run}
+use Rattle.fy_tool.specs.Headline.{RunsAsCopyRule, ShowsCopyRule}
+use Rattle.fy_tool.specs.Order.{Order}
+use Rattle.fy_tool.specs.Order as orders
+use Rattle.fy_tool.specs.Note.{texts, ended_lines, refusal_note}
+use Rattle.fy_tool.specs.Shown.{shown, listing}
 use Rattle.fy_tool.specs.declared.note.Note.{Note}
 use Rattle.fy_tool.specs.declared.note.Note.TheVariants as note
 
+-- a run of a machine, of at most so many instructions
+pub record Running : Type 0 where
+  pub program : Program
+  pub first : World
+  pub limit : ℕ
+
+-- what is due; where the rest of the input is none, the input is as before. The notes are lines
 pub record Due : Type 0 where
   pub status : ℕ
   pub output : Bytes
-  pub notes : List Note
+  pub notes : List Bytes
   pub kept : Option (Bytes × Bytes)
-  pub input : Option Bytes
+  pub rest : Option Bytes
+  pub running : Option Running
 
 -- a status and notes, and nothing else
-abbrev pub told : ℕ → List Note → Option Bytes → Due
-told status notes input = record { status = status; output = []; notes = notes; kept = None; input = input }
+abbrev pub told : ℕ → List Note → Due
+told status notes = record { status = status; output = []; notes = texts notes; kept = None; rest = None; running = None }
+
+-- ---- texts and their images
 
 -- a text that is too long, or not of the grammar
 abbrev pub IsRefused : Bytes → Type 0
 IsRefused text = (4096 < length text) ⊎ ((p : Tree) → IsProgram text p → ⊥)
 
--- the most instructions of a run
-abbrev pub run_limit : ℕ
-run_limit = 1000000000
+-- the image of a text, whose phrase is p, has so many stack words, and it runs as the copy rule
+pub record IsBuilt (text : Bytes) (stack : ℕ) (p : Tree) (image : Image) : Type 0 where
+  pub short : length text ≤ 4096
+  pub program : IsProgram text p
+  pub stack_is : image.stack_words ≡ stack
+  pub runs : RunsAsCopyRule p image
 
--- a run's end that is the copy rule's
-abbrev pub SameEnd : Ending → Standing → Type 0
-SameEnd ends.Ended standing = standing ≡ ended
-SameEnd (ends.Fault kind place) standing = standing ≡ faulted kind place
-SameEnd _ standing = ⊥
+-- what is wanted where no option says it
+abbrev pub stack_wanted : Option ℕ → ℕ
+stack_wanted stack = unwrap_or stack 1048576
 
--- the image's run ends so after n instructions, and the copy rule has ended so, has written the same and has left the same at
--- input, within the steps that n instructions stand for
-pub record EndsAsCopyRule (p : Tree) (image : Image) (program : Program) (input : Bytes) (n : ℕ) (end : Ending) : Type 0 where
-  pub is_the_images : IsProgramOf image program
-  pub ends_so : EndsSo end program (going_world (start_of image) input) n run_limit
-  pub end_is_the_copy_rules : SameEnd end (copy_after p input (copy_bound p n)).standing
-  pub output_is_the_copy_rules : (machine_after program image input n).output ≡ (copy_after p input (copy_bound p n)).output
-  pub rest_is_the_copy_rules : (machine_after program image input n).input ≡ (copy_after p input (copy_bound p n)).input
+abbrev pub steps_wanted : Option ℕ → ℕ
+steps_wanted steps = unwrap_or steps 1000000000
+
+-- an order whose image has a stack of a size that images have
+abbrev pub HasStack : Order → Type 0
+HasStack (orders.build file image stack) = (1024 ≤ stack_wanted stack) × (stack_wanted stack ≤ 16777216)
+HasStack (orders.run file steps stack image) = (1024 ≤ stack_wanted stack) × (stack_wanted stack ≤ 16777216)
+HasStack _ = Unit {0}
+
+-- the name under which `run` keeps its image: FILE followed by `.img`, where no option names another
+abbrev pub kept_as : Bytes → Option Bytes → Bytes
+kept_as file image = unwrap_or image (file ++ codes ".img")
+
+-- ---- runs
+
+-- the ends of runs that no fault of the outside ended
+abbrev pub IsOwnEnd : Ending → Type 0
+IsOwnEnd ends.Ended = Unit {0}
+IsOwnEnd (ends.Fault kind place) = Unit {0}
+IsOwnEnd ends.Exhausted = Unit {0}
+IsOwnEnd ends.Spent = Unit {0}
+IsOwnEnd (ends.Trap kind) = Unit {0}
+IsOwnEnd _ = ⊥
+
+-- a run of at most so many instructions ends so after n of them
+pub record IsRun (run : Running) (n : ℕ) (end : Ending) : Type 0 where
+  pub ends : EndsSo end run.program run.first n run.limit
+  pub own : IsOwnEnd end
 
 -- the status and the note of a run's end
 abbrev pub status_of : Ending → ℕ
@@ -68,35 +104,76 @@ note_of ends.Spent = Some note.StepsSpent
 note_of (ends.Trap kind) = Some (note.Trapped kind)
 note_of _ = None
 
--- what a run of so many instructions that ended so has to show
-abbrev pub ran : Program → Image → Bytes → ℕ → Ending → Option Bytes → Due
-ran program image left n end input = record {
+-- the last notes of a run of n instructions that ended so
+abbrev pub end_notes : Ending → ℕ → List Note
+end_notes end n = option_to_list (note_of end) ++ note.Instructions n ∷ []
+
+-- the lines of the last so many words that a run of n instructions fetched, the oldest first; none where no trace is wanted
+abbrev pub traced : Option ℕ → Running → ℕ → List Bytes
+traced None run n = []
+traced (Some count) run n = map (shown run.program) (keep_last count (fetches run.program run.first n))
+
+-- what is due for a run that ends so after n instructions
+abbrev pub ran : Running → Option ℕ → Option (Bytes × Bytes) → ℕ → Ending → Due
+ran running trace kept n end = record {
   status = status_of end;
-  output = (machine_after program image left n).output;
-  notes = option_to_list (note_of end) ++ note.Instructions n ∷ [];
-  kept = None;
-  input = option_map (λ _. (machine_after program image left n).input) input;
+  output = (run running.program n running.first).output;
+  notes = traced trace running n ++ texts (end_notes end n);
+  kept = kept;
+  rest = Some (run running.program n running.first).input;
+  running = Some running;
 }
 
--- what is due for the words, by the content of the file that they name, if it has one, and the input
-pub data IsDue : Option Order → Option Bytes → Option Bytes → Due → Type 0 where
+-- the run of an image on an input
+abbrev pub running_of : Program → Image → Bytes → Option ℕ → Running
+running_of program image input steps = record { program = program; first = going_world (start_of image) input; limit = steps_wanted steps }
+
+-- ---- orders
+
+-- an order that makes the image of a text
+abbrev pub BuildsText : Order → Type 0
+BuildsText (orders.exec image steps trace) = ⊥
+BuildsText _ = Unit {0}
+
+-- what is due for the words, by the content of the file that they name, if it has one, and by the input
+pub data IsDue : Option Order → Option Bytes → Bytes → Due → Type 0 where
   -- words that are no command
-  usage : (content input : Option Bytes) → IsDue None content input (told 5 (note.Usage ∷ []) input)
+  usage : (content : Option Bytes) (input : Bytes) → IsDue None content input (told 5 (note.Usage ∷ []))
   -- a call that the outside or want of memory stopped before it did anything
-  stopped : (order : Order) (content input : Option Bytes) → IsDue (Some order) content input (told 7 [] input)
-  -- `run` of a text that is refused
-  refused : (file text : Bytes) (input : Option Bytes) → IsRefused text → IsDue (Some (run file)) (Some text) input (told 2 (note.Unbuilt ∷ []) input)
-  -- `run` of a program
-  runs : (file text : Bytes) (input : Option Bytes) (p : Tree) (image : Image) (program : Program) (n : ℕ) (end : Ending) → length text ≤ 4096 → IsProgram text p → IsImage image
-      → EndsAsCopyRule p image program (unwrap_or input []) n end → IsDue (Some (run file)) (Some text) input (ran program image (unwrap_or input []) n end input)
+  stopped : (order : Order) (content : Option Bytes) (input : Bytes) → IsDue (Some order) content input (told 7 [])
+  -- a text that is refused
+  refused : (order : Order) (text input : Bytes) → BuildsText order → IsRefused text → IsDue (Some order) (Some text) input (told 2 (note.Unbuilt ∷ []))
+  -- `build` keeps the image's bytes
+  builds : (file name : Bytes) (stack : Option ℕ) (text input : Bytes) (p : Tree) (image : Image) (bytes : Bytes) → IsBuilt text (stack_wanted stack) p image → IsImageBytes image bytes
+      → IsDue (Some (orders.build file name stack)) (Some text) input (record { status = 0; output = []; notes = []; kept = Some (name, bytes); rest = None; running = None })
+  -- `list` writes the image's listing
+  lists : (file text input : Bytes) (p : Tree) (image : Image) (built : IsBuilt text (stack_wanted None) p image)
+      → IsDue (Some (orders.list file)) (Some text) input (record { status = 0; output = ended_lines (listing built.runs.program); notes = []; kept = None; rest = None; running = None })
+  -- `exec` of bytes that are no image
+  unread : (name : Bytes) (steps trace : Option ℕ) (bytes input : Bytes) (error : ImageError) (why : Note) → refusal_of bytes ≡ Some error → refusal_note error ≡ Some why
+      → IsDue (Some (orders.exec name steps trace)) (Some bytes) input (told 6 (why ∷ []))
+  -- `exec` of an image's bytes
+  executes : (name : Bytes) (steps trace : Option ℕ) (bytes input : Bytes) (image : Image) (program : Program) (n : ℕ) (end : Ending) → IsImageBytes image bytes → IsProgramOf image program
+      → IsRun (running_of program image input steps) n end → IsDue (Some (orders.exec name steps trace)) (Some bytes) input (ran (running_of program image input steps) trace None n end)
+  -- `run` keeps the image of a text and runs it
+  runs : (file : Bytes) (steps stack : Option ℕ) (name : Option Bytes) (text input : Bytes) (p : Tree) (image : Image) (bytes : Bytes) (n : ℕ) (end : Ending)
+      (built : IsBuilt text (stack_wanted stack) p image) → IsImageBytes image bytes → IsRun (running_of built.runs.program image input steps) n end → ShowsCopyRule end p image built.runs.program input n
+      → IsDue (Some (orders.run file steps stack name)) (Some text) input (ran (running_of built.runs.program image input steps) None (Some (kept_as file name, bytes)) n end)
 
 -- the files that an order reads and those that it keeps
 abbrev pub file_of : Order → Bytes
-file_of (run file) = file
+file_of (orders.build file image stack) = file
+file_of (orders.exec image steps trace) = image
+file_of (orders.run file steps stack image) = file
+file_of (orders.list file) = file
 
 abbrev pub keeps_of : Order → List Bytes
-keeps_of (run file) = []
+keeps_of (orders.build file image stack) = image ∷ []
+keeps_of (orders.run file steps stack image) = kept_as file image ∷ []
+keeps_of _ = []
 
--- an order that reads input asks that the input is told
-abbrev pub Feeds : Order → Option Bytes → Type 0
-Feeds (run file) input = IsSome input
+-- an order that takes all its memory before it puts a byte to output
+abbrev pub IsReadyFirst : Order → Type 0
+IsReadyFirst (orders.exec image steps (Some count)) = ⊥
+IsReadyFirst (orders.list file) = ⊥
+IsReadyFirst _ = Unit {0}

@@ -4,6 +4,9 @@ pub mod Said
 pub mod World
 pub mod Note
 pub mod Order
+pub mod Words
+pub mod Shown
+pub mod Headline
 pub mod Due
 pub mod Answers
 pub mod Working

@@ -1,14 +1,17 @@
 -- The text of each note.
-use Rattle.std.specs.Prelude.{List, [], ◌∷◌, ◌++◌, codes, map}
+use Rattle.std.specs.Prelude.{List, [], ◌∷◌, ◌++◌, codes, map, Some, None}
 use Rattle.std.specs.Fmt.{decimal}
+use Rattle.std.specs.declared.option.Option.{Option}
 use Rattle.fy_base.specs.Outside.{Bytes}
+use Rattle.fy_image.specs.declared.error.ImageError.{ImageError}
+use Rattle.fy_image.specs.declared.error.ImageError.TheVariants as image
 use Rattle.fy_base.specs.declared.data.Place.{Place}
 use Rattle.fy_base.specs.declared.data.FaultKind.{FaultKind}
 use Rattle.fy_base.specs.declared.data.FaultKind.TheVariants.{Overflow, Zero, Range}
 use Rattle.fy_base.specs.declared.data.TrapKind.{TrapKind}
 use Rattle.fy_base.specs.declared.data.TrapKind.TheVariants.{Illegal, FetchAlign, FetchRange, LoadAlign, LoadRange, StoreAlign, StoreRange, Service}
 use Rattle.fy_tool.specs.declared.note.Note.{Note}
-use Rattle.fy_tool.specs.declared.note.Note.TheVariants.{Fault, StackExhausted, StepsSpent, Trapped, Unbuilt, Usage, OutsideFiles, OutsideInput, OutsideOutput, Memory, Instructions}
+use Rattle.fy_tool.specs.declared.note.Note.TheVariants.{Fault, StackExhausted, StepsSpent, Trapped, Unbuilt, Usage, OutsideFiles, OutsideInput, OutsideOutput, Memory, Instructions, ImageMagic, ImageVersion, ImageTruncated, ImageTrailing, ImageField, ImageLength}
 
 -- a place, as it is printed: line, colon, column
 abbrev pub place_text : Place → Bytes
@@ -40,6 +43,12 @@ note_text OutsideFiles = codes "outside files"
 note_text OutsideInput = codes "outside input"
 note_text OutsideOutput = codes "outside output"
 note_text Memory = codes "memory"
+note_text ImageMagic = codes "image magic"
+note_text (ImageVersion version) = codes "image version " ++ decimal version
+note_text ImageTruncated = codes "image truncated"
+note_text (ImageTrailing count) = codes "image trailing " ++ decimal count
+note_text (ImageField field) = codes "image field " ++ decimal field
+note_text ImageLength = codes "image length"
 note_text (Instructions count) = codes "instructions " ++ decimal count
 
 -- each line with its end, byte 10
@@ -47,6 +56,16 @@ abbrev pub ended_lines : List Bytes → Bytes
 ended_lines [] = []
 ended_lines (line ∷ lines) = line ++ 10 ∷ ended_lines lines
 
--- the lines of these notes
-abbrev pub lines : List Note → Bytes
-lines notes = ended_lines (map note_text notes)
+-- the texts of these notes
+abbrev pub texts : List Note → List Bytes
+texts notes = map note_text notes
+
+-- the note of an image that is refused
+abbrev pub refusal_note : ImageError → Option Note
+refusal_note image.BadMagic = Some ImageMagic
+refusal_note (image.BadVersion version) = Some (ImageVersion version)
+refusal_note image.Truncated = Some ImageTruncated
+refusal_note (image.Trailing count) = Some (ImageTrailing count)
+refusal_note (image.BadField field) = Some (ImageField field)
+refusal_note image.TooLarge = Some ImageLength
+refusal_note image.OutOfMemory = None

@@ -37,9 +37,7 @@ int_of (datum.Char c) = pos 0
 abbrev pub value_of : Tree → Result ℤ Place
 value_of (lit v at) = Ok (int_of v)
 value_of (binary op p q at) = added (value_of p) (value_of q) at
-value_of (skip at) = Ok (pos 0)
-value_of (seq p q at) = Ok (pos 0)
-value_of (put kind e at) = Ok (pos 0)
+value_of _ = Ok (pos 0)
 
 abbrev pub said_value : Result ℤ Place → Said
 said_value (Ok v) = record { text = signed_decimal v; fault = None }
@@ -53,9 +51,7 @@ said_then None text more = record { text = text ++ more.text; fault = more.fault
 abbrev pub said : Tree → Said
 said (seq p q at) = said_then (said p).fault (said p).text (said q)
 said (put kind e at) = said_value (value_of e)
-said (lit v at) = record { text = []; fault = None }
-said (binary op p q at) = record { text = []; fault = None }
-said (skip at) = record { text = []; fault = None }
+said _ = record { text = []; fault = None }
 
 -- sums of integer literals, and commands made of them; the places of the sums are places
 abbrev pub IsIntDatum : Datum → Type 0
@@ -66,16 +62,13 @@ IsIntDatum (datum.Char c) = ⊥
 abbrev pub IsAddition : Tree → Type 0
 IsAddition (lit v at) = IsIntDatum v
 IsAddition (binary op p q at) = (op ≡ Add) × IsPlace at × IsAddition p × IsAddition q
-IsAddition (skip at) = ⊥
-IsAddition (seq p q at) = ⊥
-IsAddition (put kind e at) = ⊥
+IsAddition _ = ⊥
 
 abbrev pub IsCommand : Tree → Type 0
-IsCommand (lit v at) = ⊥
-IsCommand (binary op p q at) = ⊥
 IsCommand (skip at) = Unit {0}
 IsCommand (seq p q at) = IsCommand p × IsCommand q
 IsCommand (put kind e at) = (kind ≡ kinds.Int) × IsAddition e
+IsCommand _ = ⊥
 
 -- how many output statements a phrase has
 abbrev pub puts_of : Tree → ℕ
@@ -92,18 +85,18 @@ abbrev pub places_of : Option Place → List Place
 places_of None = []
 places_of (Some at) = at ∷ []
 
--- the image of what is said: its code puts the text byte by byte, and then ends or faults
-abbrev pub image_saying : Said → Image
-image_saying s = record {
-  stack_words = 1048576;
+-- the image of what is said, with so many words of stack: its code puts the text byte by byte, and then ends or faults
+abbrev pub image_saying : ℕ → Said → Image
+image_saying stack s = record {
+  stack_words = stack;
   code = code_of (map put_block s.text ++ last_block s.fault ∷ []);
   table = [];
   places = places_of s.fault;
 }
 
--- the image of a phrase
-abbrev pub image_of : Tree → Image
-image_of p = image_saying (said p)
+-- the image of a phrase, with so many words of stack
+abbrev pub image_of : ℕ → Tree → Image
+image_of stack p = image_saying stack (said p)
 
 -- the last so many of some phrases were taken off, and are this sequence
 pub record TookLast (old new : List Phrase) (count : ℕ) (p : Tree) : Type 0 where

@@ -1,215 +1,349 @@
 //! What each command does.
 
-ghost use Rattle.std.specs.Prelude.{◌≡◌, ◌≤◌, ◌<◌, ℕ, [], ◌∷◌, length, OnOk, OnErr, IfOk, IfErr, ◌++◌, Some, option_to_list};
-ghost use Rattle.fy_base.specs.Outside.{Bytes, Rose, GainedPart, appended};
+ghost use Rattle.std.specs.Prelude.{◌≡◌, ◌≢◌, ◌≤◌, [], ◌∷◌, ◌++◌, None, Some, Err, codes, string_bytes, IfOk, IfErr};
+ghost use Rattle.std.specs.Option.{option_map};
+ghost use Rattle.fy_image.specs.Ranges.{IsImage};
 ghost use Rattle.fy_phrase.specs.Reads.{reads};
-ghost use Rattle.fy_tool.specs.World.{Later};
-ghost use Rattle.fy_tool.specs.Note.{lines};
-ghost use Rattle.fy_tool.specs.Said.{IsCommand, puts_of, image_of};
-ghost use Rattle.rv_machine.specs.Start.{IsProgramOf, start_of};
+ghost use Rattle.rv_insn.specs.Program.{Program};
 ghost use Rattle.rv_insn.specs.declared.events.Status.TheVariants.{Running};
-ghost use Rattle.fy_tool.specs.Order.{order_of, run};
-ghost use Rattle.fy_tool.specs.Due.{told, status_of, note_of};
-ghost use Rattle.fy_tool.specs.Answers.{Caused, Did, IsOwn, Serves, Concludes};
-ghost use Rattle.fy_tool.specs.Working.{Judged, Reads, Works};
+ghost use Rattle.rv_machine.specs.Start.{IsProgramOf, start_of};
+ghost use Rattle.fy_tool.specs.World.{Later};
+ghost use Rattle.fy_tool.specs.Said.{IsCommand, puts_of, image_of};
+ghost use Rattle.fy_tool.specs.Order.{order_of, build, exec, run, list};
+ghost use Rattle.fy_tool.specs.Due.{steps_wanted, stack_wanted, kept_as, HasStack};
+ghost use Rattle.fy_tool.specs.Answers.{Caused, Did, IsOwn, Serves};
+ghost use Rattle.fy_tool.specs.Working.{Executes, Keeps, KeepsAndRuns, ReadsImage, listed};
 
-use crate::command::{Command, file_of};
-use crate::note::{Note, line_of};
-use crate::small::{compile, program_of};
+use crate::command::Command;
+use crate::note::{Note, refusal_note};
+use crate::runs::{run_machine, run_traced};
+use crate::shown::line_of;
+use crate::source::{image_of, keep_image, source};
+use crate::tell::refuse;
 use crate::world::{Stop, World};
-use fy_base::{Ending, OutOfMemory};
+use fy_base::OutOfMemory;
+use fy_image::{Image, read_image};
 use fy_phrase::Phrase;
-use rv_machine::{Machine, MachineRun};
+use rv_machine::{Fetched, Machine};
 use std::alloc::Global;
 
-// The most bytes that a text has.
-const TEXT_LIMIT: usize = 4096;
+// The most bytes that an image has.
+const IMAGE_LIMIT: usize = 33_554_432;
 
-// The most instructions of a run.
+// The stack words of an image where no option says them.
+const STACK_WORDS: u32 = 1_048_576;
+
+// The most instructions of a run where no option says them.
 const RUN_LIMIT: u64 = 1_000_000_000;
 
-// Puts a line for each note.
-#[tactic(auto, using(crate::proofs::Contents::later_more))]
-fn tell<W: World>(notes: &[Note], world: &mut W) -> Result<(), Stop>
-    ensures told { OnOk result (W.holds world.new ≡ record (W.holds world.old) { notes = appended (W.holds world.old).notes (lines notes.now) }) }
-    ensures rest { W.holds world.new ≡ record (W.holds world.old) { notes = (W.holds world.new).notes } }
-    ensures part { OnErr result (GainedPart (W.holds world.old).notes (W.holds world.new).notes (lines notes.now)) }
-    ensures stop { IfErr result (λ stop. stop ≡ Stop.Notes) }
-    ensures rose { OnErr result (Rose (W.counts world.old).notes (W.counts world.new).notes) }
-    ensures later { Later (W.counts world.old) (W.counts world.new) }
-    ensures same { W.names world.new ≡ W.names world.old }
+// The address of the first word of code.
+const CODE_START: u64 = 65_536;
+
+// The stack words that are wanted.
+fn stack_wanted(stack: Option<u32>) -> u32
+    ensures { result ≡ stack_wanted stack }
 {
-    for note in notes {
-        let line = line_of(*note);
-        world.note(line.as_str().as_bytes())?;
-    }
-    Ok(())
+    stack.unwrap_or(STACK_WORDS)
 }
 
-/// A status that one note tells.
-pub fn refuse<W: World>(status: u8, why: Note, world: &mut W) -> Result<u8, Stop>
-    requires { IsOwn status }
-    ensures did { Did (told status (why ∷ []) (W.holds world.old).input) (W.holds world.old) (W.holds world.new) result }
-    ensures own { IfOk result IsOwn }
-    ensures caused { IfErr result (λ stop. Caused [] [] stop (W.counts world.old) (W.counts world.new)) }
-    ensures later { Later (W.counts world.old) (W.counts world.new) }
-    ensures same { W.names world.new ≡ W.names world.old }
+// The most instructions that are wanted.
+fn steps_wanted(steps: Option<u64>) -> u64
+    ensures { result ≡ steps_wanted steps }
 {
-    tell(&[why], world)?;
-    Ok(status)
+    steps.unwrap_or(RUN_LIMIT)
 }
 
-// The program of a text, or `None` where it is refused.
-fn judge(alloc: Global, text: &[u8]) -> Result<Option<Phrase>, Stop>
-    requires { length text.now ≤ 4096 }
-    ensures judged { IfOk result (λ found. Judged text.now found) }
-    ensures memory { IfErr result (λ stop. stop ≡ Stop.Memory) }
-{
-    match program_of(alloc, text) {
-        Ok(found) => Ok(found),
-        Err(OutOfMemory) => Err(Stop::Memory),
-    }
-}
-
-// The program in a file, or `None` where its text is refused.
-fn source<W: World>(alloc: Global, file: &str, world: &mut W) -> Result<Option<Phrase>, Stop>
+// The image in a file, or why its bytes are none.
+fn image_in<W: World>(alloc: Global, name: &str, world: &mut W) -> Result<Result<Image, Note>, Stop>
     ensures holds { W.holds world.new ≡ W.holds world.old }
-    ensures read { Reads file.now (W.holds world.old).files result }
-    ensures caused { IfErr result (λ stop. Caused (file.now ∷ []) [] stop (W.counts world.old) (W.counts world.new)) }
+    ensures read { ReadsImage name.now (W.holds world.old).files result }
+    ensures caused { IfErr result (λ stop. Caused (name.now ∷ []) [] stop (W.counts world.old) (W.counts world.new)) }
+    ensures input { IfErr result (λ stop. stop ≢ Stop.Input) }
     ensures later { Later (W.counts world.old) (W.counts world.new) }
     ensures same { W.names world.new ≡ W.names world.old }
 {
-    let Some(text) = world.fetch(alloc, file, TEXT_LIMIT)? else {
-        return Ok(None);
+    let Some(bytes) = world.fetch(alloc, name, IMAGE_LIMIT)? else {
+        return Ok(Err(Note::ImageLength));
     };
-    let found = judge(alloc, text.as_slice())?;
-    Ok(found)
+    match read_image(alloc, bytes.as_slice()) {
+        Ok(image) => Ok(Ok(image)),
+        Err(error) => match refusal_note(error) {
+            Some(why) => Ok(Err(why)),
+            None => Err(Stop::Memory),
+        },
+    }
 }
 
-// A machine with the image of a phrase, at its start.
-fn load(alloc: Global, p: &Phrase) -> Result<Machine, Stop>
-    requires command { IsCommand (reads p.now) }
-    requires few { puts_of (reads p.now) ≤ 4096 }
-    ensures program { IfOk result (λ m. IsProgramOf (image_of (reads p.now)) m.program) }
-    ensures start { IfOk result (λ m. m.core ≡ start_of (image_of (reads p.now))) }
+// A machine with the image, at its start.
+fn load(alloc: Global, image: &Image) -> Result<Machine, Stop>
+    requires { IsImage image.now }
+    ensures program { IfOk result (λ m. IsProgramOf image.now m.program) }
+    ensures start { IfOk result (λ m. m.core ≡ start_of image.now) }
     ensures running { IfOk result (λ m. m.core.status ≡ Running) }
     ensures memory { IfErr result (λ stop. stop ≡ Stop.Memory) }
 {
-    let image = match compile(alloc, p) {
-        Ok(image) => image,
-        Err(OutOfMemory) => return Err(Stop::Memory),
-    };
-    match Machine::load(alloc, &image) {
+    match Machine::load(alloc, image) {
         Ok(machine) => Ok(machine),
         Err(OutOfMemory) => Err(Stop::Memory),
     }
 }
 
-fn status_of(end: Ending) -> u8
-    ensures status { result ≡ status_of end }
-    ensures own { IsOwn result }
-{
-    match end {
-        Ending::Ended => 0,
-        Ending::Fault { .. } => 1,
-        Ending::Exhausted => 3,
-        Ending::Trap(_) => 10,
-        _ => 4,
-    }
-}
-
-fn note_of(end: Ending) -> Option<Note>
-    ensures { result ≡ note_of end }
-{
-    match end {
-        Ending::Fault { kind, place } => Some(Note::Fault { kind, place }),
-        Ending::Exhausted => Some(Note::StackExhausted),
-        Ending::Spent => Some(Note::StepsSpent),
-        Ending::Trap(kind) => Some(Note::Trapped(kind)),
-        _ => None,
-    }
-}
-
-// Tells how a run ended.
-fn tell_end<W: World>(run: MachineRun, world: &mut W) -> Result<(), Stop>
-    ensures told { OnOk result (W.holds world.new ≡ record (W.holds world.old) { notes = appended (W.holds world.old).notes (lines (option_to_list (note_of run.end) ++ Note.Instructions run.steps ∷ [])) }) }
-    ensures rest { W.holds world.new ≡ record (W.holds world.old) { notes = (W.holds world.new).notes } }
-    ensures part { OnErr result (GainedPart (W.holds world.old).notes (W.holds world.new).notes (lines (option_to_list (note_of run.end) ++ Note.Instructions run.steps ∷ []))) }
-    ensures stop { IfErr result (λ stop. stop ≡ Stop.Notes) }
-    ensures rose { OnErr result (Rose (W.counts world.old).notes (W.counts world.new).notes) }
-    ensures later { Later (W.counts world.old) (W.counts world.new) }
-    ensures same { W.names world.new ≡ W.names world.old }
-{
-    let count = Note::Instructions(run.steps);
-    match note_of(run.end) {
-        None => tell(&[count], world),
-        Some(note) => tell(&[note, count], world),
-    }
-}
-
-// Runs the image of a phrase and tells how it ended.
-fn execute<W: World>(alloc: Global, p: &Phrase, world: &mut W) -> Result<u8, Stop>
-    requires command { IsCommand (reads p.now) }
-    requires few { puts_of (reads p.now) ≤ 4096 }
-    ensures works { Works (reads p.now) (W.holds world.old) (W.holds world.new) result }
+// Runs an image.
+fn execute<W: World>(
+    alloc: Global,
+    image: &Image,
+    steps: u64,
+    trace: Option<u32>,
+    world: &mut W,
+) -> Result<u8, Stop>
+    requires { IsImage image.now }
+    ensures executes { Executes image.now steps trace (W.holds world.old) (W.holds world.new) result }
     ensures own { IfOk result IsOwn }
     ensures caused { IfErr result (λ stop. Caused [] [] stop (W.counts world.old) (W.counts world.new)) }
     ensures later { Later (W.counts world.old) (W.counts world.new) }
+    ensures ready { trace ≡ None → result ≡ Err Stop.Memory → (W.holds world.new).output ≡ (W.holds world.old).output }
     ensures same { W.names world.new ≡ W.names world.old }
 {
-    let mut machine = match load(alloc, p) {
+    let mut machine = match load(alloc, image) {
         Ok(machine) => machine,
         Err(stop) => return Err(stop),
     };
-    let run = world.run(&mut machine, RUN_LIMIT);
-    match run.end {
-        Ending::InputFault => Err(Stop::Input),
-        Ending::OutputFault => Err(Stop::Output),
-        _ => match tell_end(run, world) {
-            Ok(()) => Ok(status_of(run.end)),
-            Err(stop) => Err(stop),
-        },
+    match trace {
+        None => run_machine(&mut machine, steps, world),
+        Some(count) => run_traced(alloc, &mut machine, steps, count, world),
     }
 }
 
-// Builds an image of the text in a file, and runs it.
-fn run_file<W: World>(alloc: Global, file: &str, world: &mut W) -> Result<u8, Stop>
-    ensures serves { Serves (Some (run file.now)) (W.holds world.old) (W.holds world.new) (W.counts world.old) (W.counts world.new) result }
+// Runs the image in a file.
+fn exec_file<W: World>(
+    alloc: Global,
+    name: &str,
+    steps: Option<u64>,
+    trace: Option<u32>,
+    world: &mut W,
+) -> Result<u8, Stop>
+    ensures serves { Serves (Some (exec name.now steps trace)) (W.holds world.old) (W.holds world.new) (W.counts world.old) (W.counts world.new) result }
+    ensures same { W.names world.new ≡ W.names world.old }
+{
+    match image_in(alloc, name, world) {
+        Err(stop) => Err(stop),
+        Ok(Err(why)) => refuse(6, why, world),
+        Ok(Ok(image)) => execute(alloc, &image, steps_wanted(steps), trace, world),
+    }
+}
+
+// Keeps the image of a phrase.
+fn build_phrase<W: World>(
+    alloc: Global,
+    p: &Phrase,
+    name: &str,
+    stack_words: u32,
+    world: &mut W,
+) -> Result<u8, Stop>
+    requires command { IsCommand (reads p.now) }
+    requires few { puts_of (reads p.now) ≤ 4096 }
+    requires stack { (1024 ≤ stack_words) × (stack_words ≤ 16777216) }
+    ensures keeps { Keeps (image_of stack_words (reads p.now)) name.now (W.holds world.old) (W.holds world.new) result }
+    ensures own { IfOk result IsOwn }
+    ensures caused { IfErr result (λ stop. Caused [] (name.now ∷ []) stop (W.counts world.old) (W.counts world.new)) }
+    ensures later { Later (W.counts world.old) (W.counts world.new) }
+    ensures same { W.names world.new ≡ W.names world.old }
+{
+    let image = match image_of(alloc, p, stack_words) {
+        Ok(image) => image,
+        Err(stop) => return Err(stop),
+    };
+    keep_image(alloc, &image, name, world)
+}
+
+// Builds an image of the text in a file, and keeps it.
+fn build_file<W: World>(
+    alloc: Global,
+    file: &str,
+    name: &str,
+    stack: Option<u32>,
+    world: &mut W,
+) -> Result<u8, Stop>
+    requires { (1024 ≤ stack_wanted stack) × (stack_wanted stack ≤ 16777216) }
+    ensures serves { Serves (Some (build file.now name.now stack)) (W.holds world.old) (W.holds world.new) (W.counts world.old) (W.counts world.new) result }
     ensures same { W.names world.new ≡ W.names world.old }
 {
     match source(alloc, file, world) {
         Err(stop) => Err(stop),
         Ok(None) => refuse(2, Note::Unbuilt, world),
-        Ok(Some(program)) => execute(alloc, &program, world),
+        Ok(Some(program)) => build_phrase(alloc, &program, name, stack_wanted(stack), world),
+    }
+}
+
+// Keeps an image under a name once it is loaded, and then runs it.
+fn keep_and_run<W: World>(
+    alloc: Global,
+    image: &Image,
+    name: &str,
+    steps: u64,
+    world: &mut W,
+) -> Result<u8, Stop>
+    requires { IsImage image.now }
+    ensures runs { KeepsAndRuns image.now steps name.now (W.holds world.old) (W.holds world.new) result }
+    ensures own { IfOk result IsOwn }
+    ensures caused { IfErr result (λ stop. Caused [] (name.now ∷ []) stop (W.counts world.old) (W.counts world.new)) }
+    ensures later { Later (W.counts world.old) (W.counts world.new) }
+    ensures same { W.names world.new ≡ W.names world.old }
+{
+    let mut machine = match load(alloc, image) {
+        Ok(machine) => machine,
+        Err(stop) => return Err(stop),
+    };
+    match keep_image(alloc, image, name, world) {
+        Ok(_) => run_machine(&mut machine, steps, world),
+        Err(stop) => Err(stop),
+    }
+}
+
+// Builds the image of a phrase, keeps it and runs it.
+fn run_phrase<W: World>(
+    alloc: Global,
+    p: &Phrase,
+    name: &str,
+    steps: u64,
+    stack_words: u32,
+    world: &mut W,
+) -> Result<u8, Stop>
+    requires command { IsCommand (reads p.now) }
+    requires few { puts_of (reads p.now) ≤ 4096 }
+    requires stack { (1024 ≤ stack_words) × (stack_words ≤ 16777216) }
+    ensures runs { KeepsAndRuns (image_of stack_words (reads p.now)) steps name.now (W.holds world.old) (W.holds world.new) result }
+    ensures own { IfOk result IsOwn }
+    ensures caused { IfErr result (λ stop. Caused [] (name.now ∷ []) stop (W.counts world.old) (W.counts world.new)) }
+    ensures later { Later (W.counts world.old) (W.counts world.new) }
+    ensures same { W.names world.new ≡ W.names world.old }
+{
+    let image = match image_of(alloc, p, stack_words) {
+        Ok(image) => image,
+        Err(stop) => return Err(stop),
+    };
+    keep_and_run(alloc, &image, name, steps, world)
+}
+
+// Builds an image of the text in a file, keeps it under a name and runs it.
+fn run_as<W: World>(
+    alloc: Global,
+    file: &str,
+    name: &str,
+    steps: Option<u64>,
+    stack: Option<u32>,
+    image: Option<&str>,
+    world: &mut W,
+) -> Result<u8, Stop>
+    requires stack { (1024 ≤ stack_wanted stack) × (stack_wanted stack ≤ 16777216) }
+    requires name { name.now ≡ kept_as file.now (option_map (λ name. name.now) image) }
+    ensures serves { Serves (Some (run file.now steps stack (option_map (λ name. name.now) image.entry))) (W.holds world.old) (W.holds world.new) (W.counts world.old) (W.counts world.new) result }
+    ensures same { W.names world.new ≡ W.names world.old }
+{
+    match source(alloc, file, world) {
+        Err(stop) => Err(stop),
+        Ok(None) => refuse(2, Note::Unbuilt, world),
+        Ok(Some(program)) => run_phrase(
+            alloc,
+            &program,
+            name,
+            steps_wanted(steps),
+            stack_wanted(stack),
+            world,
+        ),
+    }
+}
+
+// FILE followed by `.img`.
+fn named_after(alloc: Global, file: &str) -> Result<String, Stop>
+    ensures name { IfOk result (λ name. string_bytes name ≡ file.now ++ codes ".img") }
+    ensures memory { IfErr result (λ stop. stop ≡ Stop.Memory) }
+{
+    match format!(in alloc; "{file}.img") {
+        Ok(name) => Ok(name),
+        Err(_) => Err(Stop::Memory),
+    }
+}
+
+// Builds an image of the text in a file, keeps it and runs it.
+fn run_file<W: World>(
+    alloc: Global,
+    file: &str,
+    steps: Option<u64>,
+    stack: Option<u32>,
+    image: Option<&str>,
+    world: &mut W,
+) -> Result<u8, Stop>
+    requires { (1024 ≤ stack_wanted stack) × (stack_wanted stack ≤ 16777216) }
+    ensures serves { Serves (Some (run file.now steps stack (option_map (λ name. name.now) image.entry))) (W.holds world.old) (W.holds world.new) (W.counts world.old) (W.counts world.new) result }
+    ensures same { W.names world.new ≡ W.names world.old }
+{
+    match image {
+        Some(name) => run_as(alloc, file, name, steps, stack, image, world),
+        None => match named_after(alloc, file) {
+            Ok(name) => run_as(alloc, file, name.as_str(), steps, stack, image, world),
+            Err(stop) => Err(stop),
+        },
+    }
+}
+
+// Writes the listing of an image.
+fn list_image<W: World>(alloc: Global, image: &Image, world: &mut W) -> Result<u8, Stop>
+    requires { IsImage image.now }
+    ensures did { (program : Program) → IsProgramOf image.now program → Did (listed program) (W.holds world.old) (W.holds world.new) result }
+    ensures own { IfOk result IsOwn }
+    ensures caused { IfErr result (λ stop. Caused [] [] stop (W.counts world.old) (W.counts world.new)) }
+    ensures later { Later (W.counts world.old) (W.counts world.new) }
+    ensures same { W.names world.new ≡ W.names world.old }
+{
+    let mut pc = CODE_START;
+    for word in image.code.as_slice() {
+        let line = match line_of(alloc, Fetched { pc, word: *word }) {
+            Ok(line) => line,
+            Err(OutOfMemory) => return Err(Stop::Memory),
+        };
+        if let Err(stop) = world.put(line.as_slice()) {
+            return Err(stop);
+        }
+        pc += 4;
+    }
+    Ok(0)
+}
+
+// Lists the image of the text in a file.
+fn list_file<W: World>(alloc: Global, file: &str, world: &mut W) -> Result<u8, Stop>
+    ensures serves { Serves (Some (list file.now)) (W.holds world.old) (W.holds world.new) (W.counts world.old) (W.counts world.new) result }
+    ensures same { W.names world.new ≡ W.names world.old }
+{
+    match source(alloc, file, world) {
+        Err(stop) => Err(stop),
+        Ok(None) => refuse(2, Note::Unbuilt, world),
+        Ok(Some(program)) => match image_of(alloc, &program, STACK_WORDS) {
+            Ok(image) => list_image(alloc, &image, world),
+            Err(stop) => Err(stop),
+        },
     }
 }
 
 /// Does what a command asks for.
 pub fn serve<W: World>(alloc: Global, command: Command, world: &mut W) -> Result<u8, Stop>
+    requires { HasStack (order_of command) }
     ensures serves { Serves (Some (order_of command.entry)) (W.holds world.old) (W.holds world.new) (W.counts world.old) (W.counts world.new) result }
     ensures same { W.names world.new ≡ W.names world.old }
 {
-    run_file(alloc, file_of(command), world)
-}
-
-/// The status, and the last note where the outside failed or memory was wanting.
-pub fn conclude<W: World>(work: Result<u8, Stop>, world: &mut W) -> u8
-    ensures concludes { Concludes work (W.holds world.old) (W.holds world.new) (W.counts world.old) (W.counts world.new) result }
-    ensures same { W.names world.new ≡ W.names world.old }
-{
-    let note = match work {
-        Ok(status) => return status,
-        Err(Stop::Notes) => return 7,
-        Err(Stop::Memory) => {
-            return match tell(&[Note::Memory], world) {
-                Ok(()) => 9,
-                Err(_) => 7,
-            };
-        }
-        Err(Stop::Files) => Note::OutsideFiles,
-        Err(Stop::Input) => Note::OutsideInput,
-        Err(Stop::Output) => Note::OutsideOutput,
-    };
-    let _ = tell(&[note], world);
-    7
+    match command {
+        Command::Build { file, image, stack } => build_file(alloc, file, image, stack, world),
+        Command::Exec {
+            image,
+            steps,
+            trace,
+        } => exec_file(alloc, image, steps, trace, world),
+        Command::Run {
+            file,
+            steps,
+            stack,
+            image,
+        } => run_file(alloc, file, steps, stack, image, world),
+        Command::List { file } => list_file(alloc, file, world),
+    }
 }

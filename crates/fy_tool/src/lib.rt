@@ -4,8 +4,14 @@
 mod command;
 mod commands;
 mod note;
+mod runs;
+mod shown;
 mod small;
+mod source;
+mod tell;
 mod top;
+mod trace;
+mod words;
 mod world;
 
 pub use command::{Command, command_of};

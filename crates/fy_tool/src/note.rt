@@ -2,10 +2,11 @@
 
 ghost use Rattle.std.specs.Prelude.{◌≡◌, ◌≤◌, ◌+◌, [], ◌∷◌, ◌++◌, length};
 ghost use Rattle.std.specs.Fmt.{decimal};
-ghost use Rattle.fy_tool.specs.Note.{note_text, place_text, fault_name, trap_name};
+ghost use Rattle.fy_tool.specs.Note.{note_text, place_text, fault_name, trap_name, refusal_note};
 
 use arrayvec::ArrayString;
 use fy_base::{FaultKind, Place, TrapKind};
+use fy_image::ImageError;
 
 /// A note.
 #[derive(Clone, Copy, PartialEq, Eq, Debug)]
@@ -28,6 +29,18 @@ pub enum Note {
     Memory,
     /// How many instructions a run executed.
     Instructions(u64),
+    /// The bytes don't begin as those of an image.
+    ImageMagic,
+    /// The image has another version.
+    ImageVersion(u32),
+    /// The image ends within a field.
+    ImageTruncated,
+    /// So many bytes stand behind the image.
+    ImageTrailing(u64),
+    /// The image's field with this number is out of its range.
+    ImageField(u8),
+    /// There are more bytes than an image has.
+    ImageLength,
 }
 
 /// A line of text with its end.
@@ -103,12 +116,35 @@ pub fn line_of(note: Note) -> Line
         Note::OutsideOutput => begun("outside output"),
         Note::Memory => begun("memory"),
         Note::Instructions(_) => begun("instructions "),
+        Note::ImageMagic => begun("image magic"),
+        Note::ImageVersion(_) => begun("image version "),
+        Note::ImageTruncated => begun("image truncated"),
+        Note::ImageTrailing(_) => begun("image trailing "),
+        Note::ImageField(_) => begun("image field "),
+        Note::ImageLength => begun("image length"),
     };
     match note {
         Note::Fault { place, .. } => push_place(&mut line, place),
-        Note::Instructions(count) => push_number(&mut line, count),
+        Note::Instructions(count) | Note::ImageTrailing(count) => push_number(&mut line, count),
+        Note::ImageVersion(version) => push_number(&mut line, version.into()),
+        Note::ImageField(field) => push_number(&mut line, field.into()),
         _ => {}
     }
     line.push_str("\n");
     line
+}
+
+/// The note of an image that is refused, or `None` where memory was wanting.
+pub fn refusal_note(error: ImageError) -> Option<Note>
+    ensures { result ≡ refusal_note error }
+{
+    match error {
+        ImageError::BadMagic => Some(Note::ImageMagic),
+        ImageError::BadVersion(version) => Some(Note::ImageVersion(version)),
+        ImageError::Truncated => Some(Note::ImageTruncated),
+        ImageError::Trailing(count) => Some(Note::ImageTrailing(count)),
+        ImageError::BadField(field) => Some(Note::ImageField(field)),
+        ImageError::TooLarge => Some(Note::ImageLength),
+        ImageError::OutOfMemory => None,
+    }
 }

@@ -4,9 +4,10 @@ use std::alloc::{AllocError, Global};
 use std::test::Fail;
 
 #[derive(Drop)]
-// What a call left: its status, and the bytes at output and at notes.
+// What a call left: its status, the files, and the bytes at output and at notes.
 struct Left {
     status: u8,
+    files: MemoryFiles,
     output: MemorySink,
     notes: MemorySink,
 }
@@ -19,13 +20,16 @@ fn words_of(alloc: Global, words: &[&str]) -> Result<Vec<String>, AllocError> {
     Ok(owned)
 }
 
-// A call over `p.fy` with this text, where these puts at output fail.
-fn call(alloc: Global, words: &[&str], text: &[u8], failing: Vec<u64>) -> Result<Left, Fail> {
+// A call over these files, where these puts at output fail.
+fn call_over(
+    alloc: Global,
+    words: &[&str],
+    mut files: MemoryFiles,
+    failing: Vec<u64>,
+) -> Result<Left, Fail> {
     let words = words_of(alloc, words)?;
-    let mut files = MemoryFiles::new(alloc, Vec::new(alloc));
-    files.hold(alloc, "p.fy", text)?;
     let mut input = SteadySource::new(Vec::new(alloc));
-    let mut output = MemorySink::new(alloc, 1000, failing)?;
+    let mut output = MemorySink::new(alloc, 10_000, failing)?;
     let mut notes = MemorySink::new(alloc, 1000, Vec::new(alloc))?;
     let status = forsythe(
         alloc,
@@ -37,9 +41,28 @@ fn call(alloc: Global, words: &[&str], text: &[u8], failing: Vec<u64>) -> Result
     );
     Ok(Left {
         status,
+        files,
         output,
         notes,
     })
+}
+
+// A call over one file, where these puts at output fail.
+fn call_on(
+    alloc: Global,
+    words: &[&str],
+    name: &str,
+    content: &[u8],
+    failing: Vec<u64>,
+) -> Result<Left, Fail> {
+    let mut files = MemoryFiles::new(alloc, Vec::new(alloc));
+    files.hold(alloc, name, content)?;
+    call_over(alloc, words, files, failing)
+}
+
+// A call over `p.fy` with this text.
+fn call(alloc: Global, words: &[&str], text: &[u8], failing: Vec<u64>) -> Result<Left, Fail> {
+    call_on(alloc, words, "p.fy", text, failing)
 }
 
 const COUNT: &[u8] = b"instructions ";
@@ -116,11 +139,23 @@ fn other_texts_are_refused(rt: HostRuntime) -> Result<(), Fail> {
 fn words_and_the_outside_are_told(rt: HostRuntime) -> Result<(), Fail> {
     let alloc = rt.alloc();
     let text = b"putint(1+2)";
-    let table: [(&[&str], u8, &[u8]); 5] = [
+    let table: [(&[&str], u8, &[u8]); 17] = [
         (&["run"], 5, b"usage\n"),
         (&[], 5, b"usage\n"),
         (&["run", "p.fy", "p.fy"], 5, b"usage\n"),
         (&["run", "--steps=1"], 5, b"usage\n"),
+        (&["run", "p.fy", "--steps=0"], 5, b"usage\n"),
+        (&["run", "p.fy", "--steps=01"], 5, b"usage\n"),
+        (&["run", "p.fy", "--steps=1000000000001"], 5, b"usage\n"),
+        (&["run", "p.fy", "--steps=+5"], 5, b"usage\n"),
+        (&["run", "p.fy", "--steps="], 5, b"usage\n"),
+        (&["run", "p.fy", "--stack=1023"], 5, b"usage\n"),
+        (&["run", "p.fy", "--image="], 5, b"usage\n"),
+        (&["run", "p.fy", "--trace=5"], 5, b"usage\n"),
+        (&["run", "p.fy", "--steps=5", "--steps=5"], 5, b"usage\n"),
+        (&["build", "p.fy"], 5, b"usage\n"),
+        (&["exec", "p.fy", "--trace=4097"], 5, b"usage\n"),
+        (&["list", "p.fy", "--steps=5"], 5, b"usage\n"),
         (&["run", "q.fy"], 7, b"outside files\n"),
     ];
     for (words, status, notes) in table {
@@ -148,5 +183,156 @@ fn succeeds_with_ample_memory(rt: HostRuntime) -> Result<(), Fail> {
     )?;
     assert_eq!(rt; left.status, 0);
     assert_eq!(rt; left.output.bytes(), b"15".as_slice());
+    Ok(())
+}
+
+const IMAGE: &[u8] = b"FORSYF64\x01\0\0\0\0\x04\0\0\x01\0\0\0\0\0\0\0\0\0\0\0\0\0\0\0\x73\0\0\0";
+
+// The image with another byte at a place, and cut or with a byte more behind it.
+fn image_with(alloc: Global, place: usize, byte: u8, length: usize) -> Result<Vec<u8>, AllocError> {
+    let mut bytes = Vec::new(alloc);
+    for i in 0..length {
+        let old = IMAGE.get(i).copied().unwrap_or(0);
+        bytes.push(if i == place { byte } else { old })?;
+    }
+    Ok(bytes)
+}
+
+// `exec` of an image that ends at once, and of it with one change: the place, the byte there, the
+// length, the status and the notes.
+#[test]
+fn images_run_or_are_refused(rt: HostRuntime) -> Result<(), Fail> {
+    let alloc = rt.alloc();
+    let table: [(usize, u8, usize, u8, &[u8]); 7] = [
+        (99, 0, 36, 0, b"instructions 1\n"),
+        (99, 0, 35, 6, b"image truncated\n"),
+        (99, 0, 37, 6, b"image trailing 1\n"),
+        (8, 9, 36, 6, b"image version 9\n"),
+        (0, 0, 36, 6, b"image magic\n"),
+        (13, 0, 36, 6, b"image field 1\n"),
+        (34, 16, 36, 10, b"trap illegal\ninstructions 1\n"),
+    ];
+    for (place, byte, length, status, notes) in table {
+        let bytes = image_with(alloc, place, byte, length)?;
+        let left = call_on(
+            alloc,
+            &["exec", "i"],
+            "i",
+            bytes.as_slice(),
+            Vec::new(alloc),
+        )?;
+        assert_eq!(rt; left.status, status);
+        assert!(rt; left.output.bytes().is_empty());
+        assert_eq!(rt; left.notes.bytes(), notes);
+    }
+    Ok(())
+}
+
+// An image that puts `A` and ends, with the last two of its five instructions told.
+#[test]
+fn the_last_instructions_are_told(rt: HostRuntime) -> Result<(), Fail> {
+    let alloc = rt.alloc();
+    let image =
+        b"FORSYF64\x01\0\0\0\0\x04\0\0\x05\0\0\0\0\0\0\0\0\0\0\0\0\0\0\0\x13\x05\x10\x04\x93\x08\x10\0\x73\0\0\0\x93\x08\0\0\x73\0\0\0";
+    let left = call_on(
+        alloc,
+        &["exec", "i", "--trace=2"],
+        "i",
+        image,
+        Vec::new(alloc),
+    )?;
+    assert_eq!(rt; left.status, 0);
+    assert_eq!(rt; left.output.bytes(), b"A".as_slice());
+    let notes = b"0001000c 00000893 addi x17, x0, 0\n00010010 00000073 ecall\ninstructions 5\n";
+    assert_eq!(rt; left.notes.bytes(), notes.as_slice());
+    Ok(())
+}
+
+// Where all the instructions that are allowed are spent, and where the stack is exhausted.
+#[test]
+fn runs_are_cut_off(rt: HostRuntime) -> Result<(), Fail> {
+    let alloc = rt.alloc();
+    let spent = call(
+        alloc,
+        &["run", "--steps=7", "p.fy", "--stack=1024"],
+        b"putint(1+2)",
+        Vec::new(alloc),
+    )?;
+    assert_eq!(rt; spent.status, 4);
+    assert_eq!(rt; spent.output.bytes(), b"3".as_slice());
+    assert_eq!(rt;
+        spent.notes.bytes(),
+        b"steps spent\ninstructions 7\n".as_slice()
+    );
+    let exhausted =
+        b"FORSYF64\x01\0\0\0\0\x04\0\0\x02\0\0\0\0\0\0\0\0\0\0\0\0\0\0\0\x93\x08\x40\0\x73\0\0\0";
+    let left = call_on(alloc, &["exec", "i"], "i", exhausted, Vec::new(alloc))?;
+    assert_eq!(rt; left.status, 3);
+    assert_eq!(rt;
+        left.notes.bytes(),
+        b"stack exhausted\ninstructions 2\n".as_slice()
+    );
+    Ok(())
+}
+
+fn content_of(alloc: Global, left: &Left, name: &str) -> Result<Vec<u8>, Fail> {
+    let mut bytes = Vec::new(alloc);
+    if let Some(content) = left.files.content(name) {
+        bytes.extend_from_slice(content)?;
+    }
+    Ok(bytes)
+}
+
+// `build` and then `exec` do what `run` does, and all keep the same bytes; `list` writes a line a
+// word.
+#[test]
+fn images_are_kept_and_listed(rt: HostRuntime) -> Result<(), Fail> {
+    let alloc = rt.alloc();
+    let text = b"putint(1+2)";
+    let built = call(
+        alloc,
+        &["build", "p.fy", "--image=o"],
+        text,
+        Vec::new(alloc),
+    )?;
+    assert_eq!(rt; built.status, 0);
+    assert!(rt; built.output.bytes().is_empty());
+    assert!(rt; built.notes.bytes().is_empty());
+    let image = content_of(alloc, &built, "o")?;
+    assert!(rt; image.as_slice().starts_with(b"FORSYF64"));
+    let executed = call_over(alloc, &["exec", "o"], built.files, Vec::new(alloc))?;
+    assert_eq!(rt; executed.status, 0);
+    assert_eq!(rt; executed.output.bytes(), b"3".as_slice());
+    for (words, name) in [
+        (&["run", "p.fy", "--image=q"] as &[&str], "q"),
+        (&["run", "p.fy"], "p.fy.img"),
+    ] {
+        let ran = call(alloc, words, text, Vec::new(alloc))?;
+        assert_eq!(rt; ran.status, 0);
+        assert_eq!(rt; ran.output.bytes(), b"3".as_slice());
+        assert_eq!(rt; ran.notes.bytes(), executed.notes.bytes());
+        let kept = content_of(alloc, &ran, name)?;
+        assert_eq!(rt; kept.as_slice(), image.as_slice());
+    }
+    let listed = call(alloc, &["list", "p.fy"], text, Vec::new(alloc))?;
+    assert_eq!(rt; listed.status, 0);
+    assert!(rt; listed.output.bytes().starts_with(b"00010000"));
+    let lines = listed
+        .output
+        .bytes()
+        .iter()
+        .filter(|byte| **byte == b'\n')
+        .count();
+    assert_eq!(rt; lines, (image.len() - 32) / 4);
+    Ok(())
+}
+
+// What is refused keeps no file.
+#[test]
+fn a_refused_text_keeps_no_file(rt: HostRuntime) -> Result<(), Fail> {
+    let alloc = rt.alloc();
+    let left = call(alloc, &["run", "p.fy"], b"putint(1+2", Vec::new(alloc))?;
+    assert_eq!(rt; left.status, 2);
+    assert!(rt; left.files.content("p.fy.img").is_none());
     Ok(())
 }

@@ -1,19 +1,22 @@
 //! The top call.
 
-ghost use Rattle.std.specs.Prelude.{◌≡◌, map, string_bytes};
+ghost use Rattle.std.specs.Prelude.{◌≡◌, map, string_bytes, IfSome};
 ghost use Rattle.std.specs.Option.{option_map};
 ghost use Rattle.fy_tool.specs.Order.{command_from, order_of};
+ghost use Rattle.fy_tool.specs.Due.{HasStack};
 ghost use Rattle.fy_tool.specs.Answers.{Answers};
 
 use crate::command::{Command, command_of};
-use crate::commands::{conclude, refuse, serve};
+use crate::commands::serve;
 use crate::note::Note;
+use crate::tell::{conclude, refuse};
 use crate::world::{Outside, World};
 use fy_base::{Files, Sink, Source};
 use std::alloc::Global;
 
 // Answers a command, or words that are none.
 fn answer<W: World>(alloc: Global, command: Option<Command>, world: &mut W) -> u8
+    requires { IfSome command (λ command. HasStack (order_of command)) }
     ensures answers { Answers (option_map order_of command.entry) (W.holds world.old) (W.holds world.new) (W.counts world.old) (W.counts world.new) result }
     ensures same { W.names world.new ≡ W.names world.old }
 {
@@ -33,11 +36,16 @@ fn answer<W: World>(alloc: Global, command: Option<Command>, world: &mut W) -> u
 ///
 /// | Status | Comes where |
 /// |---|---|
-/// | 0, 1 | the program ended, or faulted |
+/// | 0 | done, or the program ended |
+/// | 1 | the program faulted |
 /// | 2 | the text has over 4,096 bytes or isn't of the grammar |
+/// | 3 | the stack was exhausted |
+/// | 4 | all the instructions that were allowed are spent |
 /// | 5 | the words are no command |
+/// | 6 | the bytes are no image's |
 /// | 7 | a count of faults rose |
 /// | 9 | memory was wanting |
+/// | 10 | the image trapped |
 pub fn forsythe<F: Files, I: Source, O: Sink, N: Sink>(
     alloc: Global,
     words: &[String],

@@ -3,14 +3,14 @@
 ghost use Rattle.std.specs.Prelude.{◌≡◌, ◌≤◌, OnOk, OnErr, IfOk, IfErr, MatchOption, List, [], ◌∷◌, Some, Err, length};
 ghost use Rattle.std.specs.Option.{ForSome};
 ghost use Rattle.std.specs.Borrow.{GName};
-ghost use Rattle.fy_base.specs.Outside.{Rose, GainedPart, Tells, IsLong, appended};
-ghost use Rattle.rv_machine.specs.Run.{going_world};
-ghost use Rattle.rv_machine.specs.Ends.{RunsTo, IsMachineEnd};
+ghost use Rattle.fy_base.specs.Outside.{Rose, GainedPart, Tells, IsLong, OthersStay, appended};
+ghost use Rattle.rv_machine.specs.Ends.{Watched, IsMachineEnd};
+ghost use Rattle.fy_tool.specs.Answers.{files_after};
 ghost use Rattle.rv_insn.specs.declared.events.Status.TheVariants.{Running};
 ghost use Rattle.fy_tool.specs.World.{Contents, Counts, Later};
 
-use fy_base::{Ending, FetchError, Files, Sink, Source};
-use rv_machine::{Machine, MachineRun, run_machine};
+use fy_base::{Ending, FetchError, Files, KeepError, Sink, Source};
+use rv_machine::{Machine, MachineRun, Watch, run_watched};
 use std::alloc::Global;
 
 /// Why a call stopped.
@@ -44,6 +44,19 @@ pub trait World {
         ensures later { Later (counts self.old) (counts self.new) }
         ensures same { names self.new ≡ names self.old };
 
+    /// Makes the named file hold the bytes.
+    fn keep(&mut self, alloc: Global, name: &str, bytes: &[u8]) -> Result<(), Stop>
+        ensures kept { OnOk result (holds self.new ≡ record (holds self.old) { files = files_after (holds self.old).files (Some (name.now, bytes.now)) }) }
+        ensures rest { holds self.new ≡ record (holds self.old) { files = (holds self.new).files } }
+        ensures memory { result ≡ Err Stop.Memory → (holds self.new).files ≡ (holds self.old).files }
+        ensures unknown { result ≡ Err Stop.Files → OthersStay (holds self.old).files (holds self.new).files name.now }
+        ensures files { result ≡ Err Stop.Files → Rose ((counts self.old).keeps name.now) ((counts self.new).keeps name.now) }
+        ensures input { result ≡ Err Stop.Input → ⊥ }
+        ensures output { result ≡ Err Stop.Output → ⊥ }
+        ensures notes { result ≡ Err Stop.Notes → ⊥ }
+        ensures later { Later (counts self.old) (counts self.new) }
+        ensures same { names self.new ≡ names self.old };
+
     /// Puts bytes to the notes.
     fn note(&mut self, bytes: &[u8]) -> Result<(), Stop>
         ensures put { OnOk result (holds self.new ≡ record (holds self.old) { notes = appended (holds self.old).notes bytes.now }) }
@@ -54,11 +67,24 @@ pub trait World {
         ensures later { Later (counts self.old) (counts self.new) }
         ensures same { names self.new ≡ names self.old };
 
-    /// Runs a machine on the input and the output.
-    fn run(&mut self, machine: &mut Machine, steps: u64) -> MachineRun
-        requires { machine.old.core.status ≡ Running }
-        ensures did { ForSome (holds self.old).input (λ left. RunsTo machine.old.program (going_world machine.old.core left) steps result machine.new.core
-            (holds self.new).input (holds self.old).output (holds self.new).output) }
+    /// Puts bytes to the output.
+    fn put(&mut self, bytes: &[u8]) -> Result<(), Stop>
+        ensures put { OnOk result (holds self.new ≡ record (holds self.old) { output = appended (holds self.old).output bytes.now }) }
+        ensures rest { holds self.new ≡ record (holds self.old) { output = (holds self.new).output } }
+        ensures part { OnErr result (GainedPart (holds self.old).output (holds self.new).output bytes.now) }
+        ensures stop { IfErr result (λ stop. stop ≡ Stop.Output) }
+        ensures rose { OnErr result (Rose (counts self.old).output (counts self.new).output) }
+        ensures later { Later (counts self.old) (counts self.new) }
+        ensures same { names self.new ≡ names self.old };
+
+    /// Runs a machine on the input and the output, and tells the watch of each word that is fetched.
+    fn run<V: Watch>(&mut self, machine: &mut Machine, watch: &mut V, steps: u64) -> MachineRun
+        requires running { machine.old.core.status ≡ Running }
+        requires room { length (V.held watch.old) ≤ V.room watch.old }
+        ensures did { Watched machine.old.program machine.old.core steps result machine.new.core
+            (holds self.old).input (holds self.new).input (holds self.old).output (holds self.new).output (V.room watch.old) (V.held watch.old) (V.held watch.new) }
+        ensures program { machine.new.program ≡ machine.old.program }
+        ensures steps { result.steps ≤ steps }
         ensures rest { holds self.new ≡ record (holds self.old) { input = (holds self.new).input; output = (holds self.new).output } }
         ensures end { IsMachineEnd result.end }
         ensures input_fault { result.end ≡ Ending.InputFault → Rose (counts self.old).input (counts self.new).input }
@@ -100,7 +126,22 @@ impl<F: Files, I: Source, O: Sink, N: Sink> World for Outside<'_, '_, '_, '_, F,
         }
     }
 
-    fn run(&mut self, machine: &mut Machine, steps: u64) -> MachineRun {
-        run_machine(machine, self.input, self.output, steps)
+    fn keep(&mut self, alloc: Global, name: &str, bytes: &[u8]) -> Result<(), Stop> {
+        match self.files.keep(alloc, name, bytes) {
+            Ok(()) => Ok(()),
+            Err(KeepError::Failed) => Err(Stop::Files),
+            Err(KeepError::OutOfMemory) => Err(Stop::Memory),
+        }
+    }
+
+    fn put(&mut self, bytes: &[u8]) -> Result<(), Stop> {
+        match self.output.put(bytes) {
+            Ok(()) => Ok(()),
+            Err(_) => Err(Stop::Output),
+        }
+    }
+
+    fn run<V: Watch>(&mut self, machine: &mut Machine, watch: &mut V, steps: u64) -> MachineRun {
+        run_watched(machine, self.input, self.output, watch, steps)
     }
 }

@@ -10,8 +10,6 @@ use fy_image::Image;
 use fy_phrase::Phrase;
 use std::alloc::Global;
 
-const STACK_WORDS: u32 = 1_048_576;
-
 fn int_of(v: Datum) -> i64
     ensures { result ≡ int_of v }
 {
@@ -116,9 +114,11 @@ fn places_of(alloc: Global, fault: Option<Place>) -> Result<PlaceList, OutOfMemo
     Ok(places)
 }
 
-/// The image of a phrase.
-pub fn compile(alloc: Global, p: &Phrase) -> Result<Image, OutOfMemory>
-    ensures { IfOk result (λ image. image ≡ image_of (reads p.now)) }
+/// The image of a phrase, with `stack_words` words of stack, 1,024 to 16,777,216.
+pub fn compile(alloc: Global, p: &Phrase, stack_words: u32) -> Result<Image, OutOfMemory>
+    requires least { 1024 ≤ stack_words }
+    requires most { stack_words ≤ 16777216 }
+    ensures { IfOk result (λ image. image ≡ image_of stack_words (reads p.now)) }
 {
     let mut text = Vec::new(alloc);
     let fault = say(alloc, p, &mut text)?;
@@ -126,7 +126,7 @@ pub fn compile(alloc: Global, p: &Phrase) -> Result<Image, OutOfMemory>
     let places = places_of(alloc, fault)?;
     let table = DoubleList::new(alloc);
     Ok(Image {
-        stack_words: STACK_WORDS,
+        stack_words,
         code,
         table,
         places,

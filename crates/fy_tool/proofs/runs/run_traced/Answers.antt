@@ -1,0 +1,61 @@
+use Rattle.std.proofs.Common.{◌≡◌, ◌∙◌, [], ◌++◌, sym, ap, subst, map, Some, inr, List}
+use Rattle.rv_machine.specs.Run.{going_world}
+use Rattle.rv_machine.specs.declared.watch.Fetched.{Fetched}
+use Rattle.fy_tool.specs.Note.{texts}
+use Rattle.fy_tool.specs.Shown.{shown}
+use Rattle.fy_tool.specs.Due.{end_notes}
+use Rattle.fy_tool.specs.Working.{AreFetched}
+use Rattle.fy_tool.specs.declared.world.Stop.TheVariants.{Input, Output}
+use Rattle.fy_tool.proofs.Contents.{later_more}
+use Rattle.fy_tool.proofs.Parts.{if_caused_more}
+use Rattle.fy_tool.proofs.Executing.{run_faulted, run_told, run_told_part}
+use Rattle.fy_tool.proofs.Tracing.{trace_is, are_fetched}
+use Rattle.std.proofs.Common.{Err}
+use Rattle.fy_tool.proofs.runs.run_traced.Goals as goal
+
+pub returns-in-InputFault-clause-run : goal.returns-in-InputFault-clause-run
+returns-in-InputFault-clause-run g c =
+    inr (run_faulted _ _ c.args.steps (Some c.args.count) _ (g.W.World.holds c.run-run.new.self) Input c.run-run.result _ (λ _. c.in-InputFault.is) (λ e. cc) c.run-run.ensures.steps c.run-run.ensures.did.runs c.run-run.ensures.rest)
+
+pub returns-in-OutputFault-clause-run : goal.returns-in-OutputFault-clause-run
+returns-in-OutputFault-clause-run g c =
+    inr (run_faulted _ _ c.args.steps (Some c.args.count) _ (g.W.World.holds c.run-run.new.self) Output c.run-run.result _ (λ e. absurd (let clash : Output ≡ Input = e in cc)) (λ e. cc) c.run-run.ensures.steps c.run-run.ensures.did.runs c.run-run.ensures.rest)
+
+pub returns-in-Ok-tell_traced : goal.returns-in-Ok-tell_traced
+returns-in-Ok-tell_traced g c =
+    let program = c.args.machine.now.program in
+    let r = c.run-run.ensures.did.runs in
+    let first = going_world c.args.machine.now.core r.fed in
+    let n = c.run-run.result.steps in
+    let words = c.run-run.new.watch.words.items in
+    let are = trace_is program first n c.args.count c.in-Ok.trace.words words c.in-Ok.ensures c.run-run.ensures.did.watched in
+    let fetched = subst (λ (ws : List Fetched). AreFetched program ws) (sym are) (are_fetched program first n c.args.count c.requires.read) in
+    let lines = map (shown program) words ++ texts (end_notes c.run-run.result.end n) in
+    record {
+      run = inr (run_told program _ c.args.steps (Some c.args.count) _ (g.W.World.holds c.run-run.new.self) (g.W.World.holds c.tell_traced.new.world) c.run-run.result _ lines c.status_of.result c.run-run.ensures.end c.in_default.not-InputFault c.in_default.not-OutputFault
+          r c.run-run.ensures.rest (ap (λ ws. map (shown program) ws ++ texts (end_notes c.run-run.result.end n)) are) (c.in-Ok-tell_traced.ensures.told program fetched) c.status_of.ensures.status);
+      own = c.status_of.ensures.own;
+      caused = tt;
+      later = later_more _ _ _ c.run-run.ensures.later c.in-Ok-tell_traced.ensures.later;
+      same = c.in-Ok-tell_traced.ensures.same ∙ c.run-run.ensures.same;
+    }
+
+pub returns-in-Err-tell_traced : goal.returns-in-Err-tell_traced
+returns-in-Err-tell_traced g c =
+    let program = c.args.machine.now.program in
+    let r = c.run-run.ensures.did.runs in
+    let first = going_world c.args.machine.now.core r.fed in
+    let n = c.run-run.result.steps in
+    let words = c.run-run.new.watch.words.items in
+    let are = trace_is program first n c.args.count c.in-Ok.trace.words words c.in-Ok.ensures c.run-run.ensures.did.watched in
+    let fetched = subst (λ (ws : List Fetched). AreFetched program ws) (sym are) (are_fetched program first n c.args.count c.requires.read) in
+    let lines = map (shown program) words ++ texts (end_notes c.run-run.result.end n) in
+    let told = c.in-Err-tell_traced.ensures.told program fetched in
+    record {
+      run = inr (run_told_part program _ c.args.steps (Some c.args.count) _ (g.W.World.holds c.run-run.new.self) (g.W.World.holds c.tell_traced.new.world) c.run-run.result _ lines c.in-Err-tell_traced.stop c.run-run.ensures.end c.in_default.not-InputFault c.in_default.not-OutputFault
+          r c.run-run.ensures.rest (ap (λ ws. map (shown program) ws ++ texts (end_notes c.run-run.result.end n)) are) c.in-Err-tell_traced.ensures.rest told.part told.whole (λ e. c.in-Err-tell_traced.ensures.input (ap (λ s. Err s) e)));
+      own = tt;
+      caused = if_caused_more [] [] (Err c.in-Err-tell_traced.stop) _ _ _ c.run-run.ensures.later c.in-Err-tell_traced.ensures.caused;
+      later = later_more _ _ _ c.run-run.ensures.later c.in-Err-tell_traced.ensures.later;
+      same = c.in-Err-tell_traced.ensures.same ∙ c.run-run.ensures.same;
+    }

@@ -1,0 +1,159 @@
+//! Runs of images, and how they are told.
+
+ghost use Rattle.std.specs.Prelude.{◌≡◌, ◌≢◌, ◌≤◌, ◌++◌, [], ◌∷◌, ◌⊎◌, Some, None, Err, OnOk, OnErr, IfOk, IfErr, map};
+ghost use Rattle.fy_base.specs.Outside.{Rose, GainedPart, appended};
+ghost use Rattle.rv_insn.specs.declared.events.Status.TheVariants.{Running};
+ghost use Rattle.rv_insn.specs.Program.{Program, AreRead};
+ghost use Rattle.fy_tool.specs.World.{Later};
+ghost use Rattle.fy_tool.specs.Note.{texts, ended_lines};
+ghost use Rattle.fy_tool.specs.Shown.{shown};
+ghost use Rattle.fy_tool.specs.Due.{status_of, note_of, end_notes};
+ghost use Rattle.fy_tool.specs.Answers.{Caused, IsOwn};
+ghost use Rattle.fy_tool.specs.Working.{IsUnbegun, AreFetched, TellsLines, HasRun};
+
+use crate::note::Note;
+use crate::shown::line_of;
+use crate::tell::tell;
+use crate::trace::Trace;
+use crate::world::{Stop, World};
+use fy_base::{Ending, OutOfMemory};
+use rv_machine::{Machine, MachineRun, Unwatched};
+use std::alloc::Global;
+
+fn status_of(end: Ending) -> u8
+    ensures status { result ≡ status_of end }
+    ensures own { IsOwn result }
+{
+    match end {
+        Ending::Ended => 0,
+        Ending::Fault { .. } => 1,
+        Ending::Exhausted => 3,
+        Ending::Trap(_) => 10,
+        _ => 4,
+    }
+}
+
+fn note_of(end: Ending) -> Option<Note>
+    ensures { result ≡ note_of end }
+{
+    match end {
+        Ending::Fault { kind, place } => Some(Note::Fault { kind, place }),
+        Ending::Exhausted => Some(Note::StackExhausted),
+        Ending::Spent => Some(Note::StepsSpent),
+        Ending::Trap(kind) => Some(Note::Trapped(kind)),
+        _ => None,
+    }
+}
+
+// Tells how a run ended.
+fn tell_end<W: World>(run: MachineRun, world: &mut W) -> Result<(), Stop>
+    ensures told { OnOk result (W.holds world.new ≡ record (W.holds world.old) { notes = appended (W.holds world.old).notes (ended_lines (texts (end_notes run.end run.steps))) }) }
+    ensures rest { W.holds world.new ≡ record (W.holds world.old) { notes = (W.holds world.new).notes } }
+    ensures part { OnErr result (GainedPart (W.holds world.old).notes (W.holds world.new).notes (ended_lines (texts (end_notes run.end run.steps)))) }
+    ensures stop { IfErr result (λ stop. stop ≡ Stop.Notes) }
+    ensures rose { OnErr result (Rose (W.counts world.old).notes (W.counts world.new).notes) }
+    ensures later { Later (W.counts world.old) (W.counts world.new) }
+    ensures same { W.names world.new ≡ W.names world.old }
+{
+    let count = Note::Instructions(run.steps);
+    match note_of(run.end) {
+        None => tell(&[count], world),
+        Some(note) => tell(&[note, count], world),
+    }
+}
+
+// Tells the last words that a run fetched.
+fn tell_trace<W: World>(alloc: Global, mut trace: Trace, world: &mut W) -> Result<(), Stop>
+    ensures told { (program : Program) → AreFetched program trace.words.items → TellsLines (map (shown program) trace.words.items) (W.holds world.old) (W.holds world.new) result }
+    ensures rest { W.holds world.new ≡ record (W.holds world.old) { notes = (W.holds world.new).notes } }
+    ensures caused { IfErr result (λ stop. Caused [] [] stop (W.counts world.old) (W.counts world.new)) }
+    ensures input { result ≢ Err Stop.Input }
+    ensures later { Later (W.counts world.old) (W.counts world.new) }
+    ensures same { W.names world.new ≡ W.names world.old }
+{
+    while let Some(fetched) = trace.pop() {
+        let line = match line_of(alloc, fetched) {
+            Ok(line) => line,
+            Err(OutOfMemory) => return Err(Stop::Memory),
+        };
+        if let Err(stop) = world.note(line.as_slice()) {
+            return Err(stop);
+        }
+    }
+    Ok(())
+}
+
+/// Runs a machine for at most so many instructions, and tells how it ended. It takes no memory.
+pub fn run_machine<W: World>(machine: &mut Machine, steps: u64, world: &mut W) -> Result<u8, Stop>
+    requires { machine.old.core.status ≡ Running }
+    ensures run { HasRun machine.old.program machine.old.core steps None None (W.holds world.old) (W.holds world.new) result }
+    ensures own { IfOk result IsOwn }
+    ensures caused { IfErr result (λ stop. Caused [] [] stop (W.counts world.old) (W.counts world.new)) }
+    ensures memory { result ≢ Err Stop.Memory }
+    ensures later { Later (W.counts world.old) (W.counts world.new) }
+    ensures same { W.names world.new ≡ W.names world.old }
+{
+    let run = world.run(machine, &mut Unwatched, steps);
+    match run.end {
+        Ending::InputFault => Err(Stop::Input),
+        Ending::OutputFault => Err(Stop::Output),
+        _ => match tell_end(run, world) {
+            Ok(()) => Ok(status_of(run.end)),
+            Err(stop) => Err(stop),
+        },
+    }
+}
+
+// Tells the last words of a run, and how it ended.
+fn tell_traced<W: World>(
+    alloc: Global,
+    trace: Trace,
+    run: MachineRun,
+    world: &mut W,
+) -> Result<(), Stop>
+    ensures told { (program : Program) → AreFetched program trace.words.items
+        → TellsLines (map (shown program) trace.words.items ++ texts (end_notes run.end run.steps)) (W.holds world.old) (W.holds world.new) result }
+    ensures rest { W.holds world.new ≡ record (W.holds world.old) { notes = (W.holds world.new).notes } }
+    ensures caused { IfErr result (λ stop. Caused [] [] stop (W.counts world.old) (W.counts world.new)) }
+    ensures input { result ≢ Err Stop.Input }
+    ensures later { Later (W.counts world.old) (W.counts world.new) }
+    ensures same { W.names world.new ≡ W.names world.old }
+{
+    match tell_trace(alloc, trace, world) {
+        Ok(()) => tell_end(run, world),
+        Err(stop) => Err(stop),
+    }
+}
+
+/// Runs a machine as `run_machine` does, and tells the last words that it fetched before how it
+/// ended, the oldest first.
+pub fn run_traced<W: World>(
+    alloc: Global,
+    machine: &mut Machine,
+    steps: u64,
+    count: u32,
+    world: &mut W,
+) -> Result<u8, Stop>
+    requires running { machine.old.core.status ≡ Running }
+    requires read { AreRead machine.old.program.words machine.old.program.instructions }
+    ensures run { IsUnbegun (W.holds world.old) (W.holds world.new) result
+        ⊎ HasRun machine.old.program machine.old.core steps (Some count) None (W.holds world.old) (W.holds world.new) result }
+    ensures own { IfOk result IsOwn }
+    ensures caused { IfErr result (λ stop. Caused [] [] stop (W.counts world.old) (W.counts world.new)) }
+    ensures later { Later (W.counts world.old) (W.counts world.new) }
+    ensures same { W.names world.new ≡ W.names world.old }
+{
+    let mut trace = match Trace::new(alloc, count) {
+        Ok(trace) => trace,
+        Err(OutOfMemory) => return Err(Stop::Memory),
+    };
+    let run = world.run(machine, &mut trace, steps);
+    match run.end {
+        Ending::InputFault => Err(Stop::Input),
+        Ending::OutputFault => Err(Stop::Output),
+        _ => match tell_traced(alloc, trace, run, world) {
+            Ok(()) => Ok(status_of(run.end)),
+            Err(stop) => Err(stop),
+        },
+    }
+}

@@ -1,0 +1,65 @@
+//! Lines at notes.
+
+ghost use Rattle.std.specs.Prelude.{◌≡◌, ◌≢◌, [], ◌∷◌, Err, OnOk, OnErr, IfOk, IfErr};
+ghost use Rattle.fy_base.specs.Outside.{Rose, GainedPart, appended};
+ghost use Rattle.fy_tool.specs.World.{Later};
+ghost use Rattle.fy_tool.specs.Note.{texts, ended_lines};
+ghost use Rattle.fy_tool.specs.Due.{told};
+ghost use Rattle.fy_tool.specs.Answers.{Caused, Did, IsOwn, Concludes};
+
+use crate::note::{Note, line_of};
+use crate::world::{Stop, World};
+
+/// Puts a line for each note.
+#[tactic(auto, using(crate::proofs::Contents::later_more))]
+pub fn tell<W: World>(notes: &[Note], world: &mut W) -> Result<(), Stop>
+    ensures told { OnOk result (W.holds world.new ≡ record (W.holds world.old) { notes = appended (W.holds world.old).notes (ended_lines (texts notes.now)) }) }
+    ensures rest { W.holds world.new ≡ record (W.holds world.old) { notes = (W.holds world.new).notes } }
+    ensures part { OnErr result (GainedPart (W.holds world.old).notes (W.holds world.new).notes (ended_lines (texts notes.now))) }
+    ensures stop { IfErr result (λ stop. stop ≡ Stop.Notes) }
+    ensures rose { OnErr result (Rose (W.counts world.old).notes (W.counts world.new).notes) }
+    ensures later { Later (W.counts world.old) (W.counts world.new) }
+    ensures same { W.names world.new ≡ W.names world.old }
+{
+    for note in notes {
+        let line = line_of(*note);
+        world.note(line.as_str().as_bytes())?;
+    }
+    Ok(())
+}
+
+/// A status that one note tells.
+pub fn refuse<W: World>(status: u8, why: Note, world: &mut W) -> Result<u8, Stop>
+    requires { IsOwn status }
+    ensures did { Did (told status (why ∷ [])) (W.holds world.old) (W.holds world.new) result }
+    ensures own { IfOk result IsOwn }
+    ensures caused { IfErr result (λ stop. Caused [] [] stop (W.counts world.old) (W.counts world.new)) }
+    ensures memory { result ≢ Err Stop.Memory }
+    ensures later { Later (W.counts world.old) (W.counts world.new) }
+    ensures same { W.names world.new ≡ W.names world.old }
+{
+    tell(&[why], world)?;
+    Ok(status)
+}
+
+/// The status, and the last note where the outside failed or memory was wanting.
+pub fn conclude<W: World>(work: Result<u8, Stop>, world: &mut W) -> u8
+    ensures concludes { Concludes work (W.holds world.old) (W.holds world.new) (W.counts world.old) (W.counts world.new) result }
+    ensures same { W.names world.new ≡ W.names world.old }
+{
+    let note = match work {
+        Ok(status) => return status,
+        Err(Stop::Notes) => return 7,
+        Err(Stop::Memory) => {
+            return match tell(&[Note::Memory], world) {
+                Ok(()) => 9,
+                Err(_) => 7,
+            };
+        }
+        Err(Stop::Files) => Note::OutsideFiles,
+        Err(Stop::Input) => Note::OutsideInput,
+        Err(Stop::Output) => Note::OutsideOutput,
+    };
+    let _ = tell(&[note], world);
+    7
+}
