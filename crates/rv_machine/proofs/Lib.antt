@@ -9,3 +9,4 @@ pub mod Loading
 pub mod Straight
 pub mod Blocks
 pub mod Blockwise
+pub mod Decoding
