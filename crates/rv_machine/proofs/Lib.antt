@@ -10,3 +10,4 @@ pub mod Straight
 pub mod Blocks
 pub mod Blockwise
 pub mod Decoding
+pub mod Striding
