@@ -28,7 +28,7 @@ turned_alone end program core after left over held held_now at_end did = record 
 }
 
 -- the world after an instruction whose step is known
-ticked : (event : Event) (program : Program) (world : World) (core after : Core) → world.ending ≡ events.Going → core ≡ world.core → instruction_step program core ≡ record { event = event; core = after }
+pub ticked : (event : Event) (program : Program) (world : World) (core after : Core) → world.ending ≡ events.Going → core ≡ world.core → instruction_step program core ≡ record { event = event; core = after }
     → tick program world ≡ settled event after world
 ticked event program world core after going same step =
     ap (λ e. tick_from e program world) going ∙ ap (λ c. settled (instruction_step program c).event (instruction_step program c).core world) (sym same) ∙ ap (λ o. settled o.event o.core world) step
@@ -117,3 +117,7 @@ turned_unread program core after left left_now over over_now held at_end step sa
       input_is = shows.input_is;
       output_is = shows.output_is;
     })))
+
+-- a step that led to an event, which is this one
+pub step_as : (event other : Event) (program : Program) (core after : Core) → event ≡ other → instruction_step program core ≡ record { event = event; core = after } → instruction_step program core ≡ record { event = other; core = after }
+step_as event other program core after same step = step ∙ ap (λ e. record { event = e; core = after }) same

@@ -9,3 +9,5 @@ pub mod Loading
 pub mod Straight
 pub mod Blocks
 pub mod Blockwise
+pub mod Decoding
+pub mod Striding

@@ -67,7 +67,7 @@ reached_start program core left held over at_end = record {
 }
 
 -- below n and at n
-below_next : (program : Program) (world : World) (n : ℕ) → IsGoingBelow program world n → (run program n world).ending ≡ events.Going → IsGoingBelow program world (n + 1)
+pub below_next : (program : Program) (world : World) (n : ℕ) → IsGoingBelow program world n → (run program n world).ending ≡ events.Going → IsGoingBelow program world (n + 1)
 below_next program world n below here k lt = elim (cases_lt k n) [
   | inl less ↦ below k less
   | inr more ↦ let last : k ≡ n = omega arith in ap (λ j. (run program j world).ending) last ∙ here
@@ -269,7 +269,3 @@ watched_spent program start n limit seen c left l o before g room held held_now 
     watched_to program start limit (record { end = ends.Spent; steps = limit }) c reached.given left l before g room held held_now seen reached.gave kept
     (stands.fetched ∙ ap (λ k. fetches program (going_world start (reached.given ++ more)) k) same)
     (run_spent program (going_world start (reached.given ++ more)) n limit seen c more before g same stands)
-
--- a turn of an equal program
-pub turned_of : (end : Option Ending) (program same : Program) (c d : Core) (l m : Option Bytes) (o p : Bool) (g h : Option Bytes) → same ≡ program → Turned end same c d l m o p g h → Turned end program c d l m o p g h
-turned_of end program same c d l m o p g h e turned = let P : Program → Type 0 = λ q. Turned end q c d l m o p g h in subst P e turned

@@ -11,6 +11,7 @@ use Rattle.circular_buffer.specs.Buffer.{keep_last}
 use Rattle.rv_insn.specs.Program.{Program}
 use Rattle.rv_insn.specs.Step.{Core}
 use Rattle.rv_machine.specs.Run.{World, run}
+use Rattle.rv_machine.proofs.Runs.{run_split}
 use Rattle.rv_machine.specs.Fetch.{fetched_at, fetches}
 use Rattle.rv_machine.specs.declared.watch.Fetched.{Fetched}
 
@@ -47,14 +48,25 @@ fetches_more program world n =
 pub kept_start : (n : ℕ) (held : List Fetched) → length held ≤ n → held ≡ keep_last n (held ++ [])
 kept_start n held few = sym (keep_last_all n held few) ∙ ap (λ l. keep_last n l) (sym (append-nil held))
 
--- a watch that held the last of some words is told of one more, or of none
-pub kept_next : (room n : ℕ) (held seen now next : List Fetched) (program same : Program) (core : Core) → same ≡ program → room ≡ n → now ≡ keep_last n (held ++ seen)
-    → next ≡ keep_last room (now ++ option_to_list (fetched_at same core)) → next ≡ keep_last n (held ++ (seen ++ option_to_list (fetched_at program core)))
-kept_next room n held seen now next program same core e f was is =
-    let more = option_to_list (fetched_at program core) in
-    is ∙ ap (λ p. keep_last room (now ++ option_to_list (fetched_at p core))) e ∙ ap (λ k. keep_last k (now ++ more)) f
-    ∙ ap (λ l. keep_last n (l ++ more)) was ∙ keep_last-keep n (held ++ seen) more ∙ ap (λ l. keep_last n l) (append_assoc held seen more)
+-- a watch that held the last of some words holds the last of these and more
+pub kept_more : (room n : ℕ) (held seen more now next : List Fetched) → room ≡ n → now ≡ keep_last n (held ++ seen) → next ≡ keep_last room (now ++ more) → next ≡ keep_last n (held ++ (seen ++ more))
+kept_more room n held seen more now next same was is =
+    is ∙ ap (λ k. keep_last k (now ++ more)) same ∙ ap (λ l. keep_last n (l ++ more)) was ∙ keep_last-keep n (held ++ seen) more ∙ ap (λ l. keep_last n l) (append_assoc held seen more)
 
 -- no more than n are kept
 pub length-keep_last : (n : ℕ) (xs : List Fetched) → length (keep_last n xs) ≤ n
 length-keep_last n xs = omega (arith, length-drop (length xs - n) xs)
+
+-- what a run fetches in n instructions and then in m more
+pub fetches_split : (program : Program) (world : World) (n m : ℕ) → fetches program world (n + m) ≡ fetches program world n ++ fetches program (run program n world) m
+fetches_split program world n zero = ap (λ k. fetches program world k) (add-zero n) ∙ sym (append-nil (fetches program world n))
+fetches_split program world n (suc m) =
+    let now = run program n world in
+    let last = λ (c : Core). option_to_list (fetched_at program c) in
+    let count : n + suc m ≡ (n + m) + 1 = omega arith in
+    let ends : fetches program now (suc m) ≡ fetches program now m ++ last (run program m now).core = ap (λ k. fetches program now k) (sym (add-one m)) ∙ fetches_more program now m in
+    ap (λ k. fetches program world k) count ∙ fetches_more program world (n + m)
+    ∙ ap (λ w. fetches program world (n + m) ++ last w.core) (run_split program n m world)
+    ∙ ap (λ l. l ++ last (run program m now).core) (fetches_split program world n m)
+    ∙ append_assoc (fetches program world n) (fetches program now m) (last (run program m now).core)
+    ∙ ap (λ l. fetches program world n ++ l) (sym ends)

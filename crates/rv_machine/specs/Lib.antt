@@ -1,3 +1,4 @@
+pub mod Decoded
 pub mod Run
 pub mod Start
 pub mod State

@@ -1,6 +1,7 @@
 //! The machine that runs images: RV64IM with three regions of memory and five services.
 #![tactic(auto)]
 
+mod decoded;
 mod forms;
 mod laws;
 mod machine;

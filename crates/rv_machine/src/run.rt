@@ -1,11 +1,10 @@
 //! Runs of the machine over a source and a sink.
 
-ghost use Rattle.std.specs.Prelude.{◌≡◌, ◌≤◌, ◌++◌, IsTrue, IfOk, IfSome, OnErr, is_none, length};
+ghost use Rattle.std.specs.Prelude.{◌≡◌, ◌≤◌, IsTrue, IfOk, IfSome, None, OnErr, is_none, length};
 ghost use Rattle.std.specs.Option.{option_to_list};
 ghost use Rattle.fy_base.specs.Outside.{HasCause, IsAtEnd, Rose};
 ghost use Rattle.rv_machine.specs.Ends.{IsMachineEnd, RunsTo, Watched, status_at, status_by};
-ghost use Rattle.rv_machine.specs.Fetch.{fetched_at};
-ghost use Rattle.circular_buffer.specs.Buffer.{keep_last};
+ghost use Rattle.rv_insn.specs.Step.{Core, instruction_step, status_after};
 ghost use Rattle.rv_machine.specs.Turn.{Drew, Turned};
 ghost use Rattle.rv_insn.specs.declared.events.Status.TheVariants.{Running};
 
@@ -45,19 +44,21 @@ fn next_byte<I: Source>(input: &mut I, over: &mut bool) -> Result<Option<u8>, Fa
     }
 }
 
-// Executes one instruction with its input and output: how the run ended by it, or `None` where it
-// goes on.
-fn turn<I: Source, O: Sink>(
+// The input or output of the instruction that led to an event: how the run ended by it, or `None`
+// where it goes on.
+fn exchange<I: Source, O: Sink>(
     m: &mut Machine,
+    event: Event,
     input: &mut I,
     output: &mut O,
     over: &mut bool,
 ) -> Option<Ending>
-    requires running { m.old.core.status ≡ Running }
+    requires status { m.old.core.status ≡ status_after event }
     requires at_end { IsTrue over.old → IsAtEnd (I.left input.old) }
     ensures program { m.new.program ≡ m.old.program }
     ensures status { m.new.core.status ≡ status_by result }
-    ensures did { Turned result m.old.program m.old.core m.new.core (I.left input.old) (I.left input.new) over.old over.new (O.held output.old) (O.held output.new) }
+    ensures did { (last : Core) → instruction_step m.old.program last ≡ record { event = event; core = m.old.core } → Turned result m.old.program last m.new.core (I.left input.old) (I.left input.new) over.old over.new (O.held output.old) (O.held output.new) }
+    ensures same { event ≡ Event.Going → (result ≡ None) × (m.new.core ≡ m.old.core) × (I.left input.new ≡ I.left input.old) × (over.new ≡ over.old) × (O.held output.new ≡ O.held output.old) }
     ensures end { IfSome result IsMachineEnd }
     ensures spent { result ≡ Some Ending.Spent → ⊥ }
     ensures input_fault { result ≡ Some Ending.InputFault → Rose (I.faults input.old) (I.faults input.new) }
@@ -65,7 +66,7 @@ fn turn<I: Source, O: Sink>(
     ensures input_later { I.faults input.old ≤ I.faults input.new }
     ensures output_later { O.faults output.old ≤ O.faults output.new }
 {
-    match m.step() {
+    match event {
         Event::Going => None,
         Event::Put(byte) => match output.put(&[byte]) {
             Ok(()) => None,
@@ -82,18 +83,6 @@ fn turn<I: Source, O: Sink>(
         Event::Fault { kind, place } => Some(Ending::Fault { kind, place }),
         Event::Exhausted => Some(Ending::Exhausted),
         Event::Trap(kind) => Some(Ending::Trap(kind)),
-    }
-}
-
-// Tells the watch of the word that is fetched next, if there is one.
-#[inline(always)]
-fn tell<W: Watch>(m: &Machine, watch: &mut W)
-    requires { length (W.held watch.old) ≤ W.room watch.old }
-    ensures room { W.room watch.new ≡ W.room watch.old }
-    ensures held { W.held watch.new ≡ keep_last (W.room watch.old) (W.held watch.old ++ option_to_list (fetched_at m.now.program m.now.core)) }
-{
-    if let Some(word) = m.word() {
-        watch.fetched(m.pc(), word);
     }
 }
 
@@ -127,10 +116,12 @@ pub fn run_watched<I: Source, O: Sink, W: Watch>(
     ensures output_later { O.faults output.old ≤ O.faults output.new }
 {
     let mut over = false;
-    for k in 0..steps {
-        tell(m, watch);
-        if let Some(end) = turn(m, input, output, &mut over) {
-            return MachineRun { end, steps: k + 1 };
+    let mut done = 0;
+    'turns: while done < steps {
+        let row = m.stride(watch, steps - done);
+        done += row.steps;
+        if let Some(end) = exchange(m, row.event, input, output, &mut over) {
+            return MachineRun { end, steps: done };
         }
     }
     MachineRun {

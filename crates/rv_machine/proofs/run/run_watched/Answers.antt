@@ -1,45 +1,42 @@
-use Rattle.std.proofs.Common.{[], ◌++◌, ◌∙◌, refl, arith, Some, None}
-use Rattle.std.specs.Option.{option_to_list}
-use Rattle.rv_machine.specs.Fetch.{fetched_at}
-use Rattle.rv_machine.proofs.Turns.{reached_start, reached_next, watched_ends, watched_spent, turned_of}
-use Rattle.rv_machine.proofs.Watching.{kept_start, kept_next}
+use Rattle.std.proofs.Common.{◌∙◌, refl, arith}
+use Rattle.rv_machine.proofs.Striding.{gone_start, gone_ends, gone_on, gone_spent, few_kept, strode_of, does_of}
 use Rattle.rv_machine.proofs.run.run_watched.Goals as goal
 
-pub loop-k-init : goal.loop-k-init
-loop-k-init g c = record {
+pub turns-init : goal.turns-init
+turns-init g c = record {
   running = c.requires.running;
   program = refl;
-  seen = [];
-  reached = reached_start _ _ _ _ _ (λ was. cc);
+  few = omega arith;
+  gone = gone_start _ _ _ _ _ _ _ (λ was. cc) c.requires.room;
   room = refl;
-  held = kept_start _ _ c.requires.room;
   input_later = omega arith;
   output_later = omega arith;
 }
 
+pub stride-row-requires-clause-room : goal.stride-row-requires-clause-room
+stride-row-requires-clause-room g c = few_kept _ _ _ _ _ _ _ _ _ _ _ _ _ c.turns.invariant.room c.turns.invariant.gone
+
 pub returns-in-Some-clause-did : goal.returns-in-Some-clause-did
 returns-in-Some-clause-did g c =
-    let i = c.loop-k.invariant in
-    watched_ends c.in-Some.end c.args.m.now.program _ _ _ i.seen c.loop-k.m.core _ _ _ _ _ _ _ _ _ _ _ _ i.reached c.loop-k-test.true
-    (turned_of (Some c.in-Some.end) c.args.m.now.program c.loop-k.m.program _ _ _ _ _ _ _ _ i.program c.in-Some.ensures.did)
-    (kept_next _ _ _ i.seen _ _ _ _ c.loop-k.m.core i.program i.room i.held c.tell.ensures.held)
+    let i = c.turns.invariant in
+    gone_ends c.in-Some.end c.stride-row.result.event _ _ _ _ _ _ _ _ _ _ _ _ _ _ _ _ _ _ _ _ i.gone
+    (strode_of _ c.args.m.now.program c.turns.m.program _ _ _ _ _ _ _ i.program i.room c.stride-row.ensures.strode) (omega (arith, c.stride-row.ensures.few)) (λ going. (c.in-Some.ensures.same going).0)
+    (does_of _ _ c.args.m.now.program c.stride-row.new.self.program _ _ _ _ _ _ _ _ (c.stride-row.ensures.program ∙ i.program) c.in-Some.ensures.did)
 
-pub loop-k-preserved : goal.loop-k-preserved
-loop-k-preserved g c =
-    let i = c.loop-k.invariant in
+pub turns-preserved : goal.turns-preserved
+turns-preserved g c =
+    let i = c.turns.invariant in
     record {
       running = c.in_default.ensures.status;
-      program = c.turn.ensures.program ∙ i.program;
-      seen = i.seen ++ option_to_list (fetched_at c.args.m.now.program c.loop-k.m.core);
-      reached = reached_next c.args.m.now.program _ _ i.seen c.loop-k.m.core _ _ _ _ _ _ _ _ _ i.reached
-          (turned_of None c.args.m.now.program c.loop-k.m.program _ _ _ _ _ _ _ _ i.program c.in_default.ensures.did);
-      room = c.tell.ensures.room ∙ i.room;
-      held = kept_next _ _ _ i.seen _ _ _ _ c.loop-k.m.core i.program i.room i.held c.tell.ensures.held;
-      input_later = omega (arith, c.turn.ensures.input_later);
-      output_later = omega (arith, c.turn.ensures.output_later);
+      program = c.exchange.ensures.program ∙ c.stride-row.ensures.program ∙ i.program;
+      few = omega (arith, c.stride-row.ensures.few);
+      gone = gone_on c.stride-row.result.event _ _ _ _ _ _ _ _ _ _ _ _ _ _ _ _ _ _ _ i.gone (strode_of _ c.args.m.now.program c.turns.m.program _ _ _ _ _ _ _ i.program i.room c.stride-row.ensures.strode)
+          (λ going. let s = c.in_default.ensures.same going in record { core = s.1; left = s.2; over = s.3; held = s.4 })
+          (does_of _ _ c.args.m.now.program c.stride-row.new.self.program _ _ _ _ _ _ _ _ (c.stride-row.ensures.program ∙ i.program) c.in_default.ensures.did);
+      room = c.stride-row.ensures.room ∙ i.room;
+      input_later = omega (arith, c.exchange.ensures.input_later);
+      output_later = omega (arith, c.exchange.ensures.output_later);
     }
 
 pub returns-clause-did : goal.returns-clause-did
-returns-clause-did g c =
-    let i = c.loop-k.invariant in
-    watched_spent _ _ c.loop-k.k c.args.steps i.seen _ _ _ _ _ _ _ _ _ (omega arith) i.reached i.held
+returns-clause-did g c = gone_spent _ _ c.turns.done c.args.steps _ _ _ _ _ _ _ _ _ (omega arith) c.turns.invariant.gone

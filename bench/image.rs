@@ -1,0 +1,77 @@
+//! Writes images to measure with: `OUT mixed FILE.img` is a loop of 100 million instructions, adds,
+//! loads, stores, branches and a multiplication; `OUT large FILE.img` ends at once and has the largest
+//! stack and the largest code.
+
+fn r(f7: u32, rs2: u32, rs1: u32, f3: u32, rd: u32, op: u32) -> u32 {
+    f7 << 25 | rs2 << 20 | rs1 << 15 | f3 << 12 | rd << 7 | op
+}
+
+fn i(imm: i32, rs1: u32, f3: u32, rd: u32, op: u32) -> u32 {
+    (imm as u32 & 0xfff) << 20 | rs1 << 15 | f3 << 12 | rd << 7 | op
+}
+
+fn s(imm: i32, rs2: u32, rs1: u32, f3: u32) -> u32 {
+    let imm = imm as u32;
+    (imm >> 5 & 127) << 25 | rs2 << 20 | rs1 << 15 | f3 << 12 | (imm & 31) << 7 | 0x23
+}
+
+fn b(offset: i32, rs2: u32, rs1: u32, f3: u32) -> u32 {
+    let o = offset as u32;
+    (o >> 12 & 1) << 31 | (o >> 5 & 63) << 25 | rs2 << 20 | rs1 << 15 | f3 << 12 | (o >> 1 & 15) << 8 | (o >> 11 & 1) << 7 | 0x63
+}
+
+fn addi(rd: u32, rs1: u32, imm: i32) -> u32 {
+    i(imm, rs1, 0, rd, 0x13)
+}
+
+// Twelve instructions a turn, or thirteen where x5 begins anew; x11 counts the turns down.
+fn mixed() -> Vec<u32> {
+    vec![
+        0x0080_05b7,                      // lui x11, 2048: 8,388,608 turns
+        i(0, 11, 0, 11, 0x1b),            // addiw x11, x11, 0
+        addi(9, 0, 37),                   // addi x9, x0, 37
+        addi(13, 2, 2040),                // addi x13, x2, 2040
+        addi(12, 2, 1024),                // addi x12, x2, 1024
+        addi(5, 2, 0),                    // addi x5, x2, 0
+        i(0, 5, 3, 6, 0x03),              // loop: ld x6, 0(x5)
+        r(0, 6, 7, 0, 7, 0x33),           // add x7, x7, x6
+        r(1, 9, 7, 0, 8, 0x33),           // mul x8, x7, x9
+        s(8, 8, 5, 3),                    // sd x8, 8(x5)
+        addi(5, 5, 8),                    // addi x5, x5, 8
+        b(8, 12, 5, 4),                   // blt x5, x12, 8
+        addi(5, 2, 0),                    // addi x5, x2, 0
+        s(0, 7, 13, 2),                   // sw x7, 0(x13)
+        i(1, 13, 4, 14, 0x03),            // lbu x14, 1(x13)
+        r(0, 14, 7, 4, 7, 0x33),          // xor x7, x7, x14
+        i(7, 7, 1, 7, 0x13),              // slli x7, x7, 7
+        addi(11, 11, -1),                 // addi x11, x11, -1
+        b(-48, 0, 11, 1),                 // bne x11, x0, loop
+        addi(17, 0, 0),                   // addi x17, x0, 0
+        0x73,                             // ecall: end
+    ]
+}
+
+fn large() -> Vec<u32> {
+    let mut code = vec![addi(17, 0, 0), 0x73];
+    let filler = mixed();
+    while code.len() < 4_194_304 {
+        code.push(filler[code.len() % filler.len()]);
+    }
+    code
+}
+
+fn main() {
+    let mut args = std::env::args().skip(1);
+    let kind = args.next().unwrap_or_default();
+    let name = args.next().expect("a name of a file");
+    let (stack_words, code) = match kind.as_str() {
+        "mixed" => (131_072u32, mixed()),
+        "large" => (16_777_216, large()),
+        _ => panic!("mixed or large"),
+    };
+    let mut bytes = b"FORSYF64".to_vec();
+    for n in [1, stack_words, code.len() as u32, 0, 0, 0].iter().chain(&code) {
+        bytes.extend(n.to_le_bytes());
+    }
+    std::fs::write(name, bytes).expect("the file");
+}
