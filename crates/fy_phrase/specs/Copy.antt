@@ -98,6 +98,7 @@ step_at (binary op p q at) s = pushed (op_l op q at) p s
 step_at (skip at) s = answered skip_meets s.contexts s
 step_at (seq p q at) s = pushed (then_c q) p s
 step_at (put kind p at) s = pushed (put_c kind) p s
+step_at p s = sticks
 
 abbrev pub copy_step : CopyState → CopyMove
 copy_step s = step_at s.focus s

@@ -4,5 +4,5 @@
 mod phrase;
 mod sizes;
 
-pub use phrase::Phrase;
+pub use phrase::{DataTy, MarkKind, Parts, Phrase};
 pub use sizes::{depth_of, node_count};

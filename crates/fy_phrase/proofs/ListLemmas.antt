@@ -1,0 +1,37 @@
+-- One more member of a list, in a loop over its members.
+use Rattle.std.proofs.Common.{◌≡◌, ℕ, ◌+◌, ◌<◌, List, [], ◌∷◌, ◌++◌, length, get_or, take, map, max, refl, ap, sym, ◌∙◌, arith}
+use Rattle.std.proofs.lemmas.List.{take_more}
+use Rattle.fy_phrase.specs.Tree.{Tree, Trees, no_trees, and_tree}
+use Rattle.fy_phrase.specs.Reads.{reads, trees_from}
+use Rattle.fy_phrase.specs.Sizes.{nodes, all_nodes, depth, all_depth}
+use Rattle.fy_phrase.specs.declared.phrase.Phrase.{Phrase}
+
+-- the list with one more at its end
+abbrev pub with_last : Trees → Tree → Trees
+with_last no_trees p = and_tree p no_trees
+with_last (and_tree q ps) p = and_tree q (with_last ps p)
+
+pub trees_from-append : (ps : List Phrase) (p : Phrase) → trees_from (map reads (ps ++ p ∷ [])) ≡ with_last (trees_from (map reads ps)) (reads p)
+trees_from-append [] p = refl
+trees_from-append (q ∷ ps) p = ap (and_tree (reads q)) (trees_from-append ps p)
+
+pub trees_from-take : (ps : List Phrase) (i : ℕ) (d : Phrase) → i < length ps → trees_from (map reads (take (i + 1) ps)) ≡ with_last (trees_from (map reads (take i ps))) (reads (get_or ps i d))
+trees_from-take ps i d h = ap (λ qs. trees_from (map reads qs)) (take_more ps i d h) ∙ trees_from-append (take i ps) (get_or ps i d)
+
+all_nodes-with_last : (ps : Trees) (p : Tree) → all_nodes (with_last ps p) ≡ all_nodes ps + nodes p
+all_nodes-with_last no_trees p = omega arith
+all_nodes-with_last (and_tree q ps) p = omega (arith, all_nodes-with_last ps p)
+
+all_depth-with_last : (ps : Trees) (p : Tree) → all_depth (with_last ps p) ≡ max (all_depth ps) (depth p)
+all_depth-with_last no_trees p = omega arith
+all_depth-with_last (and_tree q ps) p = omega (arith, all_depth-with_last ps p)
+
+pub all_nodes-more : (ps : List Phrase) (i : ℕ) (d : Phrase) → i < length ps → (get_or ps i d ≡ get_or ps i d) × (all_nodes (trees_from (map reads (take (i + 1) ps))) ≡ all_nodes (trees_from (map reads (take i ps))) + nodes (reads (get_or ps i d)))
+all_nodes-more ps i d h =
+    (refl, ap all_nodes (trees_from-take ps i d h) ∙ all_nodes-with_last (trees_from (map reads (take i ps))) (reads (get_or ps i d)))
+
+pub all_depth-more : (ps : List Phrase) (i : ℕ) (d : Phrase) → i < length ps → (get_or ps i d ≡ get_or ps i d) × (all_depth (trees_from (map reads (take (i + 1) ps))) ≡ max (all_depth (trees_from (map reads (take i ps)))) (depth (reads (get_or ps i d))))
+all_depth-more ps i d h =
+    (refl, ap all_depth (trees_from-take ps i d h) ∙ all_depth-with_last (trees_from (map reads (take i ps))) (reads (get_or ps i d)))
+
+pub ruleset sizes = (all_nodes-more, all_depth-more)
