@@ -2,9 +2,12 @@
 use Rattle.std.proofs.Common.{◌≡◌, ℕ, ◌+◌, ◌<◌, List, [], ◌∷◌, ◌++◌, length, get_or, take, map, max, refl, ap, sym, ◌∙◌, arith}
 use Rattle.std.proofs.lemmas.List.{take_more}
 use Rattle.fy_phrase.specs.Tree.{Tree, Trees, no_trees, and_tree}
-use Rattle.fy_phrase.specs.Reads.{reads, trees_from}
+use Rattle.fy_phrase.specs.Reads.{phrases_in, reads, reads_parts, trees_from}
+use Rattle.fy_phrase.specs.Closing.{closed_at, all_closed_at}
 use Rattle.fy_phrase.specs.Sizes.{nodes, all_nodes, depth, all_depth}
 use Rattle.fy_phrase.specs.declared.phrase.Phrase.{Phrase}
+use Rattle.fy_phrase.specs.declared.phrase.Parts.{Parts}
+use Rattle.fy_phrase.proofs.ReadLemmas.{reads_parts-at}
 
 -- the list with one more at its end
 abbrev pub with_last : Trees → Tree → Trees
@@ -35,3 +38,21 @@ all_depth-more ps i d h =
     (refl, ap all_depth (trees_from-take ps i d h) ∙ all_depth-with_last (trees_from (map reads (take i ps))) (reads (get_or ps i d)))
 
 pub ruleset sizes = (all_nodes-more, all_depth-more)
+
+all_closed_at-with_last : (n : ℕ) (a : Tree) (ps : Trees) (p : Tree) → all_closed_at n a (with_last ps p) ≡ with_last (all_closed_at n a ps) (closed_at n a p)
+all_closed_at-with_last n a no_trees p = refl
+all_closed_at-with_last n a (and_tree q ps) p = ap (and_tree (closed_at n a q)) (all_closed_at-with_last n a ps p)
+
+-- one more copy
+pub all_closed_at-more : (n : ℕ) (a : Tree) (l m : Parts) (made : Phrase) (ps : List Phrase) (i : ℕ) (d : Phrase) → i < length ps → phrases_in m ≡ phrases_in l ++ made ∷ [] → reads_parts l ≡ all_closed_at n a (trees_from (map reads (take i ps)))
+    → reads made ≡ closed_at n a (reads (get_or ps i d)) → reads_parts m ≡ all_closed_at n a (trees_from (map reads (take (i + 1) ps)))
+all_closed_at-more n a l m made ps i d h pushed is closed =
+    let before = trees_from (map reads (take i ps)) in
+    let last = reads (get_or ps i d) in
+    reads_parts-at m
+    ∙ ap (λ qs. trees_from (map reads qs)) pushed
+    ∙ trees_from-append (phrases_in l) made
+    ∙ ap (λ ts. with_last ts (reads made)) (sym (reads_parts-at l) ∙ is)
+    ∙ ap (with_last (all_closed_at n a before)) closed
+    ∙ sym (all_closed_at-with_last n a before last)
+    ∙ ap (all_closed_at n a) (sym (trees_from-take ps i d h))

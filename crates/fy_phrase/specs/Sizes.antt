@@ -1,5 +1,5 @@
 -- How large a phrase is.
-use Rattle.std.specs.Prelude.{ℕ, ◌+◌, ◌-◌, ◌^◌, min, max}
+use Rattle.std.specs.Prelude.{ℕ, ◌+◌, ◌-◌, ◌^◌, min, max, Bool, nat_le, ◌&&◌}
 use Rattle.fy_phrase.specs.Tree.{Tree, Trees, var, lit, unary, binary, cond, case, lam, app, field, sel, merge, let_in, rec, skip, seq, assign, while_do, forever, new, escape, accept, put, read, mark, no_trees, and_tree}
 
 -- the number of nodes
@@ -65,6 +65,42 @@ abbrev mutual
   pub all_depth : Trees → ℕ
   all_depth no_trees = 0
   all_depth (and_tree p ps) = max (depth p) (all_depth ps)
+
+-- the greatest number of nodes on one path
+abbrev mutual
+  pub nesting : Tree → ℕ
+  nesting (var k at) = 1
+  nesting (lit v at) = 1
+  nesting (unary op p at) = 1 + nesting p
+  nesting (binary op p q at) = 1 + max (nesting p) (nesting q)
+  nesting (cond b p q at) = 1 + max (nesting b) (max (nesting p) (nesting q))
+  nesting (case e parts at) = 1 + max (nesting e) (all_nesting parts)
+  nesting (lam d alternatives body at) = 1 + nesting body
+  nesting (app p q at) = 1 + max (nesting p) (nesting q)
+  nesting (field i p at) = 1 + nesting p
+  nesting (sel p i at) = 1 + nesting p
+  nesting (merge p q at) = 1 + max (nesting p) (nesting q)
+  nesting (let_in d p body at) = 1 + max (nesting p) (nesting body)
+  nesting (rec d T body at) = 1 + nesting body
+  nesting (skip at) = 1
+  nesting (seq p q at) = 1 + max (nesting p) (nesting q)
+  nesting (assign p q at) = 1 + max (nesting p) (nesting q)
+  nesting (while_do b c at) = 1 + max (nesting b) (nesting c)
+  nesting (forever c at) = 1 + nesting c
+  nesting (new d D e body at) = 1 + max (nesting e) (nesting body)
+  nesting (escape d body at) = 1 + nesting body
+  nesting (accept d D body at) = 1 + nesting body
+  nesting (put kind p at) = 1 + nesting p
+  nesting (read p at) = 1 + nesting p
+  nesting (mark m at) = 1
+
+  pub all_nesting : Trees → ℕ
+  all_nesting no_trees = 0
+  all_nesting (and_tree p ps) = max (nesting p) (all_nesting ps)
+
+-- whether a runner of the copy rule holds the phrase
+abbrev pub fits : Tree → Bool
+fits p = nat_le (nesting p) 2048 && nat_le (nodes p) 1048576
 
 -- a number, or the greatest of its type
 abbrev pub greatest_u32 : ℕ → ℕ

@@ -54,3 +54,30 @@ mutual
   pub data Trees : Type 0 where
     no_trees : Trees
     and_tree : Tree → Trees → Trees
+
+-- the place of a phrase
+abbrev pub place_of : Tree → Place
+place_of (var k at) = at
+place_of (lit v at) = at
+place_of (unary op p at) = at
+place_of (binary op p q at) = at
+place_of (cond b p q at) = at
+place_of (case e parts at) = at
+place_of (lam d alternatives body at) = at
+place_of (app p q at) = at
+place_of (field i p at) = at
+place_of (sel p i at) = at
+place_of (merge p q at) = at
+place_of (let_in d p body at) = at
+place_of (rec d T body at) = at
+place_of (skip at) = at
+place_of (seq p q at) = at
+place_of (assign p q at) = at
+place_of (while_do b c at) = at
+place_of (forever c at) = at
+place_of (new d D e body at) = at
+place_of (escape d body at) = at
+place_of (accept d D body at) = at
+place_of (put kind p at) = at
+place_of (read p at) = at
+place_of (mark m at) = at

@@ -2,6 +2,7 @@
 
 ghost use Rattle.std.specs.Prelude.{◌≡◌, [], ◌∷◌, ◌++◌, OnOk, OnErr, length, map};
 ghost use Rattle.fy_phrase.specs.Reads.{phrases_in, reads, reads_parts, trees_from};
+ghost use Rattle.fy_phrase.specs.Tree.{place_of};
 
 use fy_base::{BinOp, Datum, OutOfMemory, Place, PutKind, UnOp};
 use fy_types::{Name, Ty, TyList};
@@ -77,6 +78,40 @@ pub enum Phrase {
     Read(Box<Phrase>, Place),
     /// What only a run makes.
     Mark(MarkKind, Place),
+}
+
+impl Phrase {
+    /// The phrase's place in the source.
+    pub fn place(&self) -> Place
+        ensures { result ≡ place_of (reads self.now) }
+    {
+        match self {
+            Phrase::Var(_, at)
+            | Phrase::Lit(_, at)
+            | Phrase::Unary(_, _, at)
+            | Phrase::Binary(_, _, _, at)
+            | Phrase::Cond(_, _, _, at)
+            | Phrase::Case(_, _, at)
+            | Phrase::Lam(_, _, _, at)
+            | Phrase::App(_, _, at)
+            | Phrase::Field(_, _, at)
+            | Phrase::Sel(_, _, at)
+            | Phrase::Merge(_, _, at)
+            | Phrase::LetIn(_, _, _, at)
+            | Phrase::Rec(_, _, _, at)
+            | Phrase::Skip(at)
+            | Phrase::Seq(_, _, at)
+            | Phrase::Assign(_, _, at)
+            | Phrase::WhileDo(_, _, at)
+            | Phrase::Forever(_, at)
+            | Phrase::New(_, _, _, _, at)
+            | Phrase::Escape(_, _, at)
+            | Phrase::Accept(_, _, _, at)
+            | Phrase::Put(_, _, at)
+            | Phrase::Read(_, at)
+            | Phrase::Mark(_, at) => *at,
+        }
+    }
 }
 
 /// A list of core phrases.
