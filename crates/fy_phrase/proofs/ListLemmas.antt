@@ -21,7 +21,7 @@ trees_from-append (q ∷ ps) p = ap (and_tree (reads q)) (trees_from-append ps p
 pub trees_from-take : (ps : List Phrase) (i : ℕ) (d : Phrase) → i < length ps → trees_from (map reads (take (i + 1) ps)) ≡ with_last (trees_from (map reads (take i ps))) (reads (get_or ps i d))
 trees_from-take ps i d h = ap (λ qs. trees_from (map reads qs)) (take_more ps i d h) ∙ trees_from-append (take i ps) (get_or ps i d)
 
-all_nodes-with_last : (ps : Trees) (p : Tree) → all_nodes (with_last ps p) ≡ all_nodes ps + nodes p
+pub all_nodes-with_last : (ps : Trees) (p : Tree) → all_nodes (with_last ps p) ≡ all_nodes ps + nodes p
 all_nodes-with_last no_trees p = omega arith
 all_nodes-with_last (and_tree q ps) p = omega (arith, all_nodes-with_last ps p)
 
@@ -39,7 +39,7 @@ all_depth-more ps i d h =
 
 pub ruleset sizes = (all_nodes-more, all_depth-more)
 
-all_closed_at-with_last : (n : ℕ) (a : Tree) (ps : Trees) (p : Tree) → all_closed_at n a (with_last ps p) ≡ with_last (all_closed_at n a ps) (closed_at n a p)
+pub all_closed_at-with_last : (n : ℕ) (a : Tree) (ps : Trees) (p : Tree) → all_closed_at n a (with_last ps p) ≡ with_last (all_closed_at n a ps) (closed_at n a p)
 all_closed_at-with_last n a no_trees p = refl
 all_closed_at-with_last n a (and_tree q ps) p = ap (and_tree (closed_at n a q)) (all_closed_at-with_last n a ps p)
 
