@@ -1,2 +1,4 @@
+pub mod ReadLemmas
+pub mod ListLemmas
 pub mod Runs
 pub mod Rows

@@ -6,7 +6,10 @@ use Rattle.fy_base.specs.declared.data.Datum.TheVariants as datum
 use Rattle.fy_base.specs.declared.data.BinOp.TheVariants.{Add}
 use Rattle.fy_base.specs.declared.data.PutKind.TheVariants as kind
 use Rattle.fy_base.specs.declared.data.FaultKind.TheVariants.{Overflow}
-use Rattle.fy_phrase.specs.Tree.{Tree, lit, binary, skip, put}
+use Rattle.fy_types.specs.declared.types.Atom.{Atom}
+use Rattle.fy_types.specs.declared.types.Atom.TheVariants as atoms
+use Rattle.fy_types.specs.Types.{PlainTypes, atom, no_types, and_type}
+use Rattle.fy_phrase.specs.Tree.{Tree, lit, binary, skip, put, var, lam, app, let_in, read}
 use Rattle.fy_phrase.specs.Copy.{going, ended, faulted, after_more, copy_after, peak_load}
 
 at_column : ℕ → Place
@@ -45,3 +48,45 @@ past_greatest = put kind.Int (binary Add (lit (datum.Int (pos 922337203685477580
 past_greatest-faults : (copy_after past_greatest [] 4).standing ≡ faulted Overflow (at_column 28)
 unfolding after_more
 past_greatest-faults = refl
+
+-- ---- whole programs, inside the definitions that stand before each
+
+here : Place
+here = at_column 1
+
+one_type : Atom → PlainTypes
+one_type a = and_type (atom a) no_types
+
+abbrev in_prelude : Tree → Tree
+in_prelude p =
+    let_in 0 (lam 0 (one_type atoms.Int) (put kind.Int (var 0 here) here) here)
+    (let_in 1 (lam 1 (one_type atoms.Char) (put kind.Char (var 0 here) here) here)
+    (let_in 2 (lam 2 (one_type atoms.Bool) (put kind.Bool (var 0 here) here) here)
+    (let_in 3 (lam 3 (one_type atoms.IntAcc) (read (var 0 here) here) here) p here) here) here) here
+
+abbrev sum_program : Tree
+sum_program = in_prelude (app (var 3 here) (binary Add (lit (datum.Int (pos 1)) here) (lit (datum.Int (pos 2)) here) here) here)
+
+sum_program-goes_on : (copy_after sum_program [] 10).standing ≡ going
+unfolding after_more
+sum_program-goes_on = refl
+
+sum_program-ends : (copy_after sum_program [] 11).standing ≡ ended
+unfolding after_more
+sum_program-ends = refl
+
+sum_program-output : (copy_after sum_program [] 11).output ≡ decimal 3
+unfolding after_more
+sum_program-output = refl
+
+sum_program-peak : peak_load sum_program [] 11 ≡ 70
+unfolding after_more peak_load
+sum_program-peak = refl
+
+skip_program-ends : (copy_after (in_prelude (skip here)) [] 4).standing ≡ ended
+unfolding after_more
+skip_program-ends = refl
+
+skip_program-peak : peak_load (in_prelude (skip here)) [] 4 ≡ 38
+unfolding after_more peak_load
+skip_program-peak = refl

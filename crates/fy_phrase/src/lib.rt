@@ -1,8 +1,15 @@
 //! Core phrases, and the copy rule that says what they do.
 #![tactic(auto)]
 
+mod closing;
+mod copying;
 mod phrase;
 mod sizes;
 
-pub use phrase::Phrase;
+pub use closing::close_with;
+pub use copying::copy_phrase;
+pub use phrase::{DataTy, MarkKind, Parts, Phrase};
 pub use sizes::{depth_of, node_count};
+
+#[cfg(test)]
+mod tests;
