@@ -14,7 +14,7 @@ use Rattle.fy_base.specs.declared.data.PutKind.{PutKind}
 use Rattle.fy_base.specs.declared.data.PutKind.TheVariants as kinds
 use Rattle.fy_base.specs.declared.data.FaultKind.TheVariants.{Overflow}
 use Rattle.fy_phrase.specs.Tree.{Tree, lit, binary, skip, seq, put}
-use Rattle.fy_phrase.specs.Contexts.{Context, Pushed, op_l, op_r, put_c, then_c}
+use Rattle.fy_phrase.specs.Contexts.{CopyContext, Pushed, op_l, op_r, put_c, then_c}
 use Rattle.fy_phrase.specs.Copy.{CopyState, CopyMove, goes, puts, takes, faults, sticks, answered, operated, left_meets, written, datum_meets, skip_meets, step_at, copy_step, Standing, going, CopyRun, settled, ticked, tick, after_more, start_run, copy_after}
 use Rattle.fy_phrase.proofs.Runs.{after_zero, after_suc, after_both}
 use Rattle.fy_tool.specs.Said.{IsAddition, IsCommand, IsIntDatum}
@@ -42,13 +42,14 @@ shorter_begins (x ∷ a) (y ∷ b) (z ∷ text) is also le =
 
 -- ---- states of a small text's run
 
-abbrev IsSmallContext : Context Tree → Type 0
+abbrev IsSmallContext : CopyContext → Type 0
 IsSmallContext (op_l op q at) = (op ≡ Add) × IsAddition q
 IsSmallContext (op_r op u at) = (op ≡ Add) × IsIntDatum u
 IsSmallContext (put_c kind) = kind ≡ kinds.Int
 IsSmallContext (then_c q) = IsCommand q
+IsSmallContext _ = ⊥
 
-abbrev AreSmall : List (Pushed Tree) → Type 0
+abbrev AreSmall : List (Pushed CopyContext) → Type 0
 AreSmall [] = Unit {0}
 AreSmall (c ∷ cs) = IsSmallContext c.context × AreSmall cs
 
@@ -75,7 +76,7 @@ right_meets : (v : ℤ) (u : Datum) (at : Place) (s : CopyState) → IsIntDatum 
 right_meets v (datum.Int x) at s is small = sum_is (x +ℤ v) at s (is_int (x +ℤ v)) refl small
 right_meets v _ at s is small = absurd is
 
-number_meets : (v : ℤ) (here : Place) (c : Context Tree) (s : CopyState) → IsTrue (is_int v) → IsSmallContext c → AreSmall s.contexts → IsSmallMove (datum_meets (datum.Int v) here c s)
+number_meets : (v : ℤ) (here : Place) (c : CopyContext) (s : CopyState) → IsTrue (is_int v) → IsSmallContext c → AreSmall s.contexts → IsSmallMove (datum_meets (datum.Int v) here c s)
 number_meets v here (op_l op q at) s fits is small =
     subst (λ (op : BinOp). IsSmallMove (left_meets op (datum.Int v) here q at s)) (sym is.0) (record { focus = inl is.1; contexts = ((refl, fits), small) })
 number_meets v here (op_r op u at) s fits is small =
@@ -83,8 +84,9 @@ number_meets v here (op_r op u at) s fits is small =
 number_meets v here (put_c kind) s fits is small =
     subst (λ (kind : PutKind). IsSmallMove (written (written_text kind (datum.Int v)) here s)) (sym is) ((number_short v fits).short, record { focus = inr tt; contexts = small })
 number_meets v here (then_c q) s fits is small = tt
+number_meets v here _ s fits is small = absurd is
 
-number_steps : (v : ℤ) (here : Place) (cs : List (Pushed Tree)) (s : CopyState) → IsTrue (is_int v) → AreSmall cs → IsSmallMove (answered (datum_meets (datum.Int v) here) cs s)
+number_steps : (v : ℤ) (here : Place) (cs : List (Pushed CopyContext)) (s : CopyState) → IsTrue (is_int v) → AreSmall cs → IsSmallMove (answered (datum_meets (datum.Int v) here) cs s)
 number_steps v here [] s fits small = tt
 number_steps v here (c ∷ cs) s fits small = number_meets v here c.context (record s { contexts = cs; load = c.base }) fits small.0 small.1
 
@@ -95,16 +97,19 @@ sum_steps (lit (datum.Int v) at) s is small = number_steps v at s.contexts s is 
 sum_steps (binary op p q at) s is small = record { focus = inl is.2; contexts = ((is.0, is.3), small) }
 sum_steps _ s is small = absurd is
 
-skip_meet : (c : Context Tree) (s : CopyState) → IsSmallContext c → AreSmall s.contexts → IsSmallMove (skip_meets c s)
-skip_meet (then_c q) s is small = record { focus = inr is; contexts = small }
-skip_meet _ s is small = tt
+skip_meet : (here : Place) (c : CopyContext) (s : CopyState) → IsSmallContext c → AreSmall s.contexts → IsSmallMove (skip_meets here c s)
+skip_meet here (then_c q) s is small = record { focus = inr is; contexts = small }
+skip_meet here (op_l op q at) s is small = tt
+skip_meet here (op_r op u at) s is small = tt
+skip_meet here (put_c kind) s is small = tt
+skip_meet here _ s is small = absurd is
 
-skip_steps : (cs : List (Pushed Tree)) (s : CopyState) → AreSmall cs → IsSmallMove (answered skip_meets cs s)
-skip_steps [] s small = tt
-skip_steps (c ∷ cs) s small = skip_meet c.context (record s { contexts = cs; load = c.base }) small.0 small.1
+skip_steps : (here : Place) (cs : List (Pushed CopyContext)) (s : CopyState) → AreSmall cs → IsSmallMove (answered (skip_meets here) cs s)
+skip_steps here [] s small = tt
+skip_steps here (c ∷ cs) s small = skip_meet here c.context (record s { contexts = cs; load = c.base }) small.0 small.1
 
 command_steps : (p : Tree) (s : CopyState) → IsCommand p → AreSmall s.contexts → IsSmallMove (step_at p s)
-command_steps (skip at) s is small = skip_steps s.contexts s small
+command_steps (skip at) s is small = skip_steps at s.contexts s small
 command_steps (seq p q at) s is small = record { focus = inr is.0; contexts = (is.1, small) }
 command_steps (put kind e at) s is small = record { focus = inl is.1; contexts = (is.0, small) }
 command_steps _ s is small = absurd is

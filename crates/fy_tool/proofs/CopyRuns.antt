@@ -15,7 +15,7 @@ use Rattle.fy_base.specs.declared.data.PutKind.TheVariants as kinds
 use Rattle.fy_base.specs.declared.data.FaultKind.TheVariants.{Overflow}
 use Rattle.fy_phrase.specs.Tree.{Tree, lit, binary, skip, seq, put}
 use Rattle.fy_phrase.specs.Sizes.{nodes}
-use Rattle.fy_phrase.specs.Contexts.{Pushed, op_l, op_r, put_c, then_c}
+use Rattle.fy_phrase.specs.Contexts.{CopyContext, Pushed, op_l, op_r, put_c, then_c}
 use Rattle.fy_phrase.specs.Copy.{Cell, Standing, going, ended, faulted, standing_at, CopyRun, tick, after_more, start_run, copy_after}
 use Rattle.fy_phrase.specs.Bounds.{copy_bound}
 use Rattle.fy_phrase.proofs.Runs.{after_zero, after_one, after_both, over_later}
@@ -56,7 +56,7 @@ fails_then r s k l m at input output le a f =
 -- ---- what waits round the focus
 
 pub record Round : Type 0 where
-  pub contexts : List (Pushed Tree)
+  pub contexts : List (Pushed CopyContext)
   pub store : List Cell
   pub next : ℕ
   pub load : ℕ

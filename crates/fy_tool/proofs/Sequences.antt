@@ -1,10 +1,10 @@
 -- Sequences of statements, halved.
 use Rattle.std.proofs.Common.{◌≡◌, ℕ, ◌-◌, ◌/◌, ◌≤◌, List, [], ◌∷◌, ◌++◌, length, map, sym, ap, ◌∙◌, refl, subst, arith, append_assoc, length-append, Some, option_to_list}
 use Rattle.std.specs.declared.option.Option.{Option}
-use Rattle.fy_phrase.specs.Tree.{Tree, seq}
+use Rattle.fy_phrase.specs.Tree.{Tree, seq, place_of}
 use Rattle.fy_phrase.specs.Reads.{reads}
 use Rattle.fy_phrase.specs.declared.phrase.Phrase.{Phrase}
-use Rattle.fy_tool.specs.Small.{IsSequence, one, halves, place_of}
+use Rattle.fy_tool.specs.Small.{IsSequence, one, halves}
 use Rattle.fy_tool.specs.Said.{TookLast}
 
 map-append_lem : (xs ys : List Phrase) → map reads (xs ++ ys) ≡ map reads xs ++ map reads ys

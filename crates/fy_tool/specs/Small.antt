@@ -11,7 +11,7 @@ use Rattle.fy_base.specs.declared.data.Datum.TheVariants as datum
 use Rattle.fy_base.specs.declared.data.BinOp.TheVariants.{Add}
 use Rattle.fy_base.specs.declared.data.PutKind.TheVariants as kind
 use Rattle.fy_base.specs.Outside.{Bytes}
-use Rattle.fy_phrase.specs.Tree.{Tree, lit, binary, skip, seq, put}
+use Rattle.fy_phrase.specs.Tree.{Tree, lit, binary, skip, seq, put, place_of}
 use Rattle.fy_tool.specs.declared.small.tokens.Token.{Token}
 use Rattle.fy_tool.specs.declared.small.tokens.Token.TheVariants.{Skip, PutInt, Open, Close, Plus, Semicolon, Number}
 use Rattle.fy_tool.specs.declared.small.tokens.Piece.{Piece}
@@ -91,14 +91,6 @@ pub data AreStatements (tokens : List Token) : ℕ → List Tree → Type 0 wher
   last : (i : ℕ) (s : Tree) (j : ℕ) → IsStatement tokens i s j → slice_get tokens j ≡ None → AreStatements tokens i (s ∷ [])
   onward : (i : ℕ) (s : Tree) (j : ℕ) (a : Place) (ss : List Tree) → IsStatement tokens i s j → slice_get tokens j ≡ Some (Semicolon a)
       → AreStatements tokens (j + 1) ss → AreStatements tokens i (s ∷ ss)
-
--- the place of a command's first token
-abbrev pub place_of : Tree → Place
-place_of (lit v at) = at
-place_of (binary op p q at) = at
-place_of (skip at) = at
-place_of (seq p q at) = at
-place_of (put k p at) = at
 
 -- one statement is itself, and n of them are the sequence of the first n div 2 and of the others
 pub data IsSequence : List Tree → Tree → Type 0 where

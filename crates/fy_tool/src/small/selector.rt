@@ -33,7 +33,7 @@ fn value_of(sum: &Phrase) -> Result<i64, Place>
                 None => Err(*at),
             }
         }
-        Phrase::Skip(_) | Phrase::Seq(..) | Phrase::Put(..) => Ok(0),
+        _ => Ok(0),
     }
 }
 
@@ -54,7 +54,7 @@ fn say(alloc: Global, p: &Phrase, text: &mut Vec<u8>) -> Result<Option<Place>, O
             Some(at) => Ok(Some(at)),
             None => say(alloc, others, text),
         },
-        Phrase::Lit(..) | Phrase::Binary(..) | Phrase::Skip(_) => Ok(None),
+        _ => Ok(None),
     }
 }
 

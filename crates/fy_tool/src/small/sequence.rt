@@ -1,32 +1,19 @@
 //! Sequences of statements: of n of them the sequence of the first n div 2 and that of the others.
 
 ghost use Rattle.std.specs.Prelude.{◌≡◌, ◌≤◌, ◌<◌, length, map, IfOk};
-ghost use Rattle.fy_phrase.specs.Tree.{seq};
+ghost use Rattle.fy_phrase.specs.Tree.{place_of, seq};
 ghost use Rattle.fy_phrase.specs.Reads.{reads};
-ghost use Rattle.fy_tool.specs.Small.{IsSequence, place_of};
+ghost use Rattle.fy_tool.specs.Small.{IsSequence};
 ghost use Rattle.fy_tool.specs.Said.{TookLast};
 
-use fy_base::{OutOfMemory, Place};
+use fy_base::OutOfMemory;
 use fy_phrase::Phrase;
 use std::alloc::Global;
-
-// The place of a command's first token.
-fn place_of(p: &Phrase) -> Place
-    ensures { result ≡ place_of (reads p.now) }
-{
-    match p {
-        Phrase::Lit(_, at)
-        | Phrase::Binary(_, _, _, at)
-        | Phrase::Skip(at)
-        | Phrase::Seq(_, _, at)
-        | Phrase::Put(_, _, at) => *at,
-    }
-}
 
 fn both(alloc: Global, p: Phrase, q: Phrase) -> Result<Phrase, OutOfMemory>
     ensures { IfOk result (λ r. reads r ≡ seq (reads p) (reads q) (place_of (reads p))) }
 {
-    let at = place_of(&p);
+    let at = p.place();
     let p = Box::new(alloc, p)?;
     let q = Box::new(alloc, q)?;
     Ok(Phrase::Seq(p, q, at))
