@@ -323,7 +323,7 @@ fn images_are_kept_and_listed(rt: HostRuntime) -> Result<(), Fail> {
         .iter()
         .filter(|byte| **byte == b'\n')
         .count();
-    assert_eq!(rt; lines, (image.len() - 32) / 4);
+    assert_eq!(rt; lines, image.len().saturating_sub(32) / 4);
     Ok(())
 }
 
