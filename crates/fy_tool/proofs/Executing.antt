@@ -92,7 +92,7 @@ pub run_faulted : (program : Program) (core : Core) (limit : ℕ) (trace : Optio
 run_faulted program core limit trace h c stop done after input_only other le r rest =
     let running = running_by program core limit r.fed in
     let whole = whole_run running refl in
-    let stays = whole_stays running whole.n whole.end whole.is_run whole.within in
+    let stays = whole_stays running whole.n whole.end whole.is_run whole.is_run.within in
     let files = ap (λ x. x.files) rest in
     let notes = ap (λ x. x.notes) rest in
     record {
@@ -153,24 +153,24 @@ record DoneBut (program : Program) (core : Core) (limit : ℕ) (trace : Option �
   is_run : IsRun (running_by program core limit input) done.steps done.end
   all : c ≡ but_notes (ran (running_by program core limit input) trace None done.steps done.end) h
 
-done_but : (program : Program) (core : Core) (limit : ℕ) (trace : Option ℕ) (h c : Contents) (done : MachineRun) (after : Core) → IsMachineEnd done.end → done.end ≢ ends.InputFault → done.end ≢ ends.OutputFault
+done_but : (program : Program) (core : Core) (limit : ℕ) (trace : Option ℕ) (h c : Contents) (done : MachineRun) (after : Core) → IsMachineEnd done.end → done.end ≢ ends.InputFault → done.end ≢ ends.OutputFault → done.steps ≤ limit
     → (r : Ran program core limit done after h c) → c ≡ record h { input = c.input; output = c.output } → DoneBut program core limit trace h c done r.fed
-done_but program core limit trace h c done after machine no_input no_output r rest =
+done_but program core limit trace h c done after machine no_input no_output le r rest =
     let own = own_end done.end machine no_input no_output in
     let first = going_world core r.fed in
     let input : c.input ≡ option_map (λ _. (run program done.steps first).input) h.input = r.rest ∙ ap (λ k. option_map (λ _. (run program k first).input) h.input) (own_taken done.end done.steps own) in
     let output = own_put done.end h.output c.output (run program done.steps first).output own r.output in
     record {
-      is_run = record { ends = r.end; own = own };
+      is_run = record { ends = r.end; own = own; within = le };
       all = rest ∙ (λ i. record { files = h.files; input = input i; output = output i; notes = h.notes });
     }
 
 -- the lines of a run were told after it
-pub run_told : (program : Program) (core : Core) (limit : ℕ) (trace : Option ℕ) (h c d : Contents) (done : MachineRun) (after : Core) (lines : List Bytes) (status : ℕ) → IsMachineEnd done.end → done.end ≢ ends.InputFault → done.end ≢ ends.OutputFault
+pub run_told : (program : Program) (core : Core) (limit : ℕ) (trace : Option ℕ) (h c d : Contents) (done : MachineRun) (after : Core) (lines : List Bytes) (status : ℕ) → IsMachineEnd done.end → done.end ≢ ends.InputFault → done.end ≢ ends.OutputFault → done.steps ≤ limit
     → (r : Ran program core limit done after h c) → c ≡ record h { input = c.input; output = c.output } → lines ≡ traced trace (running_by program core limit r.fed) done.steps ++ texts (end_notes done.end done.steps)
     → d ≡ record c { notes = appended c.notes (ended_lines lines) } → status ≡ status_of done.end → HasRun program core limit trace None h d (Ok status)
-run_told program core limit trace h c d done after lines status machine no_input no_output r rest lines_are told status_is =
-    let e = done_but program core limit trace h c done after machine no_input no_output r rest in
+run_told program core limit trace h c d done after lines status machine no_input no_output le r rest lines_are told status_is =
+    let e = done_but program core limit trace h c done after machine no_input no_output le r rest in
     let running = running_by program core limit r.fed in
     record {
       input = r.fed;
@@ -182,11 +182,11 @@ run_told program core limit trace h c d done after lines status machine no_input
     }
 
 -- a part of the lines was told
-pub run_told_part : (program : Program) (core : Core) (limit : ℕ) (trace : Option ℕ) (h c d : Contents) (done : MachineRun) (after : Core) (lines : List Bytes) (stop : Stop) → IsMachineEnd done.end → done.end ≢ ends.InputFault → done.end ≢ ends.OutputFault
+pub run_told_part : (program : Program) (core : Core) (limit : ℕ) (trace : Option ℕ) (h c d : Contents) (done : MachineRun) (after : Core) (lines : List Bytes) (stop : Stop) → IsMachineEnd done.end → done.end ≢ ends.InputFault → done.end ≢ ends.OutputFault → done.steps ≤ limit
     → (r : Ran program core limit done after h c) → c ≡ record h { input = c.input; output = c.output } → lines ≡ traced trace (running_by program core limit r.fed) done.steps ++ texts (end_notes done.end done.steps)
     → d ≡ record c { notes = d.notes } → GainedPart c.notes d.notes (ended_lines lines) → (stop ≡ Memory → WholeLines lines c.notes d.notes) → stop ≢ Input → HasRun program core limit trace None h d (Err stop)
-run_told_part program core limit trace h c d done after lines stop machine no_input no_output r rest lines_are others part whole no_stop =
-    let e = done_but program core limit trace h c done after machine no_input no_output r rest in
+run_told_part program core limit trace h c d done after lines stop machine no_input no_output le r rest lines_are others part whole no_stop =
+    let e = done_but program core limit trace h c done after machine no_input no_output le r rest in
     let running = running_by program core limit r.fed in
     let due = ran running trace None done.steps done.end in
     let files : d.files ≡ h.files = ap (λ (x : Contents). x.files) others ∙ ap (λ (x : Contents). x.files) rest in
@@ -225,9 +225,9 @@ notes_only stop other is apart result fails e = apart (sym is ∙ same)
     same = let both : Err stop ≡ Err other = sym fails ∙ e in cc
 
 -- a run was told without a trace, or a part of it
-pub run_untold : (program : Program) (core : Core) (limit : ℕ) (h c d : Contents) (done : MachineRun) (after : Core) (stop : Stop) → IsMachineEnd done.end → done.end ≢ ends.InputFault → done.end ≢ ends.OutputFault
+pub run_untold : (program : Program) (core : Core) (limit : ℕ) (h c d : Contents) (done : MachineRun) (after : Core) (stop : Stop) → IsMachineEnd done.end → done.end ≢ ends.InputFault → done.end ≢ ends.OutputFault → done.steps ≤ limit
     → Ran program core limit done after h c → c ≡ record h { input = c.input; output = c.output } → d ≡ record c { notes = d.notes } → GainedPart c.notes d.notes (ended_lines (texts (end_notes done.end done.steps))) → stop ≡ Notes
     → HasRun program core limit None None h d (Err stop)
-run_untold program core limit h c d done after stop machine no_input no_output r rest others part is =
-    run_told_part program core limit None h c d done after (texts (end_notes done.end done.steps)) stop machine no_input no_output r rest refl others part
+run_untold program core limit h c d done after stop machine no_input no_output le r rest others part is =
+    run_told_part program core limit None h c d done after (texts (end_notes done.end done.steps)) stop machine no_input no_output le r rest refl others part
     (λ memory. absurd (let clash : Notes ≡ Memory = sym is ∙ memory in cc)) (λ input. let clash : Notes ≡ Input = sym is ∙ input in cc)

@@ -61,19 +61,18 @@ pub record Whole (running : Running) : Type 0 where
   pub n : ℕ
   pub end : Ending
   pub is_run : IsRun running n end
-  pub within : n ≤ running.limit
 
 by_event : (running : Running) (n : ℕ) (event : Event) → event ≢ events.Going → event ≢ events.WantByte → ((byte : ℕ) → event ≢ events.Put byte) → n ≤ running.limit → StandsAt running.program running.first n event → Whole running
 by_event running n events.Going a b c le s = absurd (a refl)
 by_event running n events.WantByte a b c le s = absurd (b refl)
 by_event running n (events.Put byte) a b c le s = absurd (c byte refl)
-by_event running n events.Ended a b c le s = record { n = n; end = ends.Ended; is_run = record { ends = s; own = tt }; within = le }
-by_event running n (events.Fault kind place) a b c le s = record { n = n; end = ends.Fault kind place; is_run = record { ends = s; own = tt }; within = le }
-by_event running n events.Exhausted a b c le s = record { n = n; end = ends.Exhausted; is_run = record { ends = s; own = tt }; within = le }
-by_event running n (events.Trap kind) a b c le s = record { n = n; end = ends.Trap kind; is_run = record { ends = s; own = tt }; within = le }
+by_event running n events.Ended a b c le s = record { n = n; end = ends.Ended; is_run = record { ends = s; own = tt; within = le } }
+by_event running n (events.Fault kind place) a b c le s = record { n = n; end = ends.Fault kind place; is_run = record { ends = s; own = tt; within = le } }
+by_event running n events.Exhausted a b c le s = record { n = n; end = ends.Exhausted; is_run = record { ends = s; own = tt; within = le } }
+by_event running n (events.Trap kind) a b c le s = record { n = n; end = ends.Trap kind; is_run = record { ends = s; own = tt; within = le } }
 
 by_stops : (running : Running) → Stops running.program running.first running.limit → Whole running
-by_stops running (goes s) = record { n = running.limit; end = ends.Spent; is_run = record { ends = record { all = refl; going = s }; own = tt }; within = omega arith }
+by_stops running (goes s) = record { n = running.limit; end = ends.Spent; is_run = record { ends = record { all = refl; going = s }; own = tt; within = omega arith } }
 by_stops running (stops n event le a b c s) = by_event running n event a b c le s
 
 pub whole_run : (running : Running) → running.first.ending ≡ events.Going → Whole running

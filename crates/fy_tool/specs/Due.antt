@@ -88,6 +88,7 @@ IsOwnEnd _ = ⊥
 pub record IsRun (run : Running) (n : ℕ) (end : Ending) : Type 0 where
   pub ends : EndsSo end run.program run.first n run.limit
   pub own : IsOwnEnd end
+  pub within : n ≤ run.limit
 
 -- the status and the note of a run's end
 abbrev pub status_of : Ending → ℕ

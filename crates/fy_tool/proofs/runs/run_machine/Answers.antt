@@ -15,7 +15,7 @@ returns-in-OutputFault-clause-run g c =
 
 pub returns-in-Err : goal.returns-in-Err
 returns-in-Err g c = record {
-  run = run_untold _ _ c.args.steps _ (g.W.World.holds c.run-run.new.self) (g.W.World.holds c.tell_end.new.world) c.run-run.result _ c.in-Err.stop c.run-run.ensures.end c.in_default.not-InputFault c.in_default.not-OutputFault
+  run = run_untold _ _ c.args.steps _ (g.W.World.holds c.run-run.new.self) (g.W.World.holds c.tell_end.new.world) c.run-run.result _ c.in-Err.stop c.run-run.ensures.end c.in_default.not-InputFault c.in_default.not-OutputFault c.run-run.ensures.steps
       c.run-run.ensures.did.runs c.run-run.ensures.rest c.in-Err.ensures.rest c.in-Err.ensures.part c.in-Err.ensures.stop;
   own = tt;
   caused = notes_caused c.in-Err.stop _ _ _ c.in-Err.ensures.stop c.run-run.ensures.later c.in-Err.ensures.rose;

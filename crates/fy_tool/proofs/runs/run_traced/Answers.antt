@@ -32,7 +32,7 @@ returns-in-Ok-tell_traced g c =
     let fetched = subst (λ (ws : List Fetched). AreFetched program ws) (sym are) (are_fetched program first n c.args.count c.requires.read) in
     let lines = map (shown program) words ++ texts (end_notes c.run-run.result.end n) in
     record {
-      run = inr (run_told program _ c.args.steps (Some c.args.count) _ (g.W.World.holds c.run-run.new.self) (g.W.World.holds c.tell_traced.new.world) c.run-run.result _ lines c.status_of.result c.run-run.ensures.end c.in_default.not-InputFault c.in_default.not-OutputFault
+      run = inr (run_told program _ c.args.steps (Some c.args.count) _ (g.W.World.holds c.run-run.new.self) (g.W.World.holds c.tell_traced.new.world) c.run-run.result _ lines c.status_of.result c.run-run.ensures.end c.in_default.not-InputFault c.in_default.not-OutputFault c.run-run.ensures.steps
           r c.run-run.ensures.rest (ap (λ ws. map (shown program) ws ++ texts (end_notes c.run-run.result.end n)) are) (c.in-Ok-tell_traced.ensures.told program fetched) c.status_of.ensures.status);
       own = c.status_of.ensures.own;
       caused = tt;
@@ -52,7 +52,7 @@ returns-in-Err-tell_traced g c =
     let lines = map (shown program) words ++ texts (end_notes c.run-run.result.end n) in
     let told = c.in-Err-tell_traced.ensures.told program fetched in
     record {
-      run = inr (run_told_part program _ c.args.steps (Some c.args.count) _ (g.W.World.holds c.run-run.new.self) (g.W.World.holds c.tell_traced.new.world) c.run-run.result _ lines c.in-Err-tell_traced.stop c.run-run.ensures.end c.in_default.not-InputFault c.in_default.not-OutputFault
+      run = inr (run_told_part program _ c.args.steps (Some c.args.count) _ (g.W.World.holds c.run-run.new.self) (g.W.World.holds c.tell_traced.new.world) c.run-run.result _ lines c.in-Err-tell_traced.stop c.run-run.ensures.end c.in_default.not-InputFault c.in_default.not-OutputFault c.run-run.ensures.steps
           r c.run-run.ensures.rest (ap (λ ws. map (shown program) ws ++ texts (end_notes c.run-run.result.end n)) are) c.in-Err-tell_traced.ensures.rest told.part told.whole (λ e. c.in-Err-tell_traced.ensures.input (ap (λ s. Err s) e)));
       own = tt;
       caused = if_caused_more [] [] (Err c.in-Err-tell_traced.stop) _ _ _ c.run-run.ensures.later c.in-Err-tell_traced.ensures.caused;
