@@ -1,5 +1,5 @@
 -- What a call learns of the outside and does to it: sources, sinks and files, and their counts of faults.
-use Rattle.std.specs.Prelude.{◌≡◌, ℕ, ◌+◌, ◌-◌, ◌^◌, ◌<◌, ◌≤◌, min, List, [], ◌++◌, length, Some, OnErr}
+use Rattle.std.specs.Prelude.{◌≡◌, ℕ, ◌+◌, ◌-◌, ◌^◌, ◌<◌, ◌≤◌, min, Bool, IsTrue, List, [], ◌++◌, length, Some, OnErr}
 use Rattle.std.specs.Option.{option_map, ForSome}
 use Rattle.std.specs.declared.option.Option.{Option}
 use Rattle.std.specs.declared.result.Result.{Result}
@@ -31,6 +31,13 @@ Gave before now bytes = before ≡ option_map (λ rest. bytes ++ rest) now
 -- nothing is left at a source, where it is told
 abbrev pub IsAtEnd : Option Bytes → Type 0
 IsAtEnd left = ForSome left (λ rest. rest ≡ [])
+
+-- a source gave these bytes; where it is over, nothing is left, and it stays over and gives none
+pub record Drew (left left_now : Option Bytes) (over over_now : Bool) (bytes : Bytes) : Type 0 where
+  pub gave : Gave left left_now bytes
+  pub none : IsTrue over → bytes ≡ []
+  pub stays : IsTrue over → IsTrue over_now
+  pub at_end : IsTrue over_now → IsAtEnd left_now
 
 -- what is held, where it is told, and then these bytes
 abbrev pub appended : Option Bytes → Bytes → Option Bytes

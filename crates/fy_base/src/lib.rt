@@ -15,7 +15,7 @@ pub use data::{BinOp, Datum, Ending, FaultKind, Place, PutKind, TrapKind, UnOp};
 pub use error::OutOfMemory;
 pub use list::{DoubleList, ListOf, PlaceList, Text, WordList};
 pub use memory::{MemoryFiles, MemorySink, MemorySource, SteadyFiles, SteadySink, SteadySource};
-pub use outside::{Failed, FetchError, Files, KeepError, Sink, Source};
+pub use outside::{Failed, FetchError, Files, KeepError, Sink, Source, next_byte};
 pub use real::{RealFiles, RealSink, RealSource};
 
 #[cfg(test)]

@@ -1,8 +1,9 @@
 //! What a call may ask of the outside: a source of bytes, a sink, and files by name.
 
-ghost use Rattle.std.specs.Prelude.{◌≡◌, ℕ, ◌<◌, ◌≤◌, length, take, IfOk, OnOk, OnErr, IsErrOf, Some};
+ghost use Rattle.std.specs.Prelude.{◌≡◌, ℕ, ◌<◌, ◌≤◌, IsTrue, length, take, is_none, IfOk, OnOk, OnErr, IsErrOf, Some};
+ghost use Rattle.std.specs.Option.{option_to_list};
 ghost use Rattle.std.specs.declared.option.Option.{Option};
-ghost use Rattle.fy_base.specs.Outside.{Bytes, Folder, Rose, HasCause, Gave, IsAtEnd, Gained, GainedPart, Tells, IsLong, Kept, OthersStay, NoneFalls};
+ghost use Rattle.fy_base.specs.Outside.{Bytes, Folder, Rose, HasCause, Gave, IsAtEnd, Drew, Gained, GainedPart, Tells, IsLong, Kept, OthersStay, NoneFalls};
 
 use std::alloc::Global;
 
@@ -51,6 +52,33 @@ pub trait Source {
         ensures end { IfOk result (λ n. n ≡ 0 → 0 < length room.new → IsAtEnd (left self.old)) }
         ensures none { OnErr result (left self.new ≡ left self.old) }
         ensures cause { HasCause (faults self.old) (faults self.new) result };
+}
+
+/// The next byte of a source, or `None` at its end. `over` says whether the source was at its end
+/// once; such a source is over, and isn't asked again.
+///
+/// # Errors
+///
+/// `Failed` comes only where the source's count of faults rose. Then no byte was taken.
+pub fn next_byte<I: Source>(input: &mut I, over: &mut bool) -> Result<Option<u8>, Failed>
+    requires { IsTrue over.old → IsAtEnd (I.left input.old) }
+    ensures drew { IfOk result (λ byte. Drew (I.left input.old) (I.left input.new) over.old over.new (option_to_list byte)) }
+    ensures over { IfOk result (λ byte. over.new ≡ is_none byte) }
+    ensures none { OnErr result (I.left input.new ≡ I.left input.old) }
+    ensures stays { OnErr result (over.new ≡ over.old) }
+    ensures cause { HasCause (I.faults input.old) (I.faults input.new) result }
+{
+    if *over {
+        return Ok(None);
+    }
+    let mut room = [0];
+    match input.take(&mut room)? {
+        0 => {
+            *over = true;
+            Ok(None)
+        }
+        _ => Ok(Some(room[0])),
+    }
 }
 
 /// A sink of bytes.

@@ -27,7 +27,7 @@ pub use meet_forms::meet;
 pub use names::{Name, Names};
 pub use paths::{ElemList, Path, PathElem, Paths};
 pub use print::print_ty;
-pub use subtype::is_subtype;
+pub use subtype::{is_end_below, is_subtype};
 pub use types::{Atom, Ty, TyList};
 
 #[cfg(test)]

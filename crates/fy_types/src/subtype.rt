@@ -73,7 +73,7 @@ fn is_elem_below(x: &PathElem, y: &PathElem) -> bool
 }
 
 /// Whether the ends are equal, or `compl` and `comm`.
-pub(crate) fn is_end_below(a: Atom, b: Atom) -> bool
+pub fn is_end_below(a: Atom, b: Atom) -> bool
     ensures { IsTrue result ↔ IsEndBelow a b }
 {
     a == b || (a == Atom::Compl && b == Atom::Comm)

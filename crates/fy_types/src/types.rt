@@ -8,7 +8,7 @@ use fy_base::OutOfMemory;
 use std::alloc::Global;
 
 /// The types that have no parts.
-#[derive(Clone, Copy, PartialEq, Eq, Debug)]
+#[derive(Clone, Copy, PartialEq, Eq, Hash, Debug)]
 pub enum Atom {
     Int,
     Bool,

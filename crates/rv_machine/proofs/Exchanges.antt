@@ -1,14 +1,14 @@
 -- One instruction with its input and output, by the event that its step leads to.
 use Rattle.std.proofs.Common.{◌≡◌, ℕ, Bool, IsTrue, [], ◌∷◌, ◌++◌, sym, ap, ◌∙◌, refl, subst, append_assoc, Some, None}
 use Rattle.std.specs.declared.option.Option.{Option}
-use Rattle.fy_base.specs.Outside.{Bytes, IsAtEnd, Gained, GainedPart, appended}
+use Rattle.fy_base.specs.Outside.{Bytes, IsAtEnd, Gained, GainedPart, appended, Drew}
 use Rattle.fy_base.specs.declared.data.Ending.{Ending}
 use Rattle.fy_base.specs.declared.data.Ending.TheVariants as ends
 use Rattle.rv_insn.specs.Program.{Program}
 use Rattle.rv_insn.specs.Step.{Core, instruction_step}
 use Rattle.rv_insn.specs.Run.{tick_from, settled}
 use Rattle.rv_machine.specs.Run.{World, tick}
-use Rattle.rv_machine.specs.Turn.{Drew, Shows, Came, TurnedIn, Turned}
+use Rattle.rv_machine.specs.Turn.{Shows, Came, TurnedIn, Turned}
 use Rattle.rv_insn.specs.declared.events.Event.{Event}
 use Rattle.rv_insn.specs.declared.events.Event.TheVariants as events
 use Rattle.rv_machine.proofs.Turns.{gave_none}

@@ -4,7 +4,7 @@ use Rattle.std.proofs.lemmas.List.{append-nil}
 use Rattle.std.proofs.lemmas.Bool.{cases_lt}
 use Rattle.std.specs.Option.{option_map, option_to_list, unwrap_or}
 use Rattle.std.specs.declared.option.Option.{Option}
-use Rattle.fy_base.specs.Outside.{Bytes, IsPrefix, Gave, IsAtEnd, Gained, GainedPart}
+use Rattle.fy_base.specs.Outside.{Bytes, IsPrefix, Gave, IsAtEnd, Gained, GainedPart, Drew}
 use Rattle.fy_base.specs.declared.data.Ending.{Ending}
 use Rattle.fy_base.specs.declared.data.Ending.TheVariants as ends
 use Rattle.rv_insn.specs.Program.{Program}
@@ -15,7 +15,7 @@ use Rattle.rv_machine.specs.Run.{World, going_world, run, tick}
 use Rattle.rv_machine.specs.Fetch.{fetched_at, fetches}
 use Rattle.rv_machine.specs.declared.watch.Fetched.{Fetched}
 use Rattle.rv_machine.specs.Ends.{IsGoingBelow, StandsAt, EndsSo, HasPut, core_after, taken_after, Watched}
-use Rattle.rv_machine.specs.Turn.{Drew, Shows, Came, TurnedIn, Turned}
+use Rattle.rv_machine.specs.Turn.{Shows, Came, TurnedIn, Turned}
 use Rattle.rv_insn.specs.declared.events.Event.{Event}
 use Rattle.rv_insn.specs.declared.events.Event.TheVariants as events
 use Rattle.circular_buffer.specs.Buffer.{keep_last}

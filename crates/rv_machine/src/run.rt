@@ -1,16 +1,15 @@
 //! Runs of the machine over a source and a sink.
 
-ghost use Rattle.std.specs.Prelude.{◌≡◌, ◌≤◌, IsTrue, IfOk, IfSome, None, OnErr, is_none, length};
-ghost use Rattle.std.specs.Option.{option_to_list};
-ghost use Rattle.fy_base.specs.Outside.{HasCause, IsAtEnd, Rose};
+ghost use Rattle.std.specs.Prelude.{◌≡◌, ◌≤◌, IsTrue, IfSome, None, length};
+ghost use Rattle.fy_base.specs.Outside.{IsAtEnd, Rose};
 ghost use Rattle.rv_machine.specs.Ends.{IsMachineEnd, RunsTo, Watched, status_at, status_by};
 ghost use Rattle.rv_insn.specs.Step.{Core, instruction_step, status_after};
-ghost use Rattle.rv_machine.specs.Turn.{Drew, Turned};
+ghost use Rattle.rv_machine.specs.Turn.{Turned};
 ghost use Rattle.rv_insn.specs.declared.events.Status.TheVariants.{Running};
 
 use crate::machine::Machine;
 use crate::watch::{Unwatched, Watch};
-use fy_base::{Ending, Failed, Sink, Source};
+use fy_base::{Ending, Failed, Sink, Source, next_byte};
 use rv_insn::Event;
 
 /// How a run ended, and how many instructions were executed. The last one counts, also where it
@@ -19,29 +18,6 @@ use rv_insn::Event;
 pub struct MachineRun {
     pub end: Ending,
     pub steps: u64,
-}
-
-// The next byte of the input, or `None` at its end. A source that was at its end once is over, and
-// isn't asked again.
-fn next_byte<I: Source>(input: &mut I, over: &mut bool) -> Result<Option<u8>, Failed>
-    requires { IsTrue over.old → IsAtEnd (I.left input.old) }
-    ensures drew { IfOk result (λ byte. Drew (I.left input.old) (I.left input.new) over.old over.new (option_to_list byte)) }
-    ensures over { IfOk result (λ byte. over.new ≡ is_none byte) }
-    ensures none { OnErr result (I.left input.new ≡ I.left input.old) }
-    ensures stays { OnErr result (over.new ≡ over.old) }
-    ensures cause { HasCause (I.faults input.old) (I.faults input.new) result }
-{
-    if *over {
-        return Ok(None);
-    }
-    let mut room = [0];
-    match input.take(&mut room)? {
-        0 => {
-            *over = true;
-            Ok(None)
-        }
-        _ => Ok(Some(room[0])),
-    }
 }
 
 // The input or output of the instruction that led to an event: how the run ended by it, or `None`
