@@ -1,0 +1,17 @@
+pub mod Holding
+pub mod SignsSound
+pub mod TypesSound
+pub mod TermsSound
+pub mod Many
+pub mod Stopping
+pub mod Programs
+pub mod Lexed
+pub mod Lists
+pub mod Made
+pub mod Advance
+pub mod Steps
+pub mod Parts
+pub mod Links
+pub mod FormSigns
+pub mod TypeLoops
+pub mod TermLoops

@@ -1,0 +1,4 @@
+pub mod Gives
+pub mod Levels
+pub mod Forms
+pub mod Program
