@@ -1,0 +1,75 @@
+-- What holds of a program's core phrase.
+use Rattle.std.proofs.Common.{◌≡◌, if◌then◌else◌, Bool, true, false, nat_lt, List, Option, Some, None, Result, Ok, Err, refl, subst}
+use Rattle.std.specs.Result.{IfOk, IfErr}
+use Rattle.std.proofs.lemmas.Bool.{ltb-false}
+use Rattle.fy_base.specs.Outside.{Bytes}
+use Rattle.fy_lexer.specs.declared.token.Token.{Token}
+use Rattle.fy_syntax.specs.Trees as written
+use Rattle.fy_syntax.specs.Spells.{IsProgram}
+use Rattle.fy_phrase.specs.Tree.{Tree}
+use Rattle.fy_expand.specs.declared.error.ExpandError.{ExpandError}
+use Rattle.fy_expand.specs.declared.error.ExpandError.TheVariants.{TooDeep, TooLarge, TooManyVisits}
+use Rattle.fy_expand.specs.Scope.{program_scope}
+use Rattle.fy_expand.specs.Faults.{fault}
+use Rattle.fy_expand.specs.Sizes.{nesting, size_of, visits_of, limited}
+use Rattle.fy_expand.specs.Expansion.{unless, within_limits, core_of}
+use Rattle.fy_expand.specs.WellMade.{IsClosed, IsWithinLimits, IsWellMade}
+use Rattle.fy_expand.specs.Judged.{HasTokens, IsAllowed, IsJudged, not_expanded, expanded, expansion_refused}
+use Rattle.fy_expand.proofs.LimitLemmas.{whole}
+use Rattle.fy_expand.proofs.ClosedLemmas.{closed-whole}
+use Rattle.fy_expand.proofs.MadeLemmas.{made-whole}
+use Rattle.fy_expand.proofs.SpelledLemmas.{filled-program}
+
+-- another fact of what a call gave
+pub IfOk-map : {T E : Type 0} (r : Result T E) (P Q : T → Type 0) → ((x : T) → P x → Q x) → IfOk r P → IfOk r Q
+IfOk-map (Ok x) P Q f h = f x h
+IfOk-map (Err e) P Q f h = h
+
+pub IfErr-map : {T E : Type 0} (r : Result T E) (P Q : E → Type 0) → ((e : E) → P e → Q e) → IfErr r P → IfErr r Q
+IfErr-map (Ok x) P Q f h = h
+IfErr-map (Err e) P Q f h = f e h
+
+unless-ok : (f : Option ExpandError) (q p : Tree) → within_limits (unless f q) ≡ Ok p → (None ≡ f) × (limited q ≡ Ok p)
+unless-ok None q p h = (refl, h)
+unless-ok (Some e) q p h = cc
+
+test-ok : (b : Bool) (e : ExpandError) (r : Result Tree ExpandError) (p : Tree) → (if b then Err e else r) ≡ Ok p → (b ≡ false) × (r ≡ Ok p)
+test-ok true e r p h = cc
+test-ok false e r p h = (refl, h)
+
+same-ok : (q p : Tree) (r : Result Tree ExpandError) → r ≡ Ok q → r ≡ Ok p → q ≡ p
+same-ok q p r h k = cc
+
+limited-ok : (q p : Tree) → limited q ≡ Ok p → (q ≡ p) × IsWithinLimits q
+limited-ok q p h =
+    let few : Result Tree ExpandError = if nat_lt 65536 (visits_of q) then Err TooManyVisits else Ok q in
+    let small : Result Tree ExpandError = if nat_lt 65536 (size_of q) then Err TooLarge else few in
+    let one = test-ok (nat_lt 512 (nesting q)) TooDeep small p h in
+    let two = test-ok (nat_lt 65536 (size_of q)) TooLarge few p one.1 in
+    let three = test-ok (nat_lt 65536 (visits_of q)) TooManyVisits (Ok q) p two.1 in
+    (same-ok q p (Ok q) refl three.1, record { shallow = ltb-false 512 (nesting q) one.0; small = ltb-false 65536 (size_of q) two.0; few_visits = ltb-false 65536 (visits_of q) three.0 })
+
+-- there is no fault, and the phrase is the whole of the program
+core_of-ok : (tree : written.Tree) (p : Tree) → core_of tree ≡ Ok p → (None ≡ fault program_scope tree) × (whole tree ≡ p) × IsWithinLimits (whole tree)
+core_of-ok tree p h =
+    let first = unless-ok (fault program_scope tree) (whole tree) p h in
+    let second = limited-ok (whole tree) p first.1 in
+    (first.0, second.0, second.1)
+
+pub core_of-closed : (tree : written.Tree) (p : Tree) → core_of tree ≡ Ok p → IsClosed p
+core_of-closed tree p h = subst (λ q. IsClosed q) (core_of-ok tree p h).1 (closed-whole tree)
+
+pub core_of-within : (tree : written.Tree) (p : Tree) → core_of tree ≡ Ok p → IsWithinLimits p
+core_of-within tree p h = let k = core_of-ok tree p h in subst (λ q. IsWithinLimits q) k.1 k.2
+
+pub core_of-made : (tree : written.Tree) (p : Tree) (tokens : List Token) → core_of tree ≡ Ok p → IsProgram tree tokens → IsWellMade p
+core_of-made tree p tokens h k =
+    let l = core_of-ok tree p h in
+    subst (λ q. IsWellMade q) l.1 (made-whole tree (filled-program tree tokens k) l.0)
+
+-- how the text is judged whose tokens spell the program
+pub core_of-judged : (tree : written.Tree) (p : Tree) (text : Bytes) (tokens : List Token) → core_of tree ≡ Ok p → HasTokens text tokens → IsAllowed tokens tree → IsJudged text (Ok p)
+core_of-judged tree p text tokens h k l = expanded k l h
+
+pub core_of-refused : (tree : written.Tree) (e : ExpandError) (text : Bytes) (tokens : List Token) → core_of tree ≡ Err e → HasTokens text tokens → IsAllowed tokens tree → IsJudged text (Err (expansion_refused e))
+core_of-refused tree e text tokens h k l = not_expanded k l h

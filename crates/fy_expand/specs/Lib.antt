@@ -1,0 +1,12 @@
+pub mod Types
+pub mod Scope
+pub mod Front
+pub mod Core
+pub mod Faults
+pub mod Sizes
+pub mod Expansion
+pub mod Measures
+pub mod Built
+pub mod Frames
+pub mod Judged
+pub mod WellMade

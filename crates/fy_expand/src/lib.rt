@@ -1,0 +1,18 @@
+//! Expansion of written phrases to core phrases: names, sugar and limits.
+#![tactic(auto)]
+
+mod build;
+mod check;
+mod error;
+mod expansion;
+mod frame;
+mod size;
+mod types;
+mod visit;
+
+pub use error::ExpandError;
+pub use expansion::expand;
+pub use visit::visits;
+
+#[cfg(test)]
+mod tests;
