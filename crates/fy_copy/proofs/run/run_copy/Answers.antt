@@ -1,0 +1,67 @@
+use Rattle.std.proofs.Common.{ℕ, ◌+◌, max, false, List, Ok, Err, refl, sym, ap, ◌∙◌, subst, arith}
+use Rattle.std.specs.Prelude.{OnErr}
+use Rattle.std.specs.declared.option.Option.{Option}
+use Rattle.std.specs.declared.result.Result.{Result}
+use Rattle.fy_base.specs.declared.data.Ending.{Ending}
+use Rattle.fy_phrase.specs.Tree.{Tree}
+use Rattle.fy_phrase.specs.Copy.{start}
+use Rattle.fy_phrase.specs.Reads.{reads}
+use Rattle.fy_copy.specs.Seen.{Seen, seen}
+use Rattle.fy_copy.specs.Exchange.{Outer, Exchange}
+use Rattle.fy_copy.specs.Ends.{PutsPart, RunsTo, run_at_end}
+use Rattle.fy_copy.specs.declared.run.CopyRun.{CopyRun}
+use Rattle.fy_copy.specs.declared.state.Phase.TheVariants as phase
+use Rattle.fy_copy.proofs.Reached.{Reached, reached_start, reached_next, runs_end, runs_over, runs_spent, puts_part}
+use Rattle.fy_copy.proofs.run.run_copy.Goals as goal
+
+on_err : {T E : Type 0} (r : Result T E) (P : Type 0) → P → OnErr r P
+on_err (Ok x) P p = tt
+on_err (Err e) P p = p
+
+pub returns-in_err-state-clause-memory : goal.returns-in_err-state-clause-memory
+returns-in_err-state-clause-memory g c =
+    let p : Tree = reads c.args.p.now in
+    let fresh : Seen = record { state = start p; steps = 0; phase = phase.Going } in
+    let o : Outer = record { left = g.I.Source.left c.args.input.now; over = false; held = g.O.Sink.held c.args.output.now } in
+    on_err c.from_residual.result (PutsPart p c.args.steps o.left o.held o.held) (puts_part p 0 c.args.steps fresh 0 o o o.held (omega arith) (reached_start p fresh o refl refl) refl)
+
+pub loop-k-init : goal.loop-k-init
+loop-k-init g c = record { reached = reached_start _ _ _ c.in_ok-state.ensures refl; input_later = omega arith; output_later = omega arith }
+
+pub returns-in_err-end-clause-memory : goal.returns-in_err-end-clause-memory
+returns-in_err-end-clause-memory g c =
+    let now : Option (List ℕ) = g.O.Sink.held c.turn.new.output in
+    on_err c.from_residual-in_err-end.result (PutsPart (reads c.args.p.now) c.args.steps (g.I.Source.left c.args.input.now) (g.O.Sink.held c.args.output.now) now)
+    (puts_part _ c.loop-k.k c.args.steps _ _ _ _ now (omega arith) c.loop-k.invariant.reached c.in_err-end.ensures.memory)
+
+pub returns-in-Some-clause-did : goal.returns-in-Some-clause-did
+returns-in-Some-clause-did g c =
+    let p : Tree = reads c.args.p.now in
+    let first : Outer = record { left = g.I.Source.left c.args.input.now; over = false; held = g.O.Sink.held c.args.output.now } in
+    let o : Outer = record { left = g.I.Source.left c.loop-k.input; over = c.loop-k.over; held = g.O.Sink.held c.loop-k.output } in
+    let u : Outer = record { left = g.I.Source.left c.turn.new.input; over = c.turn.new.over; held = g.O.Sink.held c.turn.new.output } in
+    let P : CopyRun → Type 0 = λ done. RunsTo p c.args.steps done first.left u.left first.held u.held in
+    let X : Option Ending → Type 0 = λ end. Exchange (seen c.loop-k.state) (seen c.turn.new.state) o u end in
+    subst P (sym (c.run_ended.ensures ∙ ap (λ (load : ℕ). run_at_end c.in-Some.end c.loop-k.k c.loop-k.peak load) c.load_of.ensures))
+    (runs_end c.in-Some.end p c.loop-k.k c.args.steps (seen c.loop-k.state) (seen c.turn.new.state) c.loop-k.peak first o u c.loop-k-test.true c.loop-k.invariant.reached (subst X c.in-Some.is c.in_ok-end.ensures.did))
+
+pub loop-k-preserved : goal.loop-k-preserved
+loop-k-preserved g c =
+    let p : Tree = reads c.args.p.now in
+    let first : Outer = record { left = g.I.Source.left c.args.input.now; over = false; held = g.O.Sink.held c.args.output.now } in
+    let o : Outer = record { left = g.I.Source.left c.loop-k.input; over = c.loop-k.over; held = g.O.Sink.held c.loop-k.output } in
+    let u : Outer = record { left = g.I.Source.left c.turn.new.input; over = c.turn.new.over; held = g.O.Sink.held c.turn.new.output } in
+    let P : ℕ → Type 0 = λ peak. Reached p (c.loop-k.k + 1) (seen c.turn.new.state) peak first u in
+    let X : Option Ending → Type 0 = λ end. Exchange (seen c.loop-k.state) (seen c.turn.new.state) o u end in
+    record {
+      reached = subst P (sym (c.max-peak.ensures ∙ ap (λ (load : ℕ). max c.loop-k.peak load) c.load_of-in-loop-k.ensures))
+          (reached_next p c.loop-k.k (seen c.loop-k.state) (seen c.turn.new.state) c.loop-k.peak first o u c.loop-k.invariant.reached (subst X c.in_default.is c.in_ok-end.ensures.did));
+      input_later = omega (arith, c.turn.ensures.input_later, c.loop-k.invariant.input_later);
+      output_later = omega (arith, c.turn.ensures.output_later, c.loop-k.invariant.output_later);
+    }
+
+pub returns-then-is_over-clause-did : goal.returns-then-is_over-clause-did
+returns-then-is_over-clause-did g c = runs_over _ c.loop-k.k c.args.steps _ _ _ _ (omega arith) c.loop-k.invariant.reached c.if-is_over.ensures
+
+pub returns-clause-did : goal.returns-clause-did
+returns-clause-did g c = runs_spent _ c.loop-k.k c.args.steps _ _ _ _ (omega arith) c.loop-k.invariant.reached c.if-is_over.ensures

@@ -1,0 +1,8 @@
+pub mod Shown
+pub mod Moves
+pub mod Low
+pub mod Enters
+pub mod Kept
+pub mod Seen
+pub mod Exchange
+pub mod Ends
