@@ -12,6 +12,7 @@ pub mod WordLemmas
 pub mod Contents
 pub mod Lines
 pub mod Judging
+pub mod Checking
 pub mod WholeRuns
 pub mod Parts
 pub mod Executing

@@ -18,9 +18,11 @@ use Rattle.rv_machine.specs.Start.{start_of, IsProgramOf as IsProgramOfImage}
 use Rattle.rv_machine.specs.Ends.{IsMachineEnd}
 use Rattle.fy_tool.specs.World.{Contents, Counts, Later}
 use Rattle.fy_tool.specs.Said.{image_of}
-use Rattle.fy_tool.specs.Order.{Order, build, exec, run, list}
+use Rattle.fy_tool.specs.Checked.{IsAccepted, IsRefusedFor}
+use Rattle.fy_tool.specs.declared.refusal.Refusal.{Refusal}
+use Rattle.fy_tool.specs.Order.{Order, check, build, exec, run, list}
 use Rattle.fy_tool.specs.Note.{refusal_note}
-use Rattle.fy_tool.specs.Due.{Due, told, BuildsText, IsRefused, IsBuilt, IsOwnEnd, IsDue, usage, stopped, refused, builds, lists, unread, executes, runs, stack_wanted, steps_wanted, kept_as, file_of, keeps_of, IsReadyFirst}
+use Rattle.fy_tool.specs.Due.{Due, told, BuildsText, IsRefused, IsBuilt, IsOwnEnd, IsDue, usage, stopped, refused, accepted, accepts, faults, builds, lists, unread, executes, runs, stack_wanted, steps_wanted, kept_as, file_of, keeps_of, IsReadyFirst}
 use Rattle.fy_tool.specs.Answers.{Caused, Did, IsOwn, Serves}
 use Rattle.fy_tool.specs.Working.{IsProgramOf, IsUnbegun, Keeps, Executes, KeepsAndRuns, HasRun, listed}
 use Rattle.fy_tool.specs.declared.note.Note.{Note}
@@ -124,6 +126,20 @@ pub serves_refused : (order : Order) (text : Bytes) (b c d : Contents) (k k1 k2 
 serves_refused order text b c d k k1 k2 result is_text why a ready did =
     let input = some_input c.input in
     done order text b c d k k1 k2 result (told 2 (note.Unbuilt ∷ [])) input.0 a input.1 (refused order text input.0 is_text why) did (λ _ memory. absurd (ready memory))
+
+-- `check` of a text that is accepted
+pub serves_accepted : (file text : Bytes) (b c d : Contents) (k k1 k2 : Counts) (result : Result ℕ Stop) → IsAccepted text → After (check file) text b c d k k1 k2 result → result ≢ Err Memory → Did accepted c d result
+    → Serves (Some (check file)) b d k k2 result
+serves_accepted file text b c d k k1 k2 result is a ready did =
+    let input = some_input c.input in
+    done (check file) text b c d k k1 k2 result accepted input.0 a input.1 (accepts file text input.0 is) did (λ _ memory. absurd (ready memory))
+
+-- `check` of a text that is refused
+pub serves_faulted : (file text : Bytes) (why : Refusal) (b c d : Contents) (k k1 k2 : Counts) (result : Result ℕ Stop) → IsRefusedFor text why → After (check file) text b c d k k1 k2 result → result ≢ Err Memory → Did (told 2 (note.Refused why ∷ [])) c d result
+    → Serves (Some (check file)) b d k k2 result
+serves_faulted file text why b c d k k1 k2 result is a ready did =
+    let input = some_input c.input in
+    done (check file) text b c d k k1 k2 result (told 2 (note.Refused why ∷ [])) input.0 a input.1 (faults file text input.0 why is) did (λ _ memory. absurd (ready memory))
 
 is_built : (text : Bytes) (stack : ℕ) (p : Tree) → IsProgramOf text p → IsBuilt text stack p (image_of stack p)
 is_built text stack p is = record { short = is.short; program = is.program; stack_is = refl; runs = small_runs_as_copy_rule stack p is.command is.few }

@@ -16,11 +16,13 @@ use Rattle.rv_machine.specs.Start.{IsProgramOf, start_of}
 use Rattle.rv_machine.specs.Run.{World, run, going_world}
 use Rattle.rv_machine.specs.Ends.{EndsSo}
 use Rattle.fy_tool.specs.Small.{IsProgram}
+use Rattle.fy_tool.specs.Checked.{IsAccepted, IsRefusedFor}
 use Rattle.fy_tool.specs.Headline.{RunsAsCopyRule, ShowsCopyRule}
 use Rattle.fy_tool.specs.Order.{Order}
 use Rattle.fy_tool.specs.Order as orders
 use Rattle.fy_tool.specs.Note.{texts, ended_lines, refusal_note}
 use Rattle.fy_tool.specs.Shown.{shown, listing}
+use Rattle.fy_tool.specs.declared.refusal.Refusal.{Refusal}
 use Rattle.fy_tool.specs.declared.note.Note.{Note}
 use Rattle.fy_tool.specs.declared.note.Note.TheVariants as note
 
@@ -42,6 +44,10 @@ pub record Due : Type 0 where
 -- a status and notes, and nothing else
 abbrev pub told : ℕ → List Note → Due
 told status notes = record { status = status; output = []; notes = texts notes; kept = None; rest = None; running = None }
+
+-- what `check` is due to write of a text that is accepted, and nothing else
+abbrev pub accepted : Due
+accepted = record { status = 0; output = codes "accepted" ++ 10 ∷ []; notes = []; kept = None; rest = None; running = None }
 
 -- ---- texts and their images
 
@@ -134,6 +140,7 @@ running_of program image input steps = record { program = program; first = going
 -- an order that makes the image of a text
 abbrev pub BuildsText : Order → Type 0
 BuildsText (orders.exec image steps trace) = ⊥
+BuildsText (orders.check file) = ⊥
 BuildsText _ = Unit {0}
 
 -- what is due for the words, by the content of the file that they name, if it has one, and by the input
@@ -142,8 +149,11 @@ pub data IsDue : Option Order → Option Bytes → Bytes → Due → Type 0 wher
   usage : (content : Option Bytes) (input : Bytes) → IsDue None content input (told 5 (note.Usage ∷ []))
   -- a call that the outside or want of memory stopped before it did anything
   stopped : (order : Order) (content : Option Bytes) (input : Bytes) → IsDue (Some order) content input (told 7 [])
-  -- a text that is refused
+  -- a text that can't be built yet
   refused : (order : Order) (text input : Bytes) → BuildsText order → IsRefused text → IsDue (Some order) (Some text) input (told 2 (note.Unbuilt ∷ []))
+  -- `check` of a text that is accepted, and of one that is refused
+  accepts : (file text input : Bytes) → IsAccepted text → IsDue (Some (orders.check file)) (Some text) input accepted
+  faults : (file text input : Bytes) (why : Refusal) → IsRefusedFor text why → IsDue (Some (orders.check file)) (Some text) input (told 2 (note.Refused why ∷ []))
   -- `build` keeps the image's bytes
   builds : (file name : Bytes) (stack : Option ℕ) (text input : Bytes) (p : Tree) (image : Image) (bytes : Bytes) → IsBuilt text (stack_wanted stack) p image → IsImageBytes image bytes
       → IsDue (Some (orders.build file name stack)) (Some text) input (record { status = 0; output = []; notes = []; kept = Some (name, bytes); rest = None; running = None })
@@ -163,6 +173,7 @@ pub data IsDue : Option Order → Option Bytes → Bytes → Due → Type 0 wher
 
 -- the files that an order reads and those that it keeps
 abbrev pub file_of : Order → Bytes
+file_of (orders.check file) = file
 file_of (orders.build file image stack) = file
 file_of (orders.exec image steps trace) = image
 file_of (orders.run file steps stack image) = file

@@ -7,6 +7,7 @@ pub mod Order
 pub mod Words
 pub mod Shown
 pub mod Headline
+pub mod Checked
 pub mod Due
 pub mod Answers
 pub mod Working

@@ -10,8 +10,10 @@ use Rattle.fy_base.specs.declared.data.FaultKind.{FaultKind}
 use Rattle.fy_base.specs.declared.data.FaultKind.TheVariants.{Overflow, Zero, Range}
 use Rattle.fy_base.specs.declared.data.TrapKind.{TrapKind}
 use Rattle.fy_base.specs.declared.data.TrapKind.TheVariants.{Illegal, FetchAlign, FetchRange, LoadAlign, LoadRange, StoreAlign, StoreRange, Service}
+use Rattle.fy_tool.specs.declared.refusal.Refusal.{Refusal}
+use Rattle.fy_tool.specs.declared.refusal.Refusal.TheVariants.{Length, Byte, Unclosed, Number, Tokens, Syntax, Deep, Name, TypeName, Double, Letrec, Merge, Alternatives, TypeSize, CoreDepth, CoreSize, Visits}
 use Rattle.fy_tool.specs.declared.note.Note.{Note}
-use Rattle.fy_tool.specs.declared.note.Note.TheVariants.{Fault, StackExhausted, StepsSpent, Trapped, Unbuilt, Usage, OutsideFiles, OutsideInput, OutsideOutput, Memory, Instructions, ImageMagic, ImageVersion, ImageTruncated, ImageTrailing, ImageField, ImageLength}
+use Rattle.fy_tool.specs.declared.note.Note.TheVariants.{Fault, StackExhausted, StepsSpent, Trapped, Refused, Unbuilt, Usage, OutsideFiles, OutsideInput, OutsideOutput, Memory, Instructions, ImageMagic, ImageVersion, ImageTruncated, ImageTrailing, ImageField, ImageLength}
 
 -- a place, as it is printed: line, colon, column
 abbrev pub place_text : Place → Bytes
@@ -32,11 +34,55 @@ trap_name StoreAlign = codes "trap store-align"
 trap_name StoreRange = codes "trap store-range"
 trap_name Service = codes "trap service"
 
+-- the first word of a refusal's note, with a blank where a place follows, and that place
+abbrev pub word_of : Refusal → Bytes
+word_of Length = codes "length"
+word_of (Byte place) = codes "byte "
+word_of (Unclosed place) = codes "unclosed "
+word_of (Number place) = codes "number "
+word_of Tokens = codes "tokens"
+word_of (Syntax place) = codes "syntax "
+word_of (Deep place) = codes "deep "
+word_of (Name place) = codes "name "
+word_of (TypeName place) = codes "typename "
+word_of (Double place) = codes "double "
+word_of (Letrec place) = codes "letrec "
+word_of (Merge place) = codes "merge "
+word_of (Alternatives place) = codes "alternatives "
+word_of (TypeSize place) = codes "typesize "
+word_of CoreDepth = codes "coredeep"
+word_of CoreSize = codes "coresize"
+word_of Visits = codes "visits"
+
+abbrev pub place_of : Refusal → Option Place
+place_of Length = None
+place_of (Byte place) = Some place
+place_of (Unclosed place) = Some place
+place_of (Number place) = Some place
+place_of Tokens = None
+place_of (Syntax place) = Some place
+place_of (Deep place) = Some place
+place_of (Name place) = Some place
+place_of (TypeName place) = Some place
+place_of (Double place) = Some place
+place_of (Letrec place) = Some place
+place_of (Merge place) = Some place
+place_of (Alternatives place) = Some place
+place_of (TypeSize place) = Some place
+place_of CoreDepth = None
+place_of CoreSize = None
+place_of Visits = None
+
+abbrev pub maybe_place_text : Option Place → Bytes
+maybe_place_text None = []
+maybe_place_text (Some place) = place_text place
+
 abbrev pub note_text : Note → Bytes
 note_text (Fault kind place) = fault_name kind ++ place_text place
 note_text StackExhausted = codes "stack exhausted"
 note_text StepsSpent = codes "steps spent"
 note_text (Trapped kind) = trap_name kind
+note_text (Refused why) = word_of why ++ maybe_place_text (place_of why)
 note_text Unbuilt = codes "unbuilt"
 note_text Usage = codes "usage"
 note_text OutsideFiles = codes "outside files"

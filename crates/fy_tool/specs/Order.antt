@@ -11,6 +11,7 @@ use Rattle.fy_tool.specs.declared.command.Command.TheVariants as command
 
 -- a command with what its words name; an option that isn't among the words is none
 pub data Order : Type 0 where
+  check : (file : Bytes) → Order
   build : (file image : Bytes) (stack : Option ℕ) → Order
   exec : (image : Bytes) (steps trace : Option ℕ) → Order
   run : (file : Bytes) (steps stack : Option ℕ) (image : Option Bytes) → Order
@@ -18,6 +19,7 @@ pub data Order : Type 0 where
 
 -- the order that a command stands for
 abbrev pub order_of : Command → Order
+order_of (command.Check file) = check file.now
 order_of (command.Build file image stack) = build file.now image.now stack
 order_of (command.Exec image steps trace) = exec image.now steps trace
 order_of (command.Run file steps stack image) = run file.now steps stack (option_map (λ name. name.now) image)
@@ -95,6 +97,10 @@ trace_option words = at_most_once (number_in 1 4096) (values (codes "--trace=") 
 
 -- ---- the commands
 
+-- `check FILE`
+abbrev pub check_from : List Bytes → Option Order
+check_from words = if are_known [] words then option_map check (only_operand (operands words)) else None
+
 -- `build FILE --image=OUT [--stack=W]`
 abbrev pub build_with : Option Bytes → Option (Option Bytes) → Option (Option ℕ) → Option Order
 build_with (Some file) (Some (Some image)) (Some stack) = Some (build file image stack)
@@ -130,8 +136,9 @@ list_from words = if are_known [] words then option_map list (only_operand (oper
 abbrev pub command_from : List Bytes → Option Order
 command_from [] = None
 command_from (name ∷ words) =
-    if bytes_eq name (codes "build") then build_from words
+    if bytes_eq name (codes "check") then check_from words
+    else (if bytes_eq name (codes "build") then build_from words
     else (if bytes_eq name (codes "exec") then exec_from words
     else (if bytes_eq name (codes "run") then run_from words
     else (if bytes_eq name (codes "list") then list_from words
-    else None)))
+    else None))))

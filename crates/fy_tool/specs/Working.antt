@@ -24,6 +24,8 @@ use Rattle.fy_tool.specs.World.{Contents}
 use Rattle.fy_tool.specs.Note.{ended_lines, refusal_note}
 use Rattle.fy_tool.specs.Small.{IsProgram}
 use Rattle.fy_tool.specs.Said.{IsCommand, puts_of}
+use Rattle.fy_tool.specs.Checked.{IsAccepted, IsRefusedFor}
+use Rattle.fy_tool.specs.declared.refusal.Refusal.{Refusal}
 use Rattle.fy_tool.specs.Due.{Due, IsRefused, IsRun, ran}
 use Rattle.fy_tool.specs.Answers.{Did, WholeLines}
 use Rattle.fy_tool.specs.declared.world.Stop.{Stop}
@@ -43,6 +45,10 @@ Judged text found = MatchOption found (IsRefused text) (λ p. IsProgramOf text (
 -- a source that was read
 abbrev pub Reads : Bytes → Option Folder → Result (Option Phrase) Stop → Type 0
 Reads name files result = IfOk result (λ found. (text : Bytes) × Tells files name (Some text) × Judged text found)
+
+-- a text that was checked
+abbrev pub Checks : Bytes → Option Folder → Result (Option Refusal) Stop → Type 0
+Checks name files result = IfOk result (λ why. (text : Bytes) × Tells files name (Some text) × MatchOption why (IsAccepted text) (IsRefusedFor text))
 
 -- memory was wanting before anything was done
 pub record IsUnbegun (before now : Contents) (result : Result ℕ Stop) : Type 0 where

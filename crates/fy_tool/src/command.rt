@@ -3,13 +3,17 @@
 ghost use Rattle.std.specs.Prelude.{◌≡◌, ◌≤◌, map, string_bytes, IfSome};
 ghost use Rattle.std.specs.Option.{option_map};
 ghost use Rattle.fy_tool.specs.Due.{HasStack, stack_wanted};
-ghost use Rattle.fy_tool.specs.Order.{stack_option, trace_option, steps_option, build_from, exec_from, run_from, list_from, command_from, order_of};
+ghost use Rattle.fy_tool.specs.Order.{stack_option, trace_option, steps_option, check_from, build_from, exec_from, run_from, list_from, command_from, order_of};
 
 use crate::words::{are_known, name_option, number_option, only_operand};
 
 /// What the words ask for. An option that isn't among the words is `None`.
 #[derive(Clone, Copy)]
 pub enum Command<'a> {
+    /// Checks the text in the file.
+    Check {
+        file: &'a str,
+    },
     /// Builds an image of the text in the file, and keeps it.
     Build {
         file: &'a str,
@@ -63,6 +67,18 @@ fn steps_option(words: &[String]) -> Option<Option<u64>>
     ensures { result ≡ steps_option (map string_bytes words.now) }
 {
     number_option("--steps=", 1, 1_000_000_000_000, words)
+}
+
+// `check FILE`
+fn check_of(words: &[String]) -> Option<Command<'_>>
+    ensures order { option_map order_of result ≡ check_from (map string_bytes words.now) }
+    ensures stack { IfSome result (λ command. HasStack (order_of command)) }
+{
+    if !are_known(&[], words) {
+        return None;
+    }
+    let file = only_operand(words)?;
+    Some(Command::Check { file })
 }
 
 // `build FILE --image=OUT [--stack=W]`
@@ -140,6 +156,7 @@ pub fn command_of(words: &[String]) -> Option<Command<'_>>
         return None;
     };
     match name.as_str() {
+        "check" => check_of(words),
         "build" => build_of(words),
         "exec" => exec_of(words),
         "run" => run_of(words),

@@ -9,11 +9,12 @@ ghost use Rattle.rv_insn.specs.declared.events.Status.TheVariants.{Running};
 ghost use Rattle.rv_machine.specs.Start.{IsProgramOf, start_of};
 ghost use Rattle.fy_tool.specs.World.{Later};
 ghost use Rattle.fy_tool.specs.Said.{IsCommand, puts_of, image_of};
-ghost use Rattle.fy_tool.specs.Order.{order_of, build, exec, run, list};
-ghost use Rattle.fy_tool.specs.Due.{steps_wanted, stack_wanted, kept_as, HasStack};
+ghost use Rattle.fy_tool.specs.Order.{order_of, check, build, exec, run, list};
+ghost use Rattle.fy_tool.specs.Due.{accepted, steps_wanted, stack_wanted, kept_as, HasStack};
 ghost use Rattle.fy_tool.specs.Answers.{Caused, Did, IsOwn, Serves};
 ghost use Rattle.fy_tool.specs.Working.{Executes, Keeps, KeepsAndRuns, ReadsImage, listed};
 
+use crate::check::refusal_in;
 use crate::command::Command;
 use crate::note::{Note, refusal_note};
 use crate::runs::{run_machine, run_traced};
@@ -111,6 +112,33 @@ fn execute<W: World>(
     match trace {
         None => run_machine(&mut machine, steps, world),
         Some(count) => run_traced(alloc, &mut machine, steps, count, world),
+    }
+}
+
+// Writes that a text is accepted.
+fn accept<W: World>(world: &mut W) -> Result<u8, Stop>
+    ensures did { Did accepted (W.holds world.old) (W.holds world.new) result }
+    ensures own { IfOk result IsOwn }
+    ensures caused { IfErr result (λ stop. Caused [] [] stop (W.counts world.old) (W.counts world.new)) }
+    ensures memory { result ≢ Err Stop.Memory }
+    ensures later { Later (W.counts world.old) (W.counts world.new) }
+    ensures same { W.names world.new ≡ W.names world.old }
+{
+    match world.put(b"accepted\n") {
+        Ok(()) => Ok(0),
+        Err(stop) => Err(stop),
+    }
+}
+
+// Checks the text in a file.
+fn check_file<W: World>(alloc: Global, file: &str, world: &mut W) -> Result<u8, Stop>
+    ensures serves { Serves (Some (check file.now)) (W.holds world.old) (W.holds world.new) (W.counts world.old) (W.counts world.new) result }
+    ensures same { W.names world.new ≡ W.names world.old }
+{
+    match refusal_in(alloc, file, world) {
+        Err(stop) => Err(stop),
+        Ok(Some(why)) => refuse(2, Note::Refused(why), world),
+        Ok(None) => accept(world),
     }
 }
 
@@ -332,6 +360,7 @@ pub fn serve<W: World>(alloc: Global, command: Command, world: &mut W) -> Result
     ensures same { W.names world.new ≡ W.names world.old }
 {
     match command {
+        Command::Check { file } => check_file(alloc, file, world),
         Command::Build { file, image, stack } => build_file(alloc, file, image, stack, world),
         Command::Exec {
             image,

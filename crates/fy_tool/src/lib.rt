@@ -1,9 +1,11 @@
 //! The call behind the program: its words, files, input, output and notes.
 #![tactic(auto)]
 
+mod check;
 mod command;
 mod commands;
 mod note;
+mod refusal;
 mod runs;
 mod shown;
 mod small;

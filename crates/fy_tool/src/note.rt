@@ -2,8 +2,9 @@
 
 ghost use Rattle.std.specs.Prelude.{◌≡◌, ◌≤◌, ◌+◌, [], ◌∷◌, ◌++◌, length};
 ghost use Rattle.std.specs.Fmt.{decimal};
-ghost use Rattle.fy_tool.specs.Note.{note_text, place_text, fault_name, trap_name, refusal_note};
+ghost use Rattle.fy_tool.specs.Note.{note_text, place_text, maybe_place_text, fault_name, trap_name, refusal_note};
 
+use crate::refusal::Refusal;
 use arrayvec::ArrayString;
 use fy_base::{FaultKind, Place, TrapKind};
 use fy_image::ImageError;
@@ -19,6 +20,8 @@ pub enum Note {
     StepsSpent,
     /// The machine trapped.
     Trapped(TrapKind),
+    /// The text is refused.
+    Refused(Refusal),
     /// The text is too long, or none of those that can be built yet.
     Unbuilt,
     /// The words are no command.
@@ -73,6 +76,16 @@ fn push_place(line: &mut Line, place: Place)
     push_number(line, place.col.into());
 }
 
+fn push_maybe_place(line: &mut Line, place: Option<Place>)
+    requires { length line.old.bytes ≤ 20 }
+    ensures text { line.new.bytes ≡ line.old.bytes ++ maybe_place_text place }
+    ensures length { length line.new.bytes ≤ length line.old.bytes + 41 }
+{
+    if let Some(place) = place {
+        push_place(line, place);
+    }
+}
+
 fn fault_name(kind: FaultKind) -> &'static str
     ensures name { result.now ≡ fault_name kind }
     ensures length { length result.now ≤ 20 }
@@ -109,6 +122,7 @@ pub fn line_of(note: Note) -> Line
         Note::StackExhausted => begun("stack exhausted"),
         Note::StepsSpent => begun("steps spent"),
         Note::Trapped(kind) => begun(trap_name(kind)),
+        Note::Refused(why) => begun(why.word()),
         Note::Unbuilt => begun("unbuilt"),
         Note::Usage => begun("usage"),
         Note::OutsideFiles => begun("outside files"),
@@ -125,6 +139,7 @@ pub fn line_of(note: Note) -> Line
     };
     match note {
         Note::Fault { place, .. } => push_place(&mut line, place),
+        Note::Refused(why) => push_maybe_place(&mut line, why.place()),
         Note::Instructions(count) | Note::ImageTrailing(count) => push_number(&mut line, count),
         Note::ImageVersion(version) => push_number(&mut line, version.into()),
         Note::ImageField(field) => push_number(&mut line, field.into()),

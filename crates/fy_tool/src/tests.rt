@@ -135,11 +135,85 @@ fn other_texts_are_refused(rt: HostRuntime) -> Result<(), Fail> {
     Ok(())
 }
 
+// `check` of each text: its status, its output and its notes.
+#[test]
+fn texts_are_checked(rt: HostRuntime) -> Result<(), Fail> {
+    let alloc = rt.alloc();
+    let table: [(&[u8], u8, &[u8], &[u8]); 10] = [
+        (
+            br"let sum == \i:intvar. \n:int. \e:int. \r:intacc. new s:int := 0 in (i := 1; while i <= n do (s := s + e; i := i + 1); r := s) in new i:int := 0 in new r:int := 0 in (sum i 10 (i*i) r; putint r)",
+            0,
+            b"accepted\n",
+            b"",
+        ),
+        (b"", 2, b"", b"syntax 1:1\n"),
+        (b"putint 9223372036854775808", 2, b"", b"number 1:8\n"),
+        (b"putint 1 ?", 2, b"", b"byte 1:10\n"),
+        (b"{ a", 2, b"", b"unclosed 1:1\n"),
+        (b"putint y", 2, b"", b"name 1:8\n"),
+        (b"let a == 1, a == 2 in skip", 2, b"", b"double 1:13\n"),
+        (b"let r == (a == 1, 3) in skip", 2, b"", b"merge 1:19\n"),
+        (br"\x: foo. skip", 2, b"", b"typename 1:5\n"),
+        (
+            b"letrec f : int where g == 1 in skip",
+            2,
+            b"",
+            b"letrec 1:22\n",
+        ),
+    ];
+    for (text, status, output, notes) in table {
+        let left = call(alloc, &["check", "p.fy"], text, Vec::new(alloc))?;
+        assert_eq!(rt; left.status, status);
+        assert_eq!(rt; left.output.bytes(), output);
+        assert_eq!(rt; left.notes.bytes(), notes);
+    }
+    Ok(())
+}
+
+// A beginning, a piece so many times, and an end.
+fn repeated(
+    alloc: Global,
+    begin: &[u8],
+    piece: &[u8],
+    times: u32,
+    end: &[u8],
+) -> Result<Vec<u8>, Fail> {
+    let mut text = Vec::new(alloc);
+    text.extend_from_slice(begin)?;
+    for _ in 0..times {
+        text.extend_from_slice(piece)?;
+    }
+    text.extend_from_slice(end)?;
+    Ok(text)
+}
+
+// `check` of texts past a limit on what they stand for.
+#[test]
+fn sizes_are_checked(rt: HostRuntime) -> Result<(), Fail> {
+    let alloc = rt.alloc();
+    let table: [(&[u8], &[u8], u32, &[u8], &[u8]); 3] = [
+        (br"\x: int", b" | int", 16, b". skip", b"alternatives 1:1\n"),
+        (b"", br"\x: int | bool. ", 17, b"skip", b"visits\n"),
+        (b"putint(", b"1+", 599, b"1)", b"coredeep\n"),
+    ];
+    for (begin, piece, times, end, notes) in table {
+        let text = repeated(alloc, begin, piece, times, end)?;
+        let left = call(alloc, &["check", "p.fy"], text.as_slice(), Vec::new(alloc))?;
+        assert_eq!(rt; left.status, 2);
+        assert!(rt; left.output.bytes().is_empty());
+        assert_eq!(rt; left.notes.bytes(), notes);
+    }
+    Ok(())
+}
+
 #[test]
 fn words_and_the_outside_are_told(rt: HostRuntime) -> Result<(), Fail> {
     let alloc = rt.alloc();
     let text = b"putint(1+2)";
-    let table: [(&[&str], u8, &[u8]); 17] = [
+    let table: [(&[&str], u8, &[u8]); 20] = [
+        (&["check"], 5, b"usage\n"),
+        (&["check", "p.fy", "--steps=5"], 5, b"usage\n"),
+        (&["check", "q.fy"], 7, b"outside files\n"),
         (&["run"], 5, b"usage\n"),
         (&[], 5, b"usage\n"),
         (&["run", "p.fy", "p.fy"], 5, b"usage\n"),

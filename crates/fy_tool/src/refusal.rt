@@ -1,0 +1,145 @@
+//! Why a text is refused.
+
+ghost use Rattle.std.specs.Prelude.{◌≡◌, ◌≤◌, length};
+ghost use Rattle.fy_tool.specs.Note.{word_of, place_of};
+ghost use Rattle.fy_tool.specs.Checked.{lex_refusal, parse_refusal, expand_refusal};
+
+use fy_base::Place;
+use fy_expand::ExpandError;
+use fy_grammar::ParseError;
+use fy_lexer::LexError;
+
+/// Why a text is refused, and where.
+#[derive(Clone, Copy, PartialEq, Eq, Debug)]
+pub enum Refusal {
+    /// It has over 1,048,576 bytes.
+    Length,
+    /// A byte that begins or continues no token.
+    Byte(Place),
+    /// A comment, string or character that isn't closed.
+    Unclosed(Place),
+    /// A literal past 9223372036854775807.
+    Number(Place),
+    /// It has over 262,144 tokens.
+    Tokens,
+    /// A token that can't follow those before it.
+    Syntax(Place),
+    /// A token that nests deeper than 256.
+    Deep(Place),
+    /// A name that stands for no phrase.
+    Name(Place),
+    /// A name that stands for no type.
+    TypeName(Place),
+    /// The second use of a name among the definitions of one `let` or the declarations of one `letrec`.
+    Double(Place),
+    /// A definition of a `letrec` whose name isn't the declared one, or `in` where one is missing.
+    Letrec(Place),
+    /// A right operand of `,` that is no abstraction, field definition or acceptor.
+    Merge(Place),
+    /// An abstraction with over 16 alternatives.
+    Alternatives(Place),
+    /// A written type that is too large once its names are replaced.
+    TypeSize(Place),
+    /// The core phrase nests more than 512.
+    CoreDepth,
+    /// The core phrase has over 65,536 nodes.
+    CoreSize,
+    /// The core phrase has over 65,536 visits.
+    Visits,
+}
+
+impl Refusal {
+    /// The first word of its note, with a blank where a place follows.
+    pub(crate) fn word(self) -> &'static str
+        ensures word { result.now ≡ word_of self }
+        ensures length { length result.now ≤ 20 }
+    {
+        match self {
+            Refusal::Length => "length",
+            Refusal::Byte(_) => "byte ",
+            Refusal::Unclosed(_) => "unclosed ",
+            Refusal::Number(_) => "number ",
+            Refusal::Tokens => "tokens",
+            Refusal::Syntax(_) => "syntax ",
+            Refusal::Deep(_) => "deep ",
+            Refusal::Name(_) => "name ",
+            Refusal::TypeName(_) => "typename ",
+            Refusal::Double(_) => "double ",
+            Refusal::Letrec(_) => "letrec ",
+            Refusal::Merge(_) => "merge ",
+            Refusal::Alternatives(_) => "alternatives ",
+            Refusal::TypeSize(_) => "typesize ",
+            Refusal::CoreDepth => "coredeep",
+            Refusal::CoreSize => "coresize",
+            Refusal::Visits => "visits",
+        }
+    }
+
+    /// The place that its note tells.
+    pub(crate) fn place(self) -> Option<Place>
+        ensures { result ≡ place_of self }
+    {
+        match self {
+            Refusal::Length
+            | Refusal::Tokens
+            | Refusal::CoreDepth
+            | Refusal::CoreSize
+            | Refusal::Visits => None,
+            Refusal::Byte(place)
+            | Refusal::Unclosed(place)
+            | Refusal::Number(place)
+            | Refusal::Syntax(place)
+            | Refusal::Deep(place)
+            | Refusal::Name(place)
+            | Refusal::TypeName(place)
+            | Refusal::Double(place)
+            | Refusal::Letrec(place)
+            | Refusal::Merge(place)
+            | Refusal::Alternatives(place)
+            | Refusal::TypeSize(place) => Some(place),
+        }
+    }
+}
+
+/// The refusal of a text without tokens, or `None` where memory was wanting.
+pub(crate) fn lex_refusal(error: LexError) -> Option<Refusal>
+    ensures { result ≡ lex_refusal error }
+{
+    match error {
+        LexError::BadByte(place) => Some(Refusal::Byte(place)),
+        LexError::Unclosed(place) => Some(Refusal::Unclosed(place)),
+        LexError::NumberTooLarge(place) => Some(Refusal::Number(place)),
+        LexError::TooManyTokens => Some(Refusal::Tokens),
+        LexError::OutOfMemory => None,
+    }
+}
+
+/// The refusal of tokens that are no program, or `None` where memory was wanting.
+pub(crate) fn parse_refusal(error: ParseError) -> Option<Refusal>
+    ensures { result ≡ parse_refusal error }
+{
+    match error {
+        ParseError::Syntax(place) => Some(Refusal::Syntax(place)),
+        ParseError::TooDeep(place) => Some(Refusal::Deep(place)),
+        ParseError::OutOfMemory => None,
+    }
+}
+
+/// The refusal of a program without a core phrase, or `None` where memory was wanting.
+pub(crate) fn expand_refusal(error: ExpandError) -> Option<Refusal>
+    ensures { result ≡ expand_refusal error }
+{
+    match error {
+        ExpandError::UnknownName(place) => Some(Refusal::Name(place)),
+        ExpandError::UnknownType(place) => Some(Refusal::TypeName(place)),
+        ExpandError::DoubleName(place) => Some(Refusal::Double(place)),
+        ExpandError::LetrecName(place) => Some(Refusal::Letrec(place)),
+        ExpandError::MergeRight(place) => Some(Refusal::Merge(place)),
+        ExpandError::TooManyAlternatives(place) => Some(Refusal::Alternatives(place)),
+        ExpandError::TypeTooLarge(place) => Some(Refusal::TypeSize(place)),
+        ExpandError::TooDeep => Some(Refusal::CoreDepth),
+        ExpandError::TooLarge => Some(Refusal::CoreSize),
+        ExpandError::TooManyVisits => Some(Refusal::Visits),
+        ExpandError::OutOfMemory => None,
+    }
+}
