@@ -1,0 +1,51 @@
+#!/bin/bash
+# Measures `check` on texts at the limits and past them:
+#     bench/texts.sh [ROUNDS]
+# Prints for each text the least user time, its bytes and what `check` says. FORSYTHE names another built program
+# than bin/forsythe.
+set -eu
+here=$(cd "$(dirname "$0")" && pwd -P)
+rounds=${1:-5}
+program=${FORSYTHE:-$here/../bin/forsythe}
+work=$(mktemp -d)
+trap 'rm -rf "$work"' EXIT
+
+# A piece so many times.
+repeated() {
+    awk -v piece="$1" -v times="$2" 'BEGIN { for (i = 0; i < times; i++) printf "%s", piece }'
+}
+
+# The user time of `check` of a file, in seconds.
+TIMEFORMAT=%U
+user_time() {
+    { time "$program" check "$1" >"$work/output" 2>"$work/notes" </dev/null; } 2>&1 || true
+}
+
+# Measures the text at standard input under a name.
+measure() {
+    cat >"$work/text.fy"
+    : >"$work/times"
+    for _ in $(seq "$rounds"); do
+        user_time "$work/text.fy" >>"$work/times"
+    done
+    printf '%-42s %8s bytes  %s s  %s\n' "$1" "$(wc -c <"$work/text.fy")" "$(sort -n <"$work/times" | head -n 1)" "$(cat "$work/output" "$work/notes")"
+}
+
+# Parentheses to the greatest nesting round `skip`.
+nested=$(repeated '(' 255)skip$(repeated ')' 255)
+
+{ repeated ' ' 1048572; printf skip; } | measure '1,048,576 bytes'
+{ repeated ' ' 1048573; printf skip; } | measure '1,048,577 bytes'
+{ repeated "$nested;" 511; printf '%s' "$nested"; } | measure '262,143 tokens, nested to the limit'
+{ repeated 'skip;' 131072; printf skip; } | measure '262,145 tokens'
+{ repeated 'skip;' 100000; printf skip; } | measure 'a sequence of 100,001 commands'
+{ printf 'putint('; repeated '1+' 130000; printf '1)'; } | measure 'a sum of 130,001 numbers'
+{ printf 'putint '; repeated 'f ' 200000; } | measure '200,001 names applied'
+{ repeated 'skip;' 32757; printf skip; } | measure '32,758 commands'
+{ repeated 'skip;' 32758; printf skip; } | measure '32,759 commands'
+{ printf 'putbool('; repeated 'not ' 502; printf 'true)'; } | measure '502 prefix operators'
+{ printf 'putbool('; repeated 'not ' 520; printf 'true)'; } | measure '520 prefix operators'
+{ repeated '\\x: int | bool. ' 14; printf skip; } | measure '14 abstractions of two alternatives'
+{ repeated '\\x: int | bool. ' 17; printf skip; } | measure '17 abstractions of two alternatives'
+{ printf '\\x: int'; repeated ' & int' 4094; printf '. skip'; } | measure 'a type of 4,096 nodes'
+{ printf 'lettype t0 == int in '; for i in $(seq 60); do printf 'lettype t%s == t%s & t%s in ' "$i" $((i - 1)) $((i - 1)); done; printf skip; } | measure 'a type doubled 60 times'
