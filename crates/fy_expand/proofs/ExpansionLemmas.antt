@@ -10,15 +10,20 @@ use Rattle.fy_phrase.specs.Tree.{Tree}
 use Rattle.fy_expand.specs.declared.error.ExpandError.{ExpandError}
 use Rattle.fy_expand.specs.declared.error.ExpandError.TheVariants.{TooDeep, TooLarge, TooManyVisits}
 use Rattle.fy_expand.specs.Scope.{program_scope}
+use Rattle.fy_expand.specs.Front.{front}
+use Rattle.fy_expand.specs.Core.{core, in_prelude}
 use Rattle.fy_expand.specs.Faults.{fault}
 use Rattle.fy_expand.specs.Sizes.{nesting, size_of, visits_of, limited}
 use Rattle.fy_expand.specs.Expansion.{unless, within_limits, core_of}
 use Rattle.fy_expand.specs.WellMade.{IsClosed, IsWithinLimits, IsWellMade}
 use Rattle.fy_expand.specs.Judged.{HasTokens, IsAllowed, IsJudged, not_expanded, expanded, expansion_refused}
-use Rattle.fy_expand.proofs.LimitLemmas.{whole}
 use Rattle.fy_expand.proofs.ClosedLemmas.{closed-whole}
 use Rattle.fy_expand.proofs.MadeLemmas.{made-whole}
 use Rattle.fy_expand.proofs.SpelledLemmas.{filled-program}
+
+-- the phrase of a program
+abbrev whole : written.Tree → Tree
+whole tree = in_prelude (front tree) (core program_scope tree)
 
 -- another fact of what a call gave
 pub IfOk-map : {T E : Type 0} (r : Result T E) (P Q : T → Type 0) → ((x : T) → P x → Q x) → IfOk r P → IfOk r Q

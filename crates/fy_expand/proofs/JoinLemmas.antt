@@ -1,20 +1,10 @@
 -- The items of a sequence, joined from the last one on.
-use Rattle.std.proofs.Common.{◌≡◌, ℕ, ◌+◌, ◌-◌, ◌/◌, ◌≤◌, List, [], ◌∷◌, length, map, get_or, take, drop, sym, ap, ◌∙◌, arith, length-drop}
-use Rattle.std.proofs.lemmas.List.{length-take-le, drop-take, drop-drop, length-map, drop-map, drop_more, drop_all}
+use Rattle.std.proofs.Common.{◌≡◌, ℕ, ◌+◌, ◌-◌, ◌/◌, ◌≤◌, List, length, take, drop, sym, ap, ◌∙◌, arith, length-drop}
+use Rattle.std.proofs.lemmas.List.{length-take-le, drop-take, drop-drop}
 use Rattle.fy_base.specs.declared.data.Place.{Place}
-use Rattle.fy_expand.specs.declared.build.Item as built
 use Rattle.fy_expand.specs.Core.{Item, by_halves, one_after, no_item}
-use Rattle.fy_expand.specs.Built.{item_of, last_joined}
+use Rattle.fy_expand.specs.Built.{last_joined}
 use Rattle.fy_expand.proofs.HalvesLemmas.{by_halves-two}
-
--- the last item alone
-pub joined-one : (at : Place) (xs : List built.Item) (d : built.Item) → 1 ≤ length xs → item_of (get_or xs (length xs - 1) d) ≡ last_joined at 1 (map item_of xs)
-joined-one at xs d some =
-    let i = length xs - 1 in
-    let join : List Item → Item = λ zs. by_halves one_after (no_item at) 1 zs in
-    let fits : i + 1 ≡ length xs = omega arith in
-    let split : drop i xs ≡ get_or xs i d ∷ [] = drop_more xs i d (omega arith) ∙ ap (λ zs. get_or xs i d ∷ zs) (drop_all (i + 1) xs (omega arith)) in
-    sym (ap (λ m. join (drop (m - 1) (map item_of xs))) (length-map xs item_of) ∙ ap join (drop-map item_of i xs) ∙ ap (λ zs. join (map item_of zs)) split)
 
 -- the last items in two groups
 pub joined-two : (at : Place) (xs : List Item) (c : ℕ) → 2 ≤ c → c ≤ length xs →
@@ -37,5 +27,3 @@ joined-two at xs c two fits =
     ∙ ap (λ m. one_after (join (m / 2) (take (m / 2) ys)) (join (m - m / 2) (drop (m / 2) ys))) (sym len)
     ∙ sym (by_halves-two one_after (no_item at) ys (omega arith))
     ∙ ap (λ m. join m ys) len
-
-pub ruleset joins = (joined-one, joined-two)

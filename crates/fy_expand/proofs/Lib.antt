@@ -3,7 +3,6 @@ pub mod MeasureLemmas
 pub mod NestingLemmas
 pub mod TypeLemmas
 pub mod HalvesLemmas
-pub mod LimitLemmas
 pub mod MeasureVisits
 pub mod MeasureHalves
 pub mod ScopeWeights
@@ -13,6 +12,7 @@ pub mod MadeLemmas
 pub mod SpelledLemmas
 pub mod ExpansionLemmas
 pub mod JoinLemmas
+pub mod JudgedLemmas
 pub mod ShallowLemmas
 pub mod PartLemmas
 pub mod FaultLemmas

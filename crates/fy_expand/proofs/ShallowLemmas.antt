@@ -7,10 +7,10 @@ use Rattle.fy_syntax.specs.Trees.{Defs, Links}
 use Rattle.fy_syntax.specs.Trees as written
 use Rattle.fy_phrase.specs.Tree.{Tree, Trees, sel}
 use Rattle.fy_expand.specs.Scope.{Scope, behind, depth_under, under_defs}
-use Rattle.fy_expand.specs.Core.{core, linked, applied, merged, lets, with_fields, prefixed, selected, sequence, Item, one_after, no_item, by_halves, indexed}
-use Rattle.fy_expand.specs.Sizes.{nesting, parts_nesting}
+use Rattle.fy_expand.specs.Core.{core, linked, applied, lets, prefixed, selected, sequence, Item, one_after, no_item, by_halves}
+use Rattle.fy_expand.specs.Sizes.{nesting}
 use Rattle.fy_expand.specs.Built.{IsShallow, items_nesting}
-use Rattle.fy_expand.proofs.NestingLemmas.{nesting-linked, nesting-applied, nesting-merged, nesting-with_fields}
+use Rattle.fy_expand.proofs.NestingLemmas.{nesting-linked, nesting-applied}
 
 nesting-lets : (s : Scope) (at : Place) (defs : Defs) (body : Tree) → depth_under s.depth defs + nesting body ≤ s.depth + nesting (lets s at defs body)
 nesting-lets s at Defs.no_defs body = omega arith
@@ -58,15 +58,6 @@ shallow-linked s p links h = let k = nesting-linked s p links in record { bound 
 
 pub shallow-applied : (s : Scope) (at : Place) (p : Tree) (arguments : written.Trees) → IsShallow s (applied s at p arguments) → IsShallow s p
 shallow-applied s at p arguments h = let k = nesting-applied s at p arguments in record { bound = omega arith }
-
-pub shallow-merged : (s : Scope) (at : Place) (p : Tree) (members : written.Trees) → IsShallow s (merged s at p members) → IsShallow s p
-shallow-merged s at p members h = let k = nesting-merged s at p members in record { bound = omega arith }
-
-pub shallow-with_fields : (s : Scope) (at : Place) (p : Tree) (defs : Defs) → IsShallow s (with_fields s at p defs) → IsShallow s p
-shallow-with_fields s at p defs h = let k = nesting-with_fields s at p defs in record { bound = omega arith }
-
-pub shallow-parts : (s : Scope) (d : ℕ) (at : Place) (n : ℕ) (parts : Trees) → IsShallow s (indexed d at n parts) → suc s.depth + parts_nesting parts ≤ 1024
-shallow-parts s d at n parts h = omega arith
 
 -- the body of a `let`
 pub shallow-let : (s : Scope) (at : Place) (defs : Defs) (body : written.Tree) → IsShallow s (lets s at defs (core (under_defs defs s) body)) → IsShallow (under_defs defs s) (core (under_defs defs s) body)

@@ -1,10 +1,9 @@
 -- The core phrase that is meant by a written one: rules 1 to 9 of expansion. Where a fault stands, nothing is meant, and some phrase stands in.
-use Rattle.std.specs.Prelude.{ℕ, zero, suc, ◌-◌, ◌/◌, ℤ, pos, negsuc, Bool, Option, Some, None, List, [], ◌∷◌, length, take, drop}
+use Rattle.std.specs.Prelude.{ℕ, zero, suc, ◌-◌, ◌/◌, pos, negsuc, Option, Some, None, List, [], ◌∷◌, length, take, drop}
 use Rattle.fy_base.specs.Outside.{Bytes}
 use Rattle.fy_base.specs.declared.data.Place.{Place}
 use Rattle.fy_base.specs.declared.data.Datum.TheVariants as datum
 use Rattle.fy_base.specs.declared.data.UnOp.TheVariants as unary_op
-use Rattle.fy_base.specs.declared.data.PutKind.{PutKind}
 use Rattle.fy_base.specs.declared.data.PutKind.TheVariants as kind
 use Rattle.fy_types.specs.declared.types.Atom.{Atom}
 use Rattle.fy_types.specs.declared.types.Atom.TheVariants as atom

@@ -1,6 +1,6 @@
 -- How a text is judged: its core phrase, or the refusal of the first stage that refuses. The stages are its length, its tokens, its syntax
 -- and nesting, its expansion, and the core limits.
-use Rattle.std.specs.Prelude.{◌≡◌, ◌≢◌, ◌<◌, ◌≤◌, Result, Ok, Err, List, [], ◌∷◌, length}
+use Rattle.std.specs.Prelude.{◌≡◌, ◌≢◌, ◌<◌, ◌≤◌, Result, Ok, Err, List, length, ◌⊎◌}
 use Rattle.std.specs.List.{Any}
 use Rattle.fy_base.specs.Outside.{Bytes}
 use Rattle.fy_base.specs.declared.data.Place.{Place}
@@ -56,3 +56,15 @@ pub data IsJudged : Bytes → Result Tree Refusal → Type 0 where
       IsAllowed tokens tree → core_of tree ≡ Err e → IsJudged text (Err (expansion_refused e))
   expanded : {text : Bytes} {tokens : List Token} {tree : written.Tree} {p : Tree} → HasTokens text tokens →
       IsAllowed tokens tree → core_of tree ≡ Ok p → IsJudged text (Ok p)
+
+-- the refusal is of the syntax with its nesting, whose place is that of some token
+abbrev pub IsOfSyntax : Refusal → Type 0
+IsOfSyntax length_refused = ⊥
+IsOfSyntax (tokens_refused error) = ⊥
+IsOfSyntax (syntax_refused place) = Unit {0}
+IsOfSyntax (depth_refused place) = Unit {0}
+IsOfSyntax (expansion_refused error) = ⊥
+
+-- two refusals are the same, or both are of the syntax with its nesting
+abbrev pub AreAlike : Refusal → Refusal → Type 0
+AreAlike why other = (why ≡ other) ⊎ (IsOfSyntax why × IsOfSyntax other)

@@ -1,5 +1,5 @@
 -- What names stand for at a place of a program.
-use Rattle.std.specs.Prelude.{ℕ, suc, Option, Some, None, List, [], ◌∷◌}
+use Rattle.std.specs.Prelude.{ℕ, suc, Option, None, List, [], ◌∷◌}
 use Rattle.fy_types.specs.Types.{PlainType}
 use Rattle.fy_syntax.specs.Trees.{TypeTree, DeclTree, Defs}
 use Rattle.fy_expand.specs.declared.frame.Standing.{Standing}

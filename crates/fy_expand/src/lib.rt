@@ -6,12 +6,14 @@ mod check;
 mod error;
 mod expansion;
 mod frame;
+mod laws;
 mod size;
 mod types;
 mod visit;
 
 pub use error::ExpandError;
 pub use expansion::expand;
+pub use laws::texts_are_judged_one_way;
 pub use visit::visits;
 
 #[cfg(test)]

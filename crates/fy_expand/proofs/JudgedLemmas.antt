@@ -1,0 +1,125 @@
+-- A text is judged one way.
+use Rattle.std.proofs.Common.{◌≡◌, ◌≢◌, ◌<◌, ◌≤◌, List, refl, sym, ap, subst, ◌∙◌, arith, inl, inr, length}
+use Rattle.std.specs.Prelude.{Result, Ok, Err}
+use Rattle.fy_base.specs.Outside.{Bytes}
+use Rattle.fy_types.specs.Names.{first_names}
+use Rattle.fy_lexer.specs.declared.error.LexError.{LexError}
+use Rattle.fy_lexer.specs.declared.error.LexError.TheVariants.{OutOfMemory}
+use Rattle.fy_lexer.specs.declared.token.Token.{Token}
+use Rattle.fy_lexer.specs.Tokens.{IsFaultOf}
+use Rattle.fy_lexer.proofs.UniqueLemmas.{tokens_same, faults_same, tokens_or_fault}
+use Rattle.fy_syntax.specs.Trees as written
+use Rattle.fy_syntax.proofs.Unique.{unambiguous}
+use Rattle.fy_phrase.specs.Tree.{Tree}
+use Rattle.fy_expand.specs.declared.error.ExpandError.{ExpandError}
+use Rattle.fy_expand.specs.Expansion.{core_of}
+use Rattle.fy_expand.specs.Judged.{Refusal, length_refused, tokens_refused, syntax_refused, depth_refused, expansion_refused, HasTokens, IsAllowed, IsJudged, too_long, no_tokens, no_program, too_deep, not_expanded, expanded, AreAlike}
+
+-- the text has a program of this core
+record HasCore (text : Bytes) (result : Result Tree ExpandError) : Type 0 where
+  tokens : List Token
+  tree : written.Tree
+  read : HasTokens text tokens
+  allowed : IsAllowed tokens tree
+  is : core_of tree ≡ result
+
+-- the text has tokens, which no allowed program has
+record HasNoTree (text : Bytes) : Type 0 where
+  tokens : List Token
+  read : HasTokens text tokens
+  none : (tree : written.Tree) → ¬ IsAllowed tokens tree
+
+record HasFault (text : Bytes) (error : LexError) : Type 0 where
+  short : length text ≤ 1048576
+  fault : IsFaultOf first_names text error
+  told : error ≢ OutOfMemory
+
+abbrev Meaning : Bytes → Refusal → Type 0
+Meaning text length_refused = 1048576 < length text
+Meaning text (tokens_refused e) = HasFault text e
+Meaning text (syntax_refused at) = HasNoTree text
+Meaning text (depth_refused at) = HasNoTree text
+Meaning text (expansion_refused e) = HasCore text (Err e)
+
+core : (text : Bytes) (p : Tree) → IsJudged text (Ok p) → HasCore text (Ok p)
+core text p (expanded h a e) = record { tokens = _; tree = _; read = h; allowed = a; is = e }
+
+meaning : (text : Bytes) (why : Refusal) → IsJudged text (Err why) → Meaning text why
+meaning text why (too_long l) = l
+meaning text why (no_tokens l f m) = record { short = l; fault = f; told = m }
+meaning text why (no_program h n i) = record { tokens = _; read = h; none = n }
+meaning text why (too_deep h n i) = record { tokens = _; read = h; none = n }
+meaning text why (not_expanded h a e) = record { tokens = _; tree = _; read = h; allowed = a; is = e }
+
+same_tokens : (text : Bytes) (ts us : List Token) → HasTokens text ts → HasTokens text us → ts ≡ us
+same_tokens text ts us h k = (tokens_same first_names text ts us h.after k.after h.read k.read).0
+
+same_result : (text : Bytes) (a b : Result Tree ExpandError) → HasCore text a → HasCore text b → a ≡ b
+same_result text a b h k =
+    let e = same_tokens text h.tokens k.tokens h.read k.read in
+    let t = unambiguous.of_programs k.tokens h.tree k.tree (subst (λ l. IsAllowed l h.tree) e h.allowed).spelled k.allowed.spelled in
+    sym h.is ∙ ap core_of t ∙ k.is
+
+long_core : (text : Bytes) (a : Result Tree ExpandError) → 1048576 < length text → HasCore text a → ⊥
+long_core text a l h = let s = h.read.short in omega (arith, l, s)
+
+long_tree : (text : Bytes) → 1048576 < length text → HasNoTree text → ⊥
+long_tree text l h = let s = h.read.short in omega (arith, l, s)
+
+long_fault : (text : Bytes) (e : LexError) → 1048576 < length text → HasFault text e → ⊥
+long_fault text e l h = let s = h.short in omega (arith, l, s)
+
+fault_read : (text : Bytes) (e : LexError) (ts : List Token) → HasFault text e → HasTokens text ts → ⊥
+fault_read text e ts f h = tokens_or_fault first_names text ts h.after e f.told h.read h.within f.fault
+
+core_tree : (text : Bytes) (a : Result Tree ExpandError) → HasCore text a → HasNoTree text → ⊥
+core_tree text a h k = k.none h.tree (subst (λ l. IsAllowed l h.tree) (same_tokens text h.tokens k.tokens h.read k.read) h.allowed)
+
+same_phrase : (x : Result Tree ExpandError) (a b : Tree) → x ≡ Ok a → x ≡ Ok b → a ≡ b
+same_phrase x a b e f = cc
+
+same_error : (x : Result Tree ExpandError) (a b : ExpandError) → x ≡ Err a → x ≡ Err b → a ≡ b
+same_error x a b e f = cc
+
+pub one_phrase : (text : Bytes) (p q : Tree) → IsJudged text (Ok p) → IsJudged text (Ok q) → p ≡ q
+one_phrase text p q h k = same_phrase (Ok p) p q refl (same_result text (Ok p) (Ok q) (core text p h) (core text q k))
+
+core_or : (text : Bytes) (p : Tree) (why : Refusal) → HasCore text (Ok p) → Meaning text why → ⊥
+core_or text p length_refused h k = long_core text (Ok p) k h
+core_or text p (tokens_refused e) h k = fault_read text e h.tokens k h.read
+core_or text p (syntax_refused at) h k = core_tree text (Ok p) h k
+core_or text p (depth_refused at) h k = core_tree text (Ok p) h k
+core_or text p (expansion_refused e) h k = let s = same_result text (Ok p) (Err e) h k in cc
+
+pub phrase_or_refusal : (text : Bytes) (p : Tree) (why : Refusal) → IsJudged text (Ok p) → IsJudged text (Err why) → ⊥
+phrase_or_refusal text p why h k = core_or text p why (core text p h) (meaning text why k)
+
+alike : (text : Bytes) (why other : Refusal) → Meaning text why → Meaning text other → AreAlike why other
+alike text length_refused length_refused h k = inl refl
+alike text length_refused (tokens_refused f) h k = absurd (long_fault text f h k)
+alike text length_refused (syntax_refused at) h k = absurd (long_tree text h k)
+alike text length_refused (depth_refused at) h k = absurd (long_tree text h k)
+alike text length_refused (expansion_refused f) h k = absurd (long_core text (Err f) h k)
+alike text (tokens_refused e) length_refused h k = absurd (long_fault text e k h)
+alike text (tokens_refused e) (tokens_refused f) h k = inl (ap tokens_refused (faults_same first_names text e f h.told k.told h.fault k.fault))
+alike text (tokens_refused e) (syntax_refused at) h k = absurd (fault_read text e k.tokens h k.read)
+alike text (tokens_refused e) (depth_refused at) h k = absurd (fault_read text e k.tokens h k.read)
+alike text (tokens_refused e) (expansion_refused f) h k = absurd (fault_read text e k.tokens h k.read)
+alike text (syntax_refused at) length_refused h k = absurd (long_tree text k h)
+alike text (syntax_refused at) (tokens_refused f) h k = absurd (fault_read text f h.tokens k h.read)
+alike text (syntax_refused at) (syntax_refused to) h k = inr (tt, tt)
+alike text (syntax_refused at) (depth_refused to) h k = inr (tt, tt)
+alike text (syntax_refused at) (expansion_refused f) h k = absurd (core_tree text (Err f) k h)
+alike text (depth_refused at) length_refused h k = absurd (long_tree text k h)
+alike text (depth_refused at) (tokens_refused f) h k = absurd (fault_read text f h.tokens k h.read)
+alike text (depth_refused at) (syntax_refused to) h k = inr (tt, tt)
+alike text (depth_refused at) (depth_refused to) h k = inr (tt, tt)
+alike text (depth_refused at) (expansion_refused f) h k = absurd (core_tree text (Err f) k h)
+alike text (expansion_refused e) length_refused h k = absurd (long_core text (Err e) k h)
+alike text (expansion_refused e) (tokens_refused f) h k = absurd (fault_read text f h.tokens k h.read)
+alike text (expansion_refused e) (syntax_refused at) h k = absurd (core_tree text (Err e) h k)
+alike text (expansion_refused e) (depth_refused at) h k = absurd (core_tree text (Err e) h k)
+alike text (expansion_refused e) (expansion_refused f) h k = inl (ap expansion_refused (same_error (Err e) e f refl (same_result text (Err e) (Err f) h k)))
+
+pub refusals_alike : (text : Bytes) (why other : Refusal) → IsJudged text (Err why) → IsJudged text (Err other) → AreAlike why other
+refusals_alike text why other h k = alike text why other (meaning text why h) (meaning text other k)
