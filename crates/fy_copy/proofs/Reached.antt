@@ -8,6 +8,7 @@ use Rattle.std.specs.declared.option.Option.{Option}
 use Rattle.fy_base.specs.Outside.{Bytes, IsPrefix, Gave, IsAtEnd, Drew, Gained, GainedPart, appended}
 use Rattle.fy_base.specs.declared.data.Ending.{Ending}
 use Rattle.fy_base.specs.declared.data.Ending.TheVariants as ends
+use Rattle.fy_phrase.specs.Sizes.{fits}
 use Rattle.fy_phrase.specs.Tree.{Tree}
 use Rattle.fy_phrase.specs.Copy as copy
 use Rattle.fy_phrase.specs.Copy.{CopyState, CopyMove, goes, puts, takes, faults, sticks, Standing, going, ended, faulted, stuck, standing_of, copy_step, settled, ticked, tick, after_more, start_run, copy_after, peak_load}
@@ -16,7 +17,7 @@ use Rattle.fy_copy.specs.Moves.{IsTooBig, given}
 use Rattle.fy_copy.specs.Seen.{Seen, WentOn, Waits, Halted, Refused, went_on_with, IsStart}
 use Rattle.fy_copy.specs.declared.state.Phase.TheVariants as phase
 use Rattle.fy_copy.specs.Exchange.{Outer, Exchange, went, wrote, took, was_over, faulted as faulted_by, stuck as stuck_by, refused, unread, unwritten}
-use Rattle.fy_copy.specs.Ends.{IsGoingBelow, StandsAt, EndsSo, HasPut, taken_after, RunsTo, PutsPart, run_at_end}
+use Rattle.fy_copy.specs.Ends.{IsGoingBelow, IsHeldBelow, StandsAt, EndsSo, HasPut, taken_after, RunsTo, DoesPart, run_at_end}
 use Rattle.fy_copy.specs.declared.run.CopyRun.{CopyRun}
 
 -- ---- the output only grows
@@ -99,7 +100,7 @@ part_more before held now output bytes first next = record {
   };
 }
 
-part_longer : (before now : Option Bytes) (short long : Bytes) → GainedPart before now short → IsPrefix short long → GainedPart before now long
+pub part_longer : (before now : Option Bytes) (short long : Bytes) → GainedPart before now short → IsPrefix short long → GainedPart before now long
 part_longer before now short long gained begins = record { part = gained.part; gained = gained.gained; begins = prefix_more gained.part short long gained.begins begins }
 
 gave_none : (left : Option Bytes) → Gave left left []
@@ -121,6 +122,7 @@ pub record Shows (world : copy.CopyRun) (s : CopyState) (input : Bytes) (before 
 
 pub record Stands (p : Tree) (fed : Bytes) (n : ℕ) (s : CopyState) (peak : ℕ) (input : Bytes) (before now : Option Bytes) : Type 0 where
   pub below : IsGoingBelow p fed n
+  pub small : IsHeldBelow p fed n
   pub shows : Shows (copy_after p fed n) s input before now
   pub peak_is : peak ≡ peak_load p fed n
 
@@ -139,6 +141,7 @@ stands_start p fed held =
     let shows : Shows (start_run p fed) (copy.start p) fed held held = record { state_is = refl; standing_is = refl; input_is = refl; output_is = gained_none held } in
     record {
       below = λ k lt. absurd (omega arith);
+      small = λ k lt big. absurd (omega arith);
       shows = let P : copy.CopyRun → Type 0 = λ w. Shows w (copy.start p) fed held held in subst P (sym none) shows;
       peak_is = sym (peak_zero p fed ∙ ap (λ w. w.state.load) none);
     }
@@ -154,11 +157,28 @@ reached_start p s first is fresh = record {
 }
 
 -- below n and at n
-below_next : (p : Tree) (fed : Bytes) (n : ℕ) → IsGoingBelow p fed n → (copy_after p fed n).standing ≡ going → IsGoingBelow p fed (n + 1)
+pub below_next : (p : Tree) (fed : Bytes) (n : ℕ) → IsGoingBelow p fed n → (copy_after p fed n).standing ≡ going → IsGoingBelow p fed (n + 1)
 below_next p fed n below here k lt = elim (cases_lt k n) [
   | inl less ↦ below k less
   | inr more ↦ let last : k ≡ n = omega arith in ap (λ j. (copy_after p fed j).standing) last ∙ here
 ]
+
+pub small_next : (p : Tree) (fed : Bytes) (n : ℕ) → IsHeldBelow p fed n → ¬ IsTooBig (copy_step (copy_after p fed n).state) → IsHeldBelow p fed (n + 1)
+small_next p fed n below here k lt = elim (cases_lt k n) [
+  | inl less ↦ below k less
+  | inr more ↦
+      let last : n ≡ k = omega arith in
+      let P : ℕ → Type 0 = λ j. ¬ IsTooBig (copy_step (copy_after p fed j).state) in
+      subst P last here
+]
+
+-- a focus within the limit doesn't pass it
+within : (b : Bool) → b ≡ true → ¬ (b ≡ false)
+within b is other = absurd (let no : true ≡ false = sym is ∙ other in cc)
+
+-- a move from the state that the run stands in
+small_move : (r : copy.CopyRun) (s : CopyState) (m : CopyMove) → r.state ≡ s → copy_step s ≡ m → ¬ IsTooBig m → ¬ IsTooBig (copy_step r.state)
+small_move r s m state move small = let P : CopyMove → Type 0 = λ x. ¬ IsTooBig x in subst P (sym (ap copy_step state ∙ move)) small
 
 -- the run after a step whose move is known
 ticks : (r : copy.CopyRun) (s : CopyState) (m : CopyMove) → r.state ≡ s → r.standing ≡ standing_of s → standing_of s ≡ going → copy_step s ≡ m → tick r ≡ settled m r
@@ -166,12 +186,13 @@ ticks r s m state standing goes_on move = ap (λ x. ticked x r) (standing ∙ go
 
 -- the run goes on with a step that settles so
 stands_next : (p : Tree) (fed : Bytes) (n : ℕ) (s t : CopyState) (m : CopyMove) (peak : ℕ) (i j : Bytes) (before g h : Option Bytes) → Stands p fed n s peak i before g → standing_of s ≡ going → copy_step s ≡ m
-    → Shows (settled m (copy_after p fed n)) t j before h → Stands p fed (n + 1) t (max peak t.load) j before h
-stands_next p fed n s t m peak i j before g h stands goes_on move shows =
+    → ¬ IsTooBig m → Shows (settled m (copy_after p fed n)) t j before h → Stands p fed (n + 1) t (max peak t.load) j before h
+stands_next p fed n s t m peak i j before g h stands goes_on move small shows =
     let next : copy_after p fed (n + 1) ≡ settled m (copy_after p fed n) = run_more p fed n ∙ ticks (copy_after p fed n) s m stands.shows.state_is stands.shows.standing_is goes_on move in
     let load : (copy_after p fed (n + 1)).state.load ≡ t.load = ap (λ w. w.state.load) next ∙ ap (λ x. x.load) shows.state_is in
     record {
       below = below_next p fed n stands.below (stands.shows.standing_is ∙ goes_on);
+      small = small_next p fed n stands.small (small_move (copy_after p fed n) s m stands.shows.state_is move small);
       shows = let P : copy.CopyRun → Type 0 = λ w. Shows w t j before h in subst P (sym next) shows;
       peak_is = ap (λ k. max k t.load) stands.peak_is ∙ ap (λ k. max (peak_load p fed n) k) (sym load) ∙ sym (peak_more p fed n);
     }
@@ -213,7 +234,7 @@ reached_went p n s t peak first o u reached on same =
       at_end = reached.at_end;
       stands = λ more none.
           let stands = reached.stands more none in
-          stands_next p (reached.given ++ more) n s.state t.state (goes t.state) peak more more first.held o.held o.held stands on.going on.move
+          stands_next p (reached.given ++ more) n s.state t.state (goes t.state) peak more more first.held o.held o.held stands on.going on.move (within (fits t.state.focus) on.held)
           (shows_goes (copy_after p (reached.given ++ more) n) s.state t.state more first.held o.held stands.shows);
     })
 
@@ -227,7 +248,7 @@ reached_wrote p n s t peak text first o u reached on left over gained = record {
   at_end = λ was. let P : Option Bytes → Type 0 = λ x. IsAtEnd x in subst P (sym left) (reached.at_end (sym over ∙ was));
   stands = λ more none.
       let stands = reached.stands more (λ was. none (over ∙ was)) in
-      stands_next p (reached.given ++ more) n s.state t.state (puts text t.state) peak more more first.held o.held u.held stands on.going on.move
+      stands_next p (reached.given ++ more) n s.state t.state (puts text t.state) peak more more first.held o.held u.held stands on.going on.move (within (fits t.state.focus) on.held)
       (shows_puts (copy_after p (reached.given ++ more) n) s.state t.state text more first.held o.held u.held stands.shows gained);
 }
 
@@ -253,7 +274,7 @@ reached_took p n s mid t peak byte first o u reached waits is drew over held = r
       let P : CopyState → Type 0 = λ x. Stands p fed (n + 1) x (max peak x.load) more first.held u.held in
       let Q : Option Bytes → Type 0 = λ x. Shows (settled (takes (given mid.state)) (copy_after p fed n)) (given mid.state byte) more first.held x in
       subst P (ap (λ x. x.state) (sym is))
-      (stands_next p fed n s.state (given mid.state byte) (takes (given mid.state)) peak (option_to_list byte ++ more) more first.held o.held u.held stands waits.going waits.move (subst Q (sym held) shows));
+      (stands_next p fed n s.state (given mid.state byte) (takes (given mid.state)) peak (option_to_list byte ++ more) more first.held o.held u.held stands waits.going waits.move (within (fits mid.state.focus) waits.held) (subst Q (sym held) shows));
 }
 
 pub reached_next : (p : Tree) (n : ℕ) (s t : Seen) (peak : ℕ) (first o u : Outer) → Reached p n s peak first o → Exchange s t o u None → Reached p (n + 1) t (max peak t.state.load) first u
@@ -274,6 +295,7 @@ part_of p fed n limit before now le gained = record { part = (copy_after p fed n
 -- what a run on an input came to
 record RunsOn (p : Tree) (fed : Bytes) (limit : ℕ) (done : CopyRun) (input : Bytes) (before now : Option Bytes) : Type 0 where
   end : EndsSo done.end p fed done.steps limit
+  small : IsHeldBelow p fed done.steps
   peak : done.peak ≡ peak_load p fed (taken_after done.end done.steps)
   pub input_is : (copy_after p fed (taken_after done.end done.steps)).input ≡ input
   output : HasPut done.end before now (copy_after p fed done.steps).output
@@ -286,6 +308,7 @@ runs_to p limit done given left None before now gave on = record {
   fed = given ++ [];
   told = λ bytes is. absurd (let none : Some bytes ≡ None = sym is ∙ gave in cc);
   end = on.end;
+  held = on.small;
   peak = on.peak;
   rest = ap (λ o. option_map (λ _. (copy_after p (given ++ []) (taken_after done.end done.steps)).input) o) (sym gave);
   output = on.output;
@@ -295,6 +318,7 @@ runs_to p limit done given left (Some rest) before now gave on = record {
   fed = given ++ rest;
   told = λ bytes is. let same : Some (given ++ rest) ≡ Some bytes = sym gave ∙ is in cc;
   end = on.end;
+  held = on.small;
   peak = on.peak;
   rest = ap (λ b. Some b) (sym on.input_is) ∙ ap (λ o. option_map (λ _. (copy_after p (given ++ rest) (taken_after done.end done.steps)).input) o) (sym gave);
   output = on.output;
@@ -314,6 +338,7 @@ runs_spent p n limit s peak first o same reached goes_on =
     let stands = here p limit s peak first o all in
     runs_to p limit (record { end = ends.Spent; steps = limit; peak = peak }) all.given first.left o.left first.held o.held all.gave (record {
       end = record { all = refl; going = record { below = stands.below; here = stands.shows.standing_is ∙ goes_on } };
+      small = stands.small;
       peak = stands.peak_is;
       input_is = stands.shows.input_is;
       output = stands.shows.output_is;
@@ -327,6 +352,7 @@ runs_ended p n limit s peak first o le reached over =
     let stands = here p n s peak first o reached in
     runs_to p limit (record { end = ends.Ended; steps = n; peak = peak }) reached.given first.left o.left first.held o.held reached.gave (record {
       end = record { below = stands.below; here = stands.shows.standing_is ∙ over };
+      small = stands.small;
       peak = stands.peak_is;
       input_is = stands.shows.input_is;
       output = stands.shows.output_is;
@@ -346,6 +372,7 @@ runs_big p n limit s t peak first o le reached big =
     let P : CopyState → Type 0 = λ x. IsTooBig (copy_step x) in
     runs_to p limit (record { end = ends.TooBig; steps = n; peak = peak }) reached.given first.left o.left first.held o.held reached.gave (record {
       end = record { going = record { below = stands.below; here = stands.shows.standing_is ∙ big.going }; big = subst P (sym stands.shows.state_is) big.big };
+      small = stands.small;
       peak = stands.peak_is;
       input_is = stands.shows.input_is;
       output = stands.shows.output_is;
@@ -354,8 +381,8 @@ runs_big p n limit s t peak first o le reached big =
 
 runs_halted : (end : Ending) (m : CopyMove) (standing : Standing) (p : Tree) (n limit : ℕ) (s t : Seen) (peak : ℕ) (first o : Outer) → ((r : copy.CopyRun) → settled m r ≡ record r { standing = standing })
     → ((fed : Bytes) → StandsAt p fed (n + 1) standing → EndsSo end p fed (n + 1) limit) → taken_after end (n + 1) ≡ n + 1 → ((before now : Option Bytes) (output : Bytes) → Gained before now output → HasPut end before now output)
-    → n + 1 ≤ limit → Reached p n s peak first o → Halted s t m → RunsTo p limit (record { end = end; steps = n + 1; peak = peak }) first.left o.left first.held o.held
-runs_halted end m standing p n limit s t peak first o leaves ends_so taken has_put le reached halted =
+    → ¬ IsTooBig m → n + 1 ≤ limit → Reached p n s peak first o → Halted s t m → RunsTo p limit (record { end = end; steps = n + 1; peak = peak }) first.left o.left first.held o.held
+runs_halted end m standing p n limit s t peak first o leaves ends_so taken has_put held le reached halted =
     let stands = here p n s peak first o reached in
     let fed = reached.given ++ unwrap_or o.left [] in
     let next : copy_after p fed (n + 1) ≡ record (copy_after p fed n) { standing = standing } =
@@ -368,6 +395,7 @@ runs_halted end m standing p n limit s t peak first o leaves ends_so taken has_p
     let same : peak ≡ peak_load p fed (n + 1) = omega arith in
     runs_to p limit (record { end = end; steps = n + 1; peak = peak }) reached.given first.left o.left first.held o.held reached.gave (record {
       end = ends_so fed (record { below = below_next p fed n stands.below (stands.shows.standing_is ∙ halted.going); here = ap (λ w. w.standing) next });
+      small = small_next p fed n stands.small (small_move (copy_after p fed n) s.state m stands.shows.state_is halted.move held);
       peak = same ∙ ap (λ k. peak_load p fed k) (sym taken);
       input_is = ap (λ k. (copy_after p fed k).input) taken ∙ ap (λ w. w.input) next ∙ stands.shows.input_is;
       output = has_put first.held o.held (copy_after p fed (n + 1)).output output;
@@ -392,6 +420,7 @@ runs_unread p n limit s mid peak first o le reached waits =
         go = given mid.state;
         asks = ap (λ k. copy_step (copy_after p fed k).state) (sym same) ∙ asks;
       };
+      small = small_next p fed n stands.small (small_move (copy_after p fed n) s.state (takes (given mid.state)) stands.shows.state_is waits.move (within (fits mid.state.focus) waits.held));
       peak = stands.peak_is ∙ ap (λ k. peak_load p fed k) same;
       input_is = ap (λ k. (copy_after p fed k).input) (sym same) ∙ stands.shows.input_is;
       output = output;
@@ -421,6 +450,7 @@ runs_unwritten p n limit s t peak text first o u le reached on left gained =
         then_state = t.state;
         puts = ap (λ k. copy_step (copy_after p fed k).state) (sym same) ∙ puts_text;
       };
+      small = small_next p fed n stands.small (small_move (copy_after p fed n) s.state (puts text t.state) stands.shows.state_is on.move (within (fits t.state.focus) on.held));
       peak = ap (λ k. max k t.state.load) stands.peak_is ∙ ap (λ k. max (peak_load p fed n) k) (sym load) ∙ sym (peak_more p fed n);
       input_is = ap (λ w. w.input) next ∙ stands.shows.input_is;
       output = output;
@@ -438,10 +468,10 @@ runs_end ends.Ended p n limit s t peak first o u lt reached (was_over over same)
     unchanged p limit (record { end = ends.Ended; steps = n; peak = peak }) first o u same (runs_ended p n limit s peak first o (omega arith) reached over.over)
 runs_end (ends.Fault kind at) p n limit s t peak first o u lt reached (faulted_by _ _ halted same) =
     unchanged p limit (record { end = ends.Fault kind at; steps = n + 1; peak = peak }) first o u same
-    (runs_halted (ends.Fault kind at) (faults kind at) (faulted kind at) p n limit s t peak first o (λ r. refl) (λ fed stands. stands) refl (λ before now output gained. gained) (omega arith) reached halted)
+    (runs_halted (ends.Fault kind at) (faults kind at) (faulted kind at) p n limit s t peak first o (λ r. refl) (λ fed stands. stands) refl (λ before now output gained. gained) (λ big. big) (omega arith) reached halted)
 runs_end ends.Stuck p n limit s t peak first o u lt reached (stuck_by halted same) =
     unchanged p limit (record { end = ends.Stuck; steps = n + 1; peak = peak }) first o u same
-    (runs_halted ends.Stuck sticks stuck p n limit s t peak first o (λ r. refl) (λ fed stands. stands) refl (λ before now output gained. gained) (omega arith) reached halted)
+    (runs_halted ends.Stuck sticks stuck p n limit s t peak first o (λ r. refl) (λ fed stands. stands) refl (λ before now output gained. gained) (λ big. big) (omega arith) reached halted)
 runs_end ends.TooBig p n limit s t peak first o u lt reached (refused big same) =
     unchanged p limit (record { end = ends.TooBig; steps = n; peak = peak }) first o u same (runs_big p n limit s t peak first o (omega arith) reached big)
 runs_end ends.InputFault p n limit s t peak first o u lt reached (unread mid waits same) =
@@ -454,15 +484,23 @@ runs_end ends.Gone p n limit s t peak first o u lt reached x = elim x [ ]
 runs_end (ends.Trap _) p n limit s t peak first o u lt reached x = elim x [ ]
 
 -- no memory was found at some step
-pub puts_part : (p : Tree) (n limit : ℕ) (s : Seen) (peak : ℕ) (first o : Outer) (now : Option Bytes) → n ≤ limit → Reached p n s peak first o → now ≡ o.held → PutsPart p limit first.left first.held now
-puts_part p n limit s peak first o now le reached same =
+pub does_part : (p : Tree) (n limit : ℕ) (s : Seen) (peak : ℕ) (first o : Outer) (left now : Option Bytes) → n ≤ limit → Reached p n s peak first o → left ≡ o.left → now ≡ o.held
+    → DoesPart p limit first.left left first.held now
+does_part p n limit s peak first o left now le reached untaken same =
     let stands = here p n s peak first o reached in
     let fed = reached.given ++ unwrap_or o.left [] in
-    let P : Option Bytes → Type 0 = λ x. GainedPart first.held x (copy_after p fed limit).output in
+    let P : Option Bytes → Type 0 = λ x. Gained first.held x (copy_after p fed n).output in
+    let G : Option Bytes → Type 0 = λ x. Gave first.left x reached.given in
     record {
       fed = fed;
       told = told_of reached.given first.left o.left reached.gave;
-      part = subst P (sym same) (part_of p fed n limit first.held o.held le stands.shows.output_is);
+      taken = reached.given;
+      gave = subst G (sym untaken) reached.gave;
+      made = n;
+      within = le;
+      going = stands.below;
+      held = stands.small;
+      output = subst P (sym same) stands.shows.output_is;
     }
   where
     told_of : (given : Bytes) (left left_now : Option Bytes) → Gave left left_now given → ForSome left (λ bytes. given ++ unwrap_or left_now [] ≡ bytes)

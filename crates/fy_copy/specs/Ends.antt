@@ -1,8 +1,8 @@
 -- How a run of the copy rule over a source and a sink ends.
-use Rattle.std.specs.Prelude.{◌≡◌, ℕ, ◌+◌, ◌-◌, ◌<◌, max}
+use Rattle.std.specs.Prelude.{◌≡◌, ℕ, ◌+◌, ◌-◌, ◌<◌, ◌≤◌, max}
 use Rattle.std.specs.Option.{option_map, ForSome}
 use Rattle.std.specs.declared.option.Option.{Option}
-use Rattle.fy_base.specs.Outside.{Bytes, Gained, GainedPart}
+use Rattle.fy_base.specs.Outside.{Bytes, Gave, Gained, GainedPart}
 use Rattle.fy_base.specs.declared.data.Ending.{Ending}
 use Rattle.fy_base.specs.declared.data.Ending.TheVariants as ends
 use Rattle.fy_phrase.specs.Tree.{Tree}
@@ -13,6 +13,10 @@ use Rattle.fy_copy.specs.declared.run.CopyRun.{CopyRun}
 -- a run goes on after each count of steps below n
 abbrev pub IsGoingBelow : Tree → Bytes → ℕ → Type 0
 IsGoingBelow p input n = (k : ℕ) → k < n → (copy_after p input k).standing ≡ going
+
+-- none of the first n steps of a run leads to a focus that passes the limit on held phrases
+abbrev pub IsHeldBelow : Tree → Bytes → ℕ → Type 0
+IsHeldBelow p input n = (k : ℕ) → k < n → ¬ IsTooBig (copy_step (copy_after p input k).state)
 
 -- a run goes on below n steps, and stands so after n
 pub record StandsAt (p : Tree) (input : Bytes) (n : ℕ) (standing : Standing) : Type 0 where
@@ -68,22 +72,30 @@ HasPut ends.OutputFault before now output = GainedPart before now output
 HasPut _ before now output = Gained before now output
 
 -- what a run of at most so many steps came to, told by an input that explains it, which is what was left at the source
--- where that is told: its end, its greatest load, what is left then, and what the sink gained, which is a beginning of
--- all that the phrase puts within the limit
+-- where that is told: its end, before which no focus passed the limit on held phrases, its greatest load, what is left
+-- then, and what the sink gained, which is a beginning of all that the phrase puts within the limit
 pub record RunsTo (p : Tree) (limit : ℕ) (done : CopyRun) (left left_now before now : Option Bytes) : Type 0 where
   pub fed : Bytes
   pub told : ForSome left (λ bytes. fed ≡ bytes)
   pub end : EndsSo done.end p fed done.steps limit
+  pub held : IsHeldBelow p fed done.steps
   pub peak : done.peak ≡ peak_load p fed (taken_after done.end done.steps)
   pub rest : left_now ≡ option_map (λ _. (copy_after p fed (taken_after done.end done.steps)).input) left
   pub output : HasPut done.end before now (copy_after p fed done.steps).output
   pub part : GainedPart before now (copy_after p fed limit).output
 
--- what a run put that found no memory: a beginning of all that the phrase puts within the limit
-pub record PutsPart (p : Tree) (limit : ℕ) (left before now : Option Bytes) : Type 0 where
+-- what a run took and put that found no memory at some step within the limit: bytes that were left first, and what was put by the steps
+-- before that one, none of which led to a focus that passes the limit on held phrases
+pub record DoesPart (p : Tree) (limit : ℕ) (left left_now before now : Option Bytes) : Type 0 where
   pub fed : Bytes
   pub told : ForSome left (λ bytes. fed ≡ bytes)
-  pub part : GainedPart before now (copy_after p fed limit).output
+  pub taken : Bytes
+  pub gave : Gave left left_now taken
+  pub made : ℕ
+  pub within : made ≤ limit
+  pub going : IsGoingBelow p fed made
+  pub held : IsHeldBelow p fed made
+  pub output : Gained before now (copy_after p fed made).output
 
 -- the ends that a run of the copy rule has
 abbrev pub IsCopyEnd : Ending → Type 0

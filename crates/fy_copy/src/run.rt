@@ -5,7 +5,7 @@ ghost use Rattle.fy_base.specs.Outside.{IsAtEnd, Rose};
 ghost use Rattle.fy_phrase.specs.Reads.{reads};
 ghost use Rattle.fy_phrase.specs.Sizes.{depth};
 ghost use Rattle.fy_copy.specs.Exchange.{Exchange};
-ghost use Rattle.fy_copy.specs.Ends.{IsCopyEnd, PutsPart, RunsTo, run_at_end};
+ghost use Rattle.fy_copy.specs.Ends.{IsCopyEnd, DoesPart, RunsTo, run_at_end};
 ghost use Rattle.fy_copy.specs.Seen.{seen};
 
 use crate::copier::{give, is_over, load_of, start, step};
@@ -37,7 +37,8 @@ fn turn<I: Source, O: Sink>(
     requires at_end { IsTrue over.old → IsAtEnd (I.left input.old) }
     ensures did { IfOk result (λ end. Exchange (seen state.old) (seen state.new)
         (record { left = I.left input.old; over = over.old; held = O.held output.old }) (record { left = I.left input.new; over = over.new; held = O.held output.new }) end) }
-    ensures memory { OnErr result (O.held output.new ≡ O.held output.old) }
+    ensures unread { OnErr result (I.left input.new ≡ I.left input.old) }
+    ensures unwritten { OnErr result (O.held output.new ≡ O.held output.old) }
     ensures end { IfOk result (λ end. IfSome end IsCopyEnd) }
     ensures input_fault { IfOk result (λ end. end ≡ Some Ending.InputFault → Rose (I.faults input.old) (I.faults input.new)) }
     ensures output_fault { IfOk result (λ end. end ≡ Some Ending.OutputFault → Rose (O.faults output.old) (O.faults output.new)) }
@@ -100,7 +101,8 @@ fn run_ended(end: Ending, k: u64, peak: u64, load: u64) -> CopyRun
 ///
 /// # Errors
 ///
-/// After want of memory what was put is a beginning of what is due.
+/// After want of memory what was put is what the steps that were made put, so a beginning of what is
+/// due, and what was taken are the first bytes that were left.
 pub fn run_copy<I: Source, O: Sink>(
     alloc: Global,
     p: &Phrase,
@@ -112,7 +114,7 @@ pub fn run_copy<I: Source, O: Sink>(
     requires steps { steps ≤ 1000000000000 }
     ensures steps { IfOk result (λ done. done.steps ≤ steps) }
     ensures did { IfOk result (λ done. RunsTo (reads p.now) steps done (I.left input.old) (I.left input.new) (O.held output.old) (O.held output.new)) }
-    ensures memory { OnErr result (PutsPart (reads p.now) steps (I.left input.old) (O.held output.old) (O.held output.new)) }
+    ensures memory { OnErr result (DoesPart (reads p.now) steps (I.left input.old) (I.left input.new) (O.held output.old) (O.held output.new)) }
     ensures end { IfOk result (λ done. IsCopyEnd done.end) }
     ensures too_big { IfOk result (λ done. done.end ≡ Ending.TooBig → done.steps < steps) }
     ensures input_fault { IfOk result (λ done. done.end ≡ Ending.InputFault → Rose (I.faults input.old) (I.faults input.new)) }

@@ -8,10 +8,10 @@ use Rattle.fy_phrase.specs.Copy.{start}
 use Rattle.fy_phrase.specs.Reads.{reads}
 use Rattle.fy_copy.specs.Seen.{Seen, seen}
 use Rattle.fy_copy.specs.Exchange.{Outer, Exchange}
-use Rattle.fy_copy.specs.Ends.{PutsPart, RunsTo, run_at_end}
+use Rattle.fy_copy.specs.Ends.{DoesPart, RunsTo, run_at_end}
 use Rattle.fy_copy.specs.declared.run.CopyRun.{CopyRun}
 use Rattle.fy_copy.specs.declared.state.Phase.TheVariants as phase
-use Rattle.fy_copy.proofs.Reached.{Reached, reached_start, reached_next, runs_end, runs_over, runs_spent, puts_part}
+use Rattle.fy_copy.proofs.Reached.{Reached, reached_start, reached_next, runs_end, runs_over, runs_spent, does_part}
 use Rattle.fy_copy.proofs.run.run_copy.Goals as goal
 
 on_err : {T E : Type 0} (r : Result T E) (P : Type 0) → P → OnErr r P
@@ -23,16 +23,17 @@ returns-in_err-state-clause-memory g c =
     let p : Tree = reads c.args.p.now in
     let fresh : Seen = record { state = start p; steps = 0; phase = phase.Going } in
     let o : Outer = record { left = g.I.Source.left c.args.input.now; over = false; held = g.O.Sink.held c.args.output.now } in
-    on_err c.from_residual.result (PutsPart p c.args.steps o.left o.held o.held) (puts_part p 0 c.args.steps fresh 0 o o o.held (omega arith) (reached_start p fresh o refl refl) refl)
+    on_err c.from_residual.result (DoesPart p c.args.steps o.left o.left o.held o.held) (does_part p 0 c.args.steps fresh 0 o o o.left o.held (omega arith) (reached_start p fresh o refl refl) refl refl)
 
 pub loop-k-init : goal.loop-k-init
 loop-k-init g c = record { reached = reached_start _ _ _ c.in_ok-state.ensures refl; input_later = omega arith; output_later = omega arith }
 
 pub returns-in_err-end-clause-memory : goal.returns-in_err-end-clause-memory
 returns-in_err-end-clause-memory g c =
+    let left : Option (List ℕ) = g.I.Source.left c.turn.new.input in
     let now : Option (List ℕ) = g.O.Sink.held c.turn.new.output in
-    on_err c.from_residual-in_err-end.result (PutsPart (reads c.args.p.now) c.args.steps (g.I.Source.left c.args.input.now) (g.O.Sink.held c.args.output.now) now)
-    (puts_part _ c.loop-k.k c.args.steps _ _ _ _ now (omega arith) c.loop-k.invariant.reached c.in_err-end.ensures.memory)
+    on_err c.from_residual-in_err-end.result (DoesPart (reads c.args.p.now) c.args.steps (g.I.Source.left c.args.input.now) left (g.O.Sink.held c.args.output.now) now)
+    (does_part _ c.loop-k.k c.args.steps _ _ _ _ left now (omega arith) c.loop-k.invariant.reached c.in_err-end.ensures.unread c.in_err-end.ensures.unwritten)
 
 pub returns-in-Some-clause-did : goal.returns-in-Some-clause-did
 returns-in-Some-clause-did g c =
