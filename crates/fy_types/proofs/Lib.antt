@@ -13,4 +13,5 @@ pub mod BoundLemmas
 pub mod KeepLemmas
 pub mod CommonLemmas
 pub mod NameLemmas
+pub mod NestLemmas
 pub mod PrintLemmas

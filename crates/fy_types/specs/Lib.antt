@@ -11,5 +11,6 @@ pub mod Bounds
 pub mod Keeping
 pub mod Merging
 pub mod Names
+pub mod Nested
 pub mod Words
 pub mod Print

@@ -1,6 +1,9 @@
 //! The type of a path form.
 
-ghost use Rattle.std.specs.Prelude.{◌≡◌, IfOk, map};
+ghost use Rattle.std.specs.Prelude.{◌≡◌, ◌+◌, ◌*◌, ◌≤◌, max, IfOk, map};
+ghost use Rattle.fy_types.specs.Keeping.{elem_nesting};
+ghost use Rattle.fy_types.specs.Limits.{all_nesting, nesting as nesting_of};
+ghost use Rattle.fy_types.specs.Nested.{type_nesting, types_nesting};
 ghost use Rattle.fy_types.specs.Paths.{no_paths, and_path, paths, all_paths};
 ghost use Rattle.fy_types.specs.Reading.{plain_type, plain_types, plain_elem, plain_path, plain_paths, paths_from, all_front};
 
@@ -12,7 +15,8 @@ use std::alloc::Global;
 /// A type with these paths, in this order.
 #[cycle(back)]
 pub fn ty_of(alloc: Global, form: &Paths) -> Result<Ty, OutOfMemory>
-    ensures { IfOk result (λ ty. paths (plain_type ty) ≡ plain_paths form.now) }
+    ensures made { IfOk result (λ ty. paths (plain_type ty) ≡ plain_paths form.now) }
+    ensures nesting { IfOk result (λ ty. type_nesting (plain_type ty) ≤ 2 * all_nesting (plain_paths form.now) + 1) }
 {
     let list = form.as_slice();
     match list {
@@ -24,7 +28,9 @@ pub fn ty_of(alloc: Global, form: &Paths) -> Result<Ty, OutOfMemory>
 
 #[cycle(back)]
 fn types_of(alloc: Global, list: &[Path]) -> Result<TyList, OutOfMemory>
-    ensures { IfOk result
+    ensures nesting { IfOk result
+        (λ all. types_nesting (plain_types all) ≤ 2 * all_nesting (paths_from (map plain_path list.now))) }
+    ensures made { IfOk result
         (λ all. all_paths (plain_types all) ≡ paths_from (map plain_path list.now)) }
 {
     let mut all = TyList::new(alloc);
@@ -36,7 +42,8 @@ fn types_of(alloc: Global, list: &[Path]) -> Result<TyList, OutOfMemory>
 
 #[cycle(back)]
 fn ty_of_path(alloc: Global, path: &Path) -> Result<Ty, OutOfMemory>
-    ensures { IfOk result (λ ty. paths (plain_type ty) ≡ and_path (plain_path path.now) no_paths) }
+    ensures nesting { IfOk result (λ ty. type_nesting (plain_type ty) ≤ 2 * nesting_of (plain_path path.now)) }
+    ensures made { IfOk result (λ ty. paths (plain_type ty) ≡ and_path (plain_path path.now) no_paths) }
 {
     let elems = path.elems.as_slice();
     let mut ty = Ty::Atom(path.end);
@@ -48,7 +55,9 @@ fn ty_of_path(alloc: Global, path: &Path) -> Result<Ty, OutOfMemory>
 
 #[cycle(back)]
 fn ty_behind(alloc: Global, elem: &PathElem, rest: Ty) -> Result<Ty, OutOfMemory>
-    ensures { IfOk result
+    ensures nesting { IfOk result
+        (λ ty. type_nesting (plain_type ty) ≤ max (2 * elem_nesting (plain_elem elem.now) + 1) (type_nesting (plain_type rest)) + 1) }
+    ensures made { IfOk result
         (λ ty. paths (plain_type ty) ≡ all_front (plain_elem elem.now) (paths (plain_type rest))) }
 {
     match elem {

@@ -29,6 +29,3 @@ pub use paths::{ElemList, Path, PathElem, Paths};
 pub use print::print_ty;
 pub use subtype::{is_end_below, is_subtype};
 pub use types::{Atom, Ty, TyList};
-
-#[cfg(test)]
-mod tests;

@@ -102,6 +102,3 @@ fn set_of(alloc: Global, items: &[&[u8]]) -> Result<IndexSet<Vec<u8>>, OutOfMemo
     }
     Ok(texts)
 }
-
-#[cfg(test)]
-mod tests;

@@ -1,0 +1,22 @@
+-- How deep a type nests, and a type that is made of a path form.
+use Rattle.std.specs.Prelude.{ℕ, ◌+◌, ◌*◌, ◌≤◌, ◌≡◌, max}
+use Rattle.fy_types.specs.Types.{PlainType, PlainTypes, ns, atom, arrow, field, meet, no_types, and_type}
+use Rattle.fy_types.specs.Paths.{PlainPaths, paths}
+use Rattle.fy_types.specs.Limits.{all_nesting}
+
+abbrev mutual
+  -- the greatest number of nodes of a type on one path
+  pub type_nesting : PlainType → ℕ
+  type_nesting ns = 1
+  type_nesting (atom a) = 1
+  type_nesting (arrow A B) = 1 + max (type_nesting A) (type_nesting B)
+  type_nesting (field i A) = 1 + type_nesting A
+  type_nesting (meet As) = 1 + types_nesting As
+
+  pub types_nesting : PlainTypes → ℕ
+  types_nesting no_types = 0
+  types_nesting (and_type A As) = max (type_nesting A) (types_nesting As)
+
+-- a type with the paths, which nests at most twice as deep as they do and one more
+abbrev pub IsTypeOf : PlainPaths → PlainType → Type 0
+IsTypeOf P A = (paths A ≡ P) × (type_nesting A ≤ 2 * all_nesting P + 1)
