@@ -15,9 +15,10 @@ use Rattle.fy_expand.specs.Core.{core, in_prelude}
 use Rattle.fy_expand.specs.Faults.{fault}
 use Rattle.fy_expand.specs.Sizes.{nesting, size_of, visits_of, limited}
 use Rattle.fy_expand.specs.Expansion.{unless, within_limits, core_of}
-use Rattle.fy_expand.specs.WellMade.{IsClosed, IsWithinLimits, IsWellMade}
+use Rattle.fy_expand.specs.WellMade.{IsClosed, IsWithinLimits, IsWellMade, HasDepths}
 use Rattle.fy_expand.specs.Judged.{HasTokens, IsAllowed, IsJudged, not_expanded, expanded, expansion_refused}
 use Rattle.fy_expand.proofs.ClosedLemmas.{closed-whole}
+use Rattle.fy_expand.proofs.DepthLemmas.{depths-whole}
 use Rattle.fy_expand.proofs.MadeLemmas.{made-whole}
 use Rattle.fy_expand.proofs.SpelledLemmas.{filled-program}
 
@@ -63,6 +64,9 @@ core_of-ok tree p h =
 
 pub core_of-closed : (tree : written.Tree) (p : Tree) → core_of tree ≡ Ok p → IsClosed p
 core_of-closed tree p h = subst (λ q. IsClosed q) (core_of-ok tree p h).1 (closed-whole tree)
+
+pub core_of-depths : (tree : written.Tree) (p : Tree) → core_of tree ≡ Ok p → HasDepths p
+core_of-depths tree p h = subst (λ q. HasDepths q) (core_of-ok tree p h).1 (depths-whole tree)
 
 pub core_of-within : (tree : written.Tree) (p : Tree) → core_of tree ≡ Ok p → IsWithinLimits p
 core_of-within tree p h = let k = core_of-ok tree p h in subst (λ q. IsWithinLimits q) k.1 k.2

@@ -8,6 +8,7 @@ pub mod MeasureHalves
 pub mod ScopeWeights
 pub mod MeasureForms
 pub mod ClosedLemmas
+pub mod DepthLemmas
 pub mod MadeLemmas
 pub mod SpelledLemmas
 pub mod ExpansionLemmas

@@ -1,5 +1,5 @@
 -- Which core phrases expansion gives.
-use Rattle.std.specs.Prelude.{ℕ, suc, ◌<◌, ◌≤◌}
+use Rattle.std.specs.Prelude.{ℕ, suc, ◌≡◌, ◌<◌, ◌≤◌}
 use Rattle.fy_phrase.specs.Tree.{Tree, Trees, var, lit, unary, binary, cond, case, lam, app, field, sel, merge, let_in, rec, skip, seq, assign, while_do, forever, new, escape, accept, put, read, mark, no_trees, and_tree}
 use Rattle.fy_expand.specs.Sizes.{nesting, size_of, visits_of}
 
@@ -37,6 +37,41 @@ abbrev mutual
 
 abbrev pub IsClosed : Tree → Type 0
 IsClosed p = IsClosedUnder 0 p
+
+abbrev mutual
+  -- each binder carries the number of binders around it, n of which are around the phrase
+  pub HasDepthsUnder : ℕ → Tree → Type 0
+  HasDepthsUnder n (var k at) = Unit {0}
+  HasDepthsUnder n (lit v at) = Unit {0}
+  HasDepthsUnder n (unary op p at) = HasDepthsUnder n p
+  HasDepthsUnder n (binary op p q at) = HasDepthsUnder n p × HasDepthsUnder n q
+  HasDepthsUnder n (cond b p q at) = HasDepthsUnder n b × HasDepthsUnder n p × HasDepthsUnder n q
+  HasDepthsUnder n (case e parts at) = HasDepthsUnder n e × HaveDepthsUnder n parts
+  HasDepthsUnder n (lam d alternatives p at) = (d ≡ n) × HasDepthsUnder (suc n) p
+  HasDepthsUnder n (app p q at) = HasDepthsUnder n p × HasDepthsUnder n q
+  HasDepthsUnder n (field i p at) = HasDepthsUnder n p
+  HasDepthsUnder n (sel p i at) = HasDepthsUnder n p
+  HasDepthsUnder n (merge p q at) = HasDepthsUnder n p × HasDepthsUnder n q
+  HasDepthsUnder n (let_in d p q at) = (d ≡ n) × HasDepthsUnder n p × HasDepthsUnder (suc n) q
+  HasDepthsUnder n (rec d T p at) = (d ≡ n) × HasDepthsUnder (suc n) p
+  HasDepthsUnder n (skip at) = Unit {0}
+  HasDepthsUnder n (seq p q at) = HasDepthsUnder n p × HasDepthsUnder n q
+  HasDepthsUnder n (assign p q at) = HasDepthsUnder n p × HasDepthsUnder n q
+  HasDepthsUnder n (while_do b p at) = HasDepthsUnder n b × HasDepthsUnder n p
+  HasDepthsUnder n (forever p at) = HasDepthsUnder n p
+  HasDepthsUnder n (new d D p q at) = (d ≡ n) × HasDepthsUnder n p × HasDepthsUnder (suc n) q
+  HasDepthsUnder n (escape d p at) = (d ≡ n) × HasDepthsUnder (suc n) p
+  HasDepthsUnder n (accept d D p at) = (d ≡ n) × HasDepthsUnder (suc n) p
+  HasDepthsUnder n (put kind p at) = HasDepthsUnder n p
+  HasDepthsUnder n (read p at) = HasDepthsUnder n p
+  HasDepthsUnder n (mark m at) = Unit {0}
+
+  pub HaveDepthsUnder : ℕ → Trees → Type 0
+  HaveDepthsUnder n no_trees = Unit {0}
+  HaveDepthsUnder n (and_tree p more) = HasDepthsUnder n p × HaveDepthsUnder n more
+
+abbrev pub HasDepths : Tree → Type 0
+HasDepths p = HasDepthsUnder 0 p
 
 -- the core limits
 pub record IsWithinLimits (p : Tree) : Type 0 where

@@ -14,7 +14,7 @@ ghost use Rattle.fy_expand.specs.Frames.{AreSized, scope_of};
 ghost use Rattle.fy_expand.specs.Judged.{HasTokens, IsAllowed, IsJudged, expansion_refused};
 ghost use Rattle.fy_expand.specs.Measures.{prelude_measure};
 ghost use Rattle.fy_expand.specs.Scope.{program_scope};
-ghost use Rattle.fy_expand.specs.WellMade.{IsClosed, IsWellMade, IsWithinLimits};
+ghost use Rattle.fy_expand.specs.WellMade.{HasDepths, IsClosed, IsWellMade, IsWithinLimits};
 
 use crate::build::build;
 use crate::check::{check, place_of};
@@ -52,13 +52,15 @@ const MAX_VISITS: u64 = 65536;
 ///
 /// A variant with a place is the first fault in the order of the text. Where none stands, `TooDeep` comes exactly where the
 /// core phrase nests more than 512, else `TooLarge` exactly where it has over 65,536 nodes, those of its types counted, else
-/// `TooManyVisits` exactly where its visits are more than 65,536. The phrase is closed and within these limits. Where some tokens
-/// spell the tree, each of its lists of parts has one, and each merge has a right operand of its kind. The language is that of
-/// Reynolds, "Design of the Programming Language Forsythe" (CMU-CS-96-146, 1996), with a concrete syntax of this project's own.
+/// `TooManyVisits` exactly where its visits are more than 65,536. The phrase is closed and within these limits, and each binder
+/// carries the number of binders around it. Where some tokens spell the tree, each of its lists of parts has one, and each merge
+/// has a right operand of its kind. The language is that of Reynolds, "Design of the Programming Language Forsythe"
+/// (CMU-CS-96-146, 1996), with a concrete syntax of this project's own.
 pub fn expand(alloc: Global, tree: &Surface) -> Result<Phrase, ExpandError>
     ensures ok { IfOk result (λ p. core_of (tree_of tree.now) ≡ Ok (reads p)) }
     ensures err { IfErr result (λ e. (e ≡ NoMemory) ⊎ (core_of (tree_of tree.now) ≡ Err e)) }
     ensures closed { IfOk result (λ p. IsClosed (reads p)) }
+    ensures depths { IfOk result (λ p. HasDepths (reads p)) }
     ensures limits { IfOk result (λ p. IsWithinLimits (reads p)) }
     ensures well_made { IfOk result (λ p.
         (tokens : List Token) → IsProgram (tree_of tree.now) tokens → IsWellMade (reads p)) }

@@ -15,6 +15,3 @@ pub use error::ExpandError;
 pub use expansion::expand;
 pub use laws::texts_are_judged_one_way;
 pub use visit::visits;
-
-#[cfg(test)]
-mod tests;

@@ -8,9 +8,9 @@ use Rattle.fy_phrase.specs.Reads.{reads}
 use Rattle.fy_expand.specs.declared.error.ExpandError.{ExpandError}
 use Rattle.fy_expand.specs.declared.error.ExpandError.TheVariants.{OutOfMemory}
 use Rattle.fy_expand.specs.Expansion.{core_of}
-use Rattle.fy_expand.specs.WellMade.{IsClosed, IsWithinLimits, IsWellMade}
+use Rattle.fy_expand.specs.WellMade.{HasDepths, IsClosed, IsWithinLimits, IsWellMade}
 use Rattle.fy_expand.specs.Judged.{HasTokens, IsAllowed, IsJudged, expansion_refused}
-use Rattle.fy_expand.proofs.ExpansionLemmas.{IfOk-map, IfErr-map, core_of-closed, core_of-within, core_of-made, core_of-judged, core_of-refused}
+use Rattle.fy_expand.proofs.ExpansionLemmas.{IfOk-map, IfErr-map, core_of-closed, core_of-depths, core_of-within, core_of-made, core_of-judged, core_of-refused}
 use Rattle.fy_expand.proofs.ProgramFrames.{AreSized-Name, AreSized-Outermost}
 use Rattle.fy_expand.proofs.expansion.expand.Goals as goal
 
@@ -21,6 +21,11 @@ pub returns-clause-closed : goal.returns-clause-closed
 returns-clause-closed c =
     let tree = tree_of c.args.tree.now in
     IfOk-map c.within.result (λ (p : Phrase). core_of tree ≡ Ok (reads p)) (λ p. IsClosed (reads p)) (λ p h. core_of-closed tree (reads p) h) c.within.ensures.ok
+
+pub returns-clause-depths : goal.returns-clause-depths
+returns-clause-depths c =
+    let tree = tree_of c.args.tree.now in
+    IfOk-map c.within.result (λ (p : Phrase). core_of tree ≡ Ok (reads p)) (λ p. HasDepths (reads p)) (λ p h. core_of-depths tree (reads p) h) c.within.ensures.ok
 
 pub returns-clause-limits : goal.returns-clause-limits
 returns-clause-limits c =
