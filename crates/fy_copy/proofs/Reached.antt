@@ -365,18 +365,18 @@ runs_over p n limit s peak first o same reached over =
     let P : ℕ → Type 0 = λ k. Reached p k s peak first o in
     runs_ended p limit limit s peak first o (omega arith) (subst P same reached) over
 
-runs_big : (p : Tree) (n limit : ℕ) (s t : Seen) (peak : ℕ) (first o : Outer) → n ≤ limit → Reached p n s peak first o → Refused s t
+runs_big : (p : Tree) (n limit : ℕ) (s t : Seen) (peak : ℕ) (first o : Outer) → n < limit → Reached p n s peak first o → Refused s t
     → RunsTo p limit (record { end = ends.TooBig; steps = n; peak = peak }) first.left o.left first.held o.held
-runs_big p n limit s t peak first o le reached big =
+runs_big p n limit s t peak first o lt reached big =
     let stands = here p n s peak first o reached in
     let P : CopyState → Type 0 = λ x. IsTooBig (copy_step x) in
     runs_to p limit (record { end = ends.TooBig; steps = n; peak = peak }) reached.given first.left o.left first.held o.held reached.gave (record {
-      end = record { going = record { below = stands.below; here = stands.shows.standing_is ∙ big.going }; big = subst P (sym stands.shows.state_is) big.big };
+      end = record { fewer = lt; going = record { below = stands.below; here = stands.shows.standing_is ∙ big.going }; big = subst P (sym stands.shows.state_is) big.big };
       small = stands.small;
       peak = stands.peak_is;
       input_is = stands.shows.input_is;
       output = stands.shows.output_is;
-      part = part_of p (reached.given ++ unwrap_or o.left []) n limit first.held o.held le stands.shows.output_is;
+      part = part_of p (reached.given ++ unwrap_or o.left []) n limit first.held o.held (omega arith) stands.shows.output_is;
     })
 
 runs_halted : (end : Ending) (m : CopyMove) (standing : Standing) (p : Tree) (n limit : ℕ) (s t : Seen) (peak : ℕ) (first o : Outer) → ((r : copy.CopyRun) → settled m r ≡ record r { standing = standing })
@@ -473,7 +473,7 @@ runs_end ends.Stuck p n limit s t peak first o u lt reached (stuck_by halted sam
     unchanged p limit (record { end = ends.Stuck; steps = n + 1; peak = peak }) first o u same
     (runs_halted ends.Stuck sticks stuck p n limit s t peak first o (λ r. refl) (λ fed stands. stands) refl (λ before now output gained. gained) (λ big. big) (omega arith) reached halted)
 runs_end ends.TooBig p n limit s t peak first o u lt reached (refused big same) =
-    unchanged p limit (record { end = ends.TooBig; steps = n; peak = peak }) first o u same (runs_big p n limit s t peak first o (omega arith) reached big)
+    unchanged p limit (record { end = ends.TooBig; steps = n; peak = peak }) first o u same (runs_big p n limit s t peak first o lt reached big)
 runs_end ends.InputFault p n limit s t peak first o u lt reached (unread mid waits same) =
     unchanged p limit (record { end = ends.InputFault; steps = n + 1; peak = peak }) first o u same (runs_unread p n limit s mid peak first o (omega arith) reached waits)
 runs_end ends.OutputFault p n limit s t peak first o u lt reached (unwritten text on left over gained) =
@@ -490,19 +490,22 @@ does_part p n limit s peak first o left now le reached untaken same =
     let stands = here p n s peak first o reached in
     let fed = reached.given ++ unwrap_or o.left [] in
     let P : Option Bytes → Type 0 = λ x. Gained first.held x (copy_after p fed n).output in
-    let G : Option Bytes → Type 0 = λ x. Gave first.left x reached.given in
     record {
       fed = fed;
       told = told_of reached.given first.left o.left reached.gave;
-      taken = reached.given;
-      gave = subst G (sym untaken) reached.gave;
       made = n;
       within = le;
       going = stands.below;
       held = stands.small;
+      rest = untaken ∙ rest_left reached.given first.left o.left reached.gave stands.shows.input_is;
       output = subst P (sym same) stands.shows.output_is;
     }
   where
     told_of : (given : Bytes) (left left_now : Option Bytes) → Gave left left_now given → ForSome left (λ bytes. given ++ unwrap_or left_now [] ≡ bytes)
     told_of given left None gave = λ bytes is. absurd (let none : Some bytes ≡ None = sym is ∙ gave in cc)
     told_of given left (Some rest) gave = λ bytes is. let same : Some (given ++ rest) ≡ Some bytes = sym gave ∙ is in cc
+
+    rest_left : (given : Bytes) (left left_now : Option Bytes) → Gave left left_now given → (copy_after p (given ++ unwrap_or left_now []) n).input ≡ unwrap_or left_now []
+        → left_now ≡ option_map (λ _. (copy_after p (given ++ unwrap_or left_now []) n).input) left
+    rest_left given left None gave is = ap (λ o. option_map (λ _. (copy_after p (given ++ []) n).input) o) (sym gave)
+    rest_left given left (Some rest) gave is = ap (λ b. Some b) (sym is) ∙ ap (λ o. option_map (λ _. (copy_after p (given ++ rest) n).input) o) (sym gave)

@@ -28,8 +28,9 @@ pub record IsSpent (p : Tree) (input : Bytes) (n limit : ℕ) : Type 0 where
   pub all : n ≡ limit
   pub going : StandsAt p input n going
 
--- a run goes on after n steps, and its next focus would pass the limit on held phrases
-pub record StopsBefore (p : Tree) (input : Bytes) (n : ℕ) : Type 0 where
+-- a run goes on after n steps, fewer than were allowed, and its next focus would pass the limit on held phrases
+pub record StopsBefore (p : Tree) (input : Bytes) (n limit : ℕ) : Type 0 where
+  pub fewer : n < limit
   pub going : StandsAt p input n going
   pub big : IsTooBig (copy_step (copy_after p input n).state)
 
@@ -53,7 +54,7 @@ abbrev pub EndsSo : Ending → Tree → Bytes → ℕ → ℕ → Type 0
 EndsSo ends.Ended p input n limit = StandsAt p input n ended
 EndsSo (ends.Fault kind at) p input n limit = StandsAt p input n (faulted kind at)
 EndsSo ends.Stuck p input n limit = StandsAt p input n stuck
-EndsSo ends.TooBig p input n limit = StopsBefore p input n
+EndsSo ends.TooBig p input n limit = StopsBefore p input n limit
 EndsSo ends.Spent p input n limit = IsSpent p input n limit
 EndsSo ends.InputFault p input n limit = AsksAt p input n
 EndsSo ends.OutputFault p input n limit = PutsAt p input n
@@ -84,17 +85,16 @@ pub record RunsTo (p : Tree) (limit : ℕ) (done : CopyRun) (left left_now befor
   pub output : HasPut done.end before now (copy_after p fed done.steps).output
   pub part : GainedPart before now (copy_after p fed limit).output
 
--- what a run took and put that found no memory at some step within the limit: bytes that were left first, and what was put by the steps
--- before that one, none of which led to a focus that passes the limit on held phrases
+-- what a run took and put that found no memory at some step within the limit: what the steps before that one took and put, none of which
+-- led to a focus that passes the limit on held phrases
 pub record DoesPart (p : Tree) (limit : ℕ) (left left_now before now : Option Bytes) : Type 0 where
   pub fed : Bytes
   pub told : ForSome left (λ bytes. fed ≡ bytes)
-  pub taken : Bytes
-  pub gave : Gave left left_now taken
   pub made : ℕ
   pub within : made ≤ limit
   pub going : IsGoingBelow p fed made
   pub held : IsHeldBelow p fed made
+  pub rest : left_now ≡ option_map (λ _. (copy_after p fed made).input) left
   pub output : Gained before now (copy_after p fed made).output
 
 -- the ends that a run of the copy rule has

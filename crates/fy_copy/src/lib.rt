@@ -18,6 +18,3 @@ pub use copier::{give, start, step};
 pub use progress::Progress;
 pub use run::{CopyRun, run_copy};
 pub use state::CopyState;
-
-#[cfg(test)]
-mod tests;

@@ -94,15 +94,15 @@ fn run_ended(end: Ending, k: u64, peak: u64, load: u64) -> CopyRun
 /// meant to be closed, and no binder of it is deeper than 1,023.
 ///
 /// The end is `Ended`, `Fault` or `Stuck` exactly as the copy rule says, `TooBig` exactly where the
-/// next focus would have more than 1,048,576 nodes or nest more than 2,048, and `Spent` exactly where
-/// the run still goes on after `steps` steps. `InputFault` and `OutputFault` come only where that
+/// next focus, of a step that is still allowed, would have more than 1,048,576 nodes or nest more than
+/// 2,048, and `Spent` exactly where the run still goes on after `steps` steps. `InputFault` and `OutputFault` come only where that
 /// object's count of faults rose in this call; then the last step reads, or puts. The end is never
 /// `Exhausted`, `Gone` or `Trap`.
 ///
 /// # Errors
 ///
-/// After want of memory what was put is what the steps that were made put, so a beginning of what is
-/// due, and what was taken are the first bytes that were left.
+/// After want of memory what was put and what was taken is what the steps that were made put and
+/// took, so a beginning of what is due.
 pub fn run_copy<I: Source, O: Sink>(
     alloc: Global,
     p: &Phrase,
@@ -116,7 +116,6 @@ pub fn run_copy<I: Source, O: Sink>(
     ensures did { IfOk result (λ done. RunsTo (reads p.now) steps done (I.left input.old) (I.left input.new) (O.held output.old) (O.held output.new)) }
     ensures memory { OnErr result (DoesPart (reads p.now) steps (I.left input.old) (I.left input.new) (O.held output.old) (O.held output.new)) }
     ensures end { IfOk result (λ done. IsCopyEnd done.end) }
-    ensures too_big { IfOk result (λ done. done.end ≡ Ending.TooBig → done.steps < steps) }
     ensures input_fault { IfOk result (λ done. done.end ≡ Ending.InputFault → Rose (I.faults input.old) (I.faults input.new)) }
     ensures output_fault { IfOk result (λ done. done.end ≡ Ending.OutputFault → Rose (O.faults output.old) (O.faults output.new)) }
     ensures input_later { I.faults input.old ≤ I.faults input.new }
