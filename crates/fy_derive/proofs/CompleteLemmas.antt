@@ -56,18 +56,18 @@ PartsDerived G ps A = (ds : PlainDerivations) × (count ds ≡ length (of_parts 
     each_judged ds n G (of_parts ps) Bs ≡ all_conclude (Bs ++ copies ps A))
 
 -- rules with no premise, one, two and three
-no-premise : (G : List PlainType) (p : Tree) (C : PlainType) (n : ℕ) → premises p ≡ Some [] → conclusion G p [] ≡ Some C →
+pub no-premise : (G : List PlainType) (p : Tree) (C : PlainType) (n : ℕ) → premises p ≡ Some [] → conclusion G p [] ≡ Some C →
     judged (rule no_derivations) n G p ≡ concludes C
 no-premise G p C n e c = rule_judged no_derivations n G p [] (all_conclude []) e refl refl ∙ ap (at_node n) c
 
-one-premise : (G : List PlainType) (p q : Tree) (b : Binder) (d : PlainDerivation) (A C : PlainType) (n : ℕ) → premises p ≡ Some ((b, q) ∷ []) →
+pub one-premise : (G : List PlainType) (p q : Tree) (b : Binder) (d : PlainDerivation) (A C : PlainType) (n : ℕ) → premises p ≡ Some ((b, q) ∷ []) →
     judged d (n + 1) (under b [] G) q ≡ concludes A → conclusion G p (A ∷ []) ≡ Some C →
     judged (rule (and_derivation d no_derivations)) n G p ≡ concludes C
 one-premise G p q b d A C n e h c =
     rule_judged (and_derivation d no_derivations) n G p ((b, q) ∷ []) (all_conclude (A ∷ [])) e refl
     (ap (λ j. then_others j (λ B. all_conclude (B ∷ []))) h) ∙ ap (at_node n) c
 
-two-premises : (G : List PlainType) (p q r : Tree) (b c : Binder) (d e : PlainDerivation) (A B C : PlainType) (n : ℕ) →
+pub two-premises : (G : List PlainType) (p q r : Tree) (b c : Binder) (d e : PlainDerivation) (A B C : PlainType) (n : ℕ) →
     premises p ≡ Some ((b, q) ∷ (c, r) ∷ []) → judged d (n + 1) (under b [] G) q ≡ concludes A →
     judged e (n + 1 + nodes d) (under c (A ∷ []) G) r ≡ concludes B → conclusion G p (A ∷ B ∷ []) ≡ Some C →
     judged (rule (and_derivation d (and_derivation e no_derivations))) n G p ≡ concludes C
@@ -76,7 +76,7 @@ two-premises G p q r b c d e A B C n f h k g =
     (ap (λ j. then_others j (λ X. then_others (judged e (n + 1 + nodes d) (under c (X ∷ []) G) r) (λ Y. all_conclude (X ∷ Y ∷ [])))) h
     ∙ ap (λ j. then_others j (λ Y. all_conclude (A ∷ Y ∷ []))) k) ∙ ap (at_node n) g
 
-three-premises : (G : List PlainType) (p q r s : Tree) (d e f : PlainDerivation) (A B D C : PlainType) (n : ℕ) →
+pub three-premises : (G : List PlainType) (p q r s : Tree) (d e f : PlainDerivation) (A B D C : PlainType) (n : ℕ) →
     premises p ≡ Some ((nothing, q) ∷ (nothing, r) ∷ (nothing, s) ∷ []) → judged d (n + 1) G q ≡ concludes A →
     judged e (n + 1 + nodes d) G r ≡ concludes B → judged f (n + 1 + nodes d + nodes e) G s ≡ concludes D → conclusion G p (A ∷ B ∷ D ∷ []) ≡ Some C →
     judged (rule (and_derivation d (and_derivation e (and_derivation f no_derivations)))) n G p ≡ concludes C
@@ -88,23 +88,23 @@ three-premises G p q r s d e f A B D C n g h k l c =
     ∙ ap (λ j. then_others j (λ Z. all_conclude (A ∷ B ∷ Z ∷ []))) l)) ∙ ap (at_node n) c
 
 -- the tests of the rules
-same_atom : (a : Atom) → is_atom a (atom a) ≡ true
+pub same_atom : (a : Atom) → is_atom a (atom a) ≡ true
 same_atom a = eq-eqb (place a) (place a) refl
 
-when : (b : Bool) (A : PlainType) → b ≡ true → provided b A ≡ Some A
+pub when : (b : Bool) (A : PlainType) → b ≡ true → provided b A ≡ Some A
 when b A e = ap (λ x. provided x A) e
 
-operator-fits : (op : BinOp) (D : DataTy) → takes op D ≡ true → fits_operator op (of_data D) (of_data D) ≡ true
+pub operator-fits : (op : BinOp) (D : DataTy) → takes op D ≡ true → fits_operator op (of_data D) (of_data D) ≡ true
 operator-fits op data_type.Int e = or_left _ _ (and_from _ _ e refl)
 operator-fits op data_type.Bool e = or_right _ _ (or_left _ _ (and_from _ _ e refl))
 operator-fits op data_type.Char e = or_right _ _ (or_right _ _ (and_from _ _ e refl))
 
-assignment-fits : (D : DataTy) → fits_assignment (atom (acceptor_atom D)) (of_data D) ≡ true
+pub assignment-fits : (D : DataTy) → fits_assignment (atom (acceptor_atom D)) (of_data D) ≡ true
 assignment-fits data_type.Int = refl
 assignment-fits data_type.Bool = refl
 assignment-fits data_type.Char = refl
 
-command-fits : (R : Atom) → is_command R ≡ true → is_atom Comm (atom R) || is_atom Compl (atom R) ≡ true
+pub command-fits : (R : Atom) → is_command R ≡ true → is_atom Comm (atom R) || is_atom Compl (atom R) ≡ true
 command-fits Comm e = refl
 command-fits Compl e = refl
 command-fits Int e = absurd cc
@@ -114,7 +114,7 @@ command-fits IntAcc e = absurd cc
 command-fits BoolAcc e = absurd cc
 command-fits CharAcc e = absurd cc
 
-command-concludes : (a R : Atom) → is_command R ≡ true → command_behind a (atom a) (atom R) ≡ Some (atom R)
+pub command-concludes : (a R : Atom) → is_command R ≡ true → command_behind a (atom a) (atom R) ≡ Some (atom R)
 command-concludes a R e = when _ (atom R) (and_from _ _ (same_atom a) (command-fits R e))
 
 member-at : {As : PlainTypes} {A : PlainType} → IsMember As A → (i : ℕ) × (member As i ≡ Some A)

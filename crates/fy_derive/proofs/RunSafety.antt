@@ -7,7 +7,9 @@ use Rattle.fy_phrase.specs.Tree.{Tree, skip}
 use Rattle.fy_phrase.specs.Contexts.{CopyContext, Pushed}
 use Rattle.fy_phrase.specs.Copy.{CopyMove, goes, puts, takes as takes_byte, faults, sticks, copy_step, start, Standing, going, ended, faulted, stuck, standing_at, standing_of, CopyRun, settled, ticked, after_more, start_run, copy_after}
 use Rattle.fy_phrase.proofs.Runs.{after_zero, after_suc}
+use Rattle.fy_derive.specs.Derivations.{PlainDerivation}
 use Rattle.fy_derive.specs.Rules.{is_atom}
+use Rattle.fy_derive.specs.Typing.{HasType}
 use Rattle.fy_derive.specs.Judging.{Judged, concludes, stops, conclusion_of, refusal}
 use Rattle.fy_derive.specs.Safety.{IsNeverStuck, TypedIsNeverStuck, ConcludedIsNeverStuck, AcceptedIsNeverStuck}
 use Rattle.fy_derive.proofs.RuleLemmas.{same_type-true}
@@ -77,3 +79,7 @@ accepted-concludes (concludes A) e = by_test (is_atom atoms.Comm A) refl
 
 pub accepted-never_stuck : AcceptedIsNeverStuck
 accepted-never_stuck p d e = concluded-never_stuck p d (accepted-concludes (conclusion_of p d) e)
+
+-- nor does it conclude for what is no command
+pub accepted-typed : (p : Tree) (d : PlainDerivation) → refusal (conclusion_of p d) ≡ None → HasType [] p (atom atoms.Comm)
+accepted-typed p d e = judged-sound d 0 [] p (atom atoms.Comm) (accepted-concludes (conclusion_of p d) e)

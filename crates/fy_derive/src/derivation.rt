@@ -8,7 +8,9 @@ use fy_base::OutOfMemory;
 use fy_types::Ty;
 use std::alloc::Global;
 
-/// A derivation by the typing rules: one node a rule, above the derivations of its premises.
+/// A derivation by the typing rules: one node a rule, above the derivations of its premises. The rules
+/// are those of Reynolds, "Design of the Programming Language Forsythe", CMU-CS-96-146 (1996), for core
+/// phrases.
 #[derive(Debug, Drop)]
 #[cycle(derivation)]
 pub enum Derivation {

@@ -27,7 +27,9 @@ use std::alloc::Global;
 
 /// Whether the derivation concludes `comm` for the phrase, with no variable in scope. It is to have
 /// at most 262,144 nodes and to nest at most 2,048. `Wrong` names the first node, from the left, at
-/// which judging stops, or node 0 where the whole concludes another type.
+/// which judging stops, or node 0 where the whole concludes another type. The types are those of
+/// Reynolds, "Design of the Programming Language Forsythe", CMU-CS-96-146 (1996); intersections are after
+/// Coppo, Dezani-Ciancaglini and Venneri (1980, 1981).
 pub fn check(alloc: Global, p: &Phrase, d: &Derivation) -> Result<(), DeriveError>
     requires few { nodes (plain_derivation d.now) ≤ most_nodes }
     requires shallow { nesting (plain_derivation d.now) ≤ most_nesting }

@@ -13,7 +13,8 @@ pub fn judging_is_typing()
 {}
 
 /// Type safety: what has the type of a command, with no variable in scope, is never stuck, whatever
-/// its input is. It does nothing: its contract is the law.
+/// its input is: type soundness in Milner's sense ("A Theory of Type Polymorphism in Programming", 1978)
+/// for the copy rule. It does nothing: its contract is the law.
 pub fn typed_programs_are_never_stuck()
     ensures { TypedIsNeverStuck }
 {}

@@ -20,14 +20,16 @@ mod rules;
 mod sizes;
 mod table;
 
+pub use atoms::{
+    acceptor_atom, binary_atom, data_atom, datum_atom, is_acceptor, operand_atom, put_atom, takes,
+    unary_atom,
+};
 pub use derivation::{Derivation, DerivationList};
 pub use error::DeriveError;
 pub use judge::check;
+pub use kind::{Demand, demand_of};
 pub use laws::{
     judged_programs_are_never_stuck, judging_is_typing, typed_programs_are_never_stuck,
 };
 pub use print::print_derivation;
 pub use sizes::{nesting_of, nodes_of};
-
-#[cfg(test)]
-mod tests;
