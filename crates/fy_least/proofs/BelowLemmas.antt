@@ -182,13 +182,15 @@ pub rests-below : (D C : PlainPaths) {P Q : PlainPaths} → ArePathsBelow P (cal
 rests-below D no_paths low fits = none_left
 rests-below D (and_path r C) (and_above some rest) fits = and_above (rests-some some fits) (rests-below D C rest fits)
 
-rest-below : (p : PlainPath) {P Q : PlainPaths} (Q' : PlainPaths) → HasBelow P p → ArePathsBelow Q Q' → ArePathsBelow (rests_of_call Q P) (rest_of_call Q' p)
+rest-below : (p : PlainPath) {P Q : PlainPaths} (Q' : PlainPaths) → HasBelow P p → ArePathsBelow Q Q' →
+    ArePathsBelow (rests_of_call Q P) (rest_of_call Q' p)
 rest-below (call D r) {Q = Q} Q' some low =
     passed-above (paths_below Q' D) (λ e. and_above (rests-some some (ArePathsBelow-trans Q' low (test-below Q' D e))) none_left)
 rest-below (pick i r) Q' some low = none_left
 rest-below (end a) Q' some low = none_left
 
-pub rests-mono : (P' Q' : PlainPaths) {P Q : PlainPaths} → ArePathsBelow P P' → ArePathsBelow Q Q' → ArePathsBelow (rests_of_call Q P) (rests_of_call Q' P')
+pub rests-mono : (P' Q' : PlainPaths) {P Q : PlainPaths} → ArePathsBelow P P' → ArePathsBelow Q Q' →
+    ArePathsBelow (rests_of_call Q P) (rests_of_call Q' P')
 rests-mono no_paths Q' low next = none_left
 rests-mono (and_path p P') Q' (and_above some rest) next = append-greatest (rest-below p Q' some next) (rests-mono P' Q' rest next)
 
@@ -220,7 +222,8 @@ alternatives-mono (and_type A As) f g low =
     (ArePathsBelow-trans one (append-left one (alternatives_of As f)) (called-below (ArePathsBelow-refl (paths A)) (low (paths A))))
     (ArePathsBelow-trans (alternatives_of As f) (append-right one (alternatives_of As f)) (alternatives-mono As f g low))
 
-pub alternatives-below : {As : PlainTypes} {A : PlainType} (f : PlainPaths → PlainPaths) {C : PlainPaths} → IsMember As A → ArePathsBelow (f (paths A)) C →
+pub alternatives-below : {As : PlainTypes} {A : PlainType} (f : PlainPaths → PlainPaths) {C : PlainPaths} → IsMember As A →
+    ArePathsBelow (f (paths A)) C →
     ArePathsBelow (alternatives_of As f) (called (paths A) C)
 alternatives-below f (first {A = A} {As = As}) low =
     ArePathsBelow-trans (called (paths A) (f (paths A))) (append-left (called (paths A) (f (paths A))) (alternatives_of As f))
@@ -278,7 +281,8 @@ command-below IntAcc Q e low = absurd (cc)
 command-below BoolAcc Q e low = absurd (cc)
 command-below CharAcc Q e low = absurd (cc)
 
-pub command-cases : (C : PlainPaths → Type 0) (Q : PlainPaths) → ((R : Atom) → is_command R ≡ true → ArePathsBelow Q (one_end R) → C (one_end R)) → C no_paths →
+pub command-cases : (C : PlainPaths → Type 0) (Q : PlainPaths) → ((R : Atom) → is_command R ≡ true → ArePathsBelow Q (one_end R) → C (one_end R)) →
+    C no_paths →
     C (command_of Q)
 command-cases C Q f none = cases (has Q Compl) (has Q Comm) refl refl
   where

@@ -85,14 +85,16 @@ doubled-written = refl
 
 -- the joins of the first two and of all three parts of `seq(1, 2, 3)`'s case; the last one is the case's own least type
 abbrev three_parts : Tree
-three_parts = case (lit (datum.Int (pos 0)) (at 1)) (and_tree (lit (datum.Int (pos 1)) (at 1)) (and_tree (lit (datum.Int (pos 2)) (at 1)) (and_tree (lit (datum.Int (pos 3)) (at 1)) no_trees))) (at 1)
+three_parts = case (lit (datum.Int (pos 0)) (at 1)) (and_tree (lit (datum.Int (pos 1)) (at 1))
+    (and_tree (lit (datum.Int (pos 2)) (at 1)) (and_tree (lit (datum.Int (pos 3)) (at 1)) no_trees))) (at 1)
 
 three_parts-least : length (all_least (visits 0 [] three_parts)) ≡ 6
 three_parts-least = refl
 
 -- an index that is no integer leaves the earlier joins out
 abbrev no_index : Tree
-no_index = case (skip (at 1)) (and_tree (lit (datum.Int (pos 1)) (at 1)) (and_tree (lit (datum.Int (pos 2)) (at 1)) (and_tree (lit (datum.Int (pos 3)) (at 1)) no_trees))) (at 1)
+no_index = case (skip (at 1)) (and_tree (lit (datum.Int (pos 1)) (at 1))
+    (and_tree (lit (datum.Int (pos 2)) (at 1)) (and_tree (lit (datum.Int (pos 3)) (at 1)) no_trees))) (at 1)
 
 no_index-least : length (all_least (visits 0 [] no_index)) ≡ 5
 no_index-least = refl

@@ -78,7 +78,8 @@ mutual
   least-mono (escape d b at) G H c =
       passed-mono (has (least_type (one_end Compl ∷ G) b) Comm) (has (least_type (one_end Compl ∷ H) b) Comm)
       (has-down (least_type (one_end Compl ∷ G) b) (least_type (one_end Compl ∷ H) b) Comm
-      (least-mono b (one_end Compl ∷ G) (one_end Compl ∷ H) (and_variable (ArePathsBelow-refl (one_end Compl)) c))) (ArePathsBelow-refl (one_end Comm))
+      (least-mono b (one_end Compl ∷ G) (one_end Compl ∷ H) (and_variable (ArePathsBelow-refl (one_end Compl)) c)))
+      (ArePathsBelow-refl (one_end Comm))
   least-mono (accept d D b at) G H c =
       passed-mono (has (least_type (one_end (data_atom D) ∷ G) b) Comm) (has (least_type (one_end (data_atom D) ∷ H) b) Comm)
       (has-down (least_type (one_end (data_atom D) ∷ G) b) (least_type (one_end (data_atom D) ∷ H) b) Comm
@@ -123,9 +124,11 @@ mutual
   HasType-least (by_case {G = G} {e = e} t u us) =
       passed-below (has (least_type (forms_of G) e) Int) (below-has (HasType-least t)) (EachHasType-least us (HasType-least u))
   HasType-least (by_lam {G = G} {As = As} {b = b} among t) =
-      once-low (alternatives_of As (λ D. least_type (D ∷ forms_of G) b)) (alternatives-below (λ D. least_type (D ∷ forms_of G) b) among (HasType-least t))
+      once-low (alternatives_of As (λ D. least_type (D ∷ forms_of G) b))
+      (alternatives-below (λ D. least_type (D ∷ forms_of G) b) among (HasType-least t))
   HasType-least (by_app {G = G} {p = p} {q = q} {A = A} {C = C} t u) =
-      once-low (rests_of_call (least_type (forms_of G) q) (least_type (forms_of G) p)) (rests-below (paths A) (paths C) (HasType-least t) (HasType-least u))
+      once-low (rests_of_call (least_type (forms_of G) q) (least_type (forms_of G) p))
+      (rests-below (paths A) (paths C) (HasType-least t) (HasType-least u))
   HasType-least (by_field {i = i} t) = picked-below i (HasType-least t)
   HasType-least (by_sel {i = i} {A = A} t) = fields-below i (paths A) (HasType-least t)
   HasType-least (by_left {G = G} {p = p} {q = q} {k = k} {A = A} e t clear) =
@@ -134,17 +137,21 @@ mutual
       (others-below k clear (HasType-least t)))
   HasType-least (by_right {G = G} {p = p} {q = q} {k = k} {A = A} e t) =
       subst (λ o. ArePathsBelow (merge_of o (least_type (forms_of G) p) (least_type (forms_of G) q)) (paths A)) (sym e)
-      (ArePathsBelow-trans (least_type (forms_of G) q) (meet_of-right (others k (least_type (forms_of G) p)) (least_type (forms_of G) q)) (HasType-least t))
+      (ArePathsBelow-trans (least_type (forms_of G) q) (meet_of-right (others k (least_type (forms_of G) p)) (least_type (forms_of G) q))
+      (HasType-least t))
   HasType-least (by_let {G = G} {p = p} {b = b} {A = A} t u) =
       ArePathsBelow-trans (least_type (paths A ∷ forms_of G) b)
-      (least-mono b (least_type (forms_of G) p ∷ forms_of G) (paths A ∷ forms_of G) (and_variable (HasType-least t) (AreContextsBelow-refl (forms_of G))))
+      (least-mono b (least_type (forms_of G) p ∷ forms_of G) (paths A ∷ forms_of G)
+      (and_variable (HasType-least t) (AreContextsBelow-refl (forms_of G))))
       (HasType-least u)
   HasType-least (by_rec {G = G} {T = T} {b = b} t) =
-      passed-below (paths_below (least_type (paths T ∷ forms_of G) b) (paths T)) (below-test (least_type (paths T ∷ forms_of G) b) (paths T) (HasType-least t))
+      passed-below (paths_below (least_type (paths T ∷ forms_of G) b) (paths T))
+      (below-test (least_type (paths T ∷ forms_of G) b) (paths T) (HasType-least t))
       (once-below (paths T))
   HasType-least by_skip = ArePathsBelow-refl (one_end Comm)
   HasType-least (by_seq {G = G} {p = p} {q = q} {R = R} e t u) =
-      passed-below (has (least_type (forms_of G) p) Comm) (below-has (HasType-least t)) (command-below R (least_type (forms_of G) q) e (HasType-least u))
+      passed-below (has (least_type (forms_of G) p) Comm) (below-has (HasType-least t))
+      (command-below R (least_type (forms_of G) q) e (HasType-least u))
   HasType-least (by_assign {G = G} {p = p} {q = q} D t u) =
       passed-below (some_data (has_assignment (least_type (forms_of G) p) (least_type (forms_of G) q)))
       (data-intro (has_assignment (least_type (forms_of G) p) (least_type (forms_of G) q)) D
@@ -160,7 +167,8 @@ mutual
   HasType-least (by_escape {G = G} {b = b} t) =
       passed-below (has (least_type (one_end Compl ∷ forms_of G) b) Comm) (below-has (HasType-least t)) (ArePathsBelow-refl (one_end Comm))
   HasType-least (by_accept {G = G} {D = D} {b = b} t) =
-      passed-below (has (least_type (one_end (data_atom D) ∷ forms_of G) b) Comm) (below-has (HasType-least t)) (ArePathsBelow-refl (one_end (acceptor_atom D)))
+      passed-below (has (least_type (one_end (data_atom D) ∷ forms_of G) b) Comm) (below-has (HasType-least t))
+      (ArePathsBelow-refl (one_end (acceptor_atom D)))
   HasType-least (by_put {G = G} {kind = kind} {p = p} t) =
       passed-below (has (least_type (forms_of G) p) (put_atom kind)) (below-has (HasType-least t)) (ArePathsBelow-refl (one_end Comm))
   HasType-least (by_read {G = G} {p = p} t) =

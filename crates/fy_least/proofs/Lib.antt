@@ -1,5 +1,26 @@
 mod Examples
+pub mod AnswerLemmas
+pub mod ArmLemmas
 pub mod BelowLemmas
+pub mod BlameLemmas
+pub mod CallLemmas
+pub mod CountLemmas
+pub mod DemandLemmas
+pub mod DistinctLemmas
+pub mod EachFound
+pub mod ErrorLemmas
+pub mod FindLemmas
+pub mod FormFound
+pub mod FoundLemmas
+pub mod JoinLemmas
+pub mod LamFound
 pub mod LeastLemmas
+pub mod MadeLemmas
+pub mod ManyFound
+pub mod OperandLemmas
+pub mod PartLemmas
 pub mod PrincipalLemmas
+pub mod RefusedLemmas
+pub mod RuleFound
+pub mod ScopeLemmas
 pub mod ShapeLemmas

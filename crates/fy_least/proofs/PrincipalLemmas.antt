@@ -70,7 +70,8 @@ has_alternatives G d b at f All (and_type A As) inside g =
     (same-below (arrow A (type_of_paths (f (paths A)))) (called (paths A) (f (paths A))) (ap (called (paths A)) (paths-of_types (f (paths A))))))
     (has_alternatives G d b at f All As (λ B among. inside B (later among)) g)
 
-has_rest : (G : List PlainType) (p q : Tree) (at : Place) (r : PlainPath) (Q : PlainPaths) → HasType G p (type_of_path r) → HasType G q (type_of_paths Q) →
+has_rest : (G : List PlainType) (p q : Tree) (at : Place) (r : PlainPath) (Q : PlainPaths) → HasType G p (type_of_path r) →
+    HasType G q (type_of_paths Q) →
     HasType G (app p q at) (type_of_paths (rest_of_call Q r))
 has_rest G p q at (call D s) Q t u =
     has_passed G (app p q at) (paths_below Q D) (and_path s no_paths)
@@ -124,7 +125,8 @@ mutual
   pub least-HasType : (p : Tree) (G : List PlainType) → HasType G p (type_of_paths (least_type (forms_of G) p))
   least-HasType (var k at) G =
       has_once G (var k at) (paths_at (forms_of G) k)
-      (at-cases G k (λ X. HasType G (var k at) (type_of_paths X)) (λ A e. by_subsumption (by_var e) (same-below A (paths A) refl)) (has_none G (var k at)))
+      (at-cases G k (λ X. HasType G (var k at) (type_of_paths X)) (λ A e. by_subsumption (by_var e) (same-below A (paths A) refl))
+      (has_none G (var k at)))
   least-HasType (lit v at) G = has_one G (lit v at) (datum_atom v) by_lit
   least-HasType (unary op p at) G =
       has_passed G (unary op p at) (has (least_type (forms_of G) p) (operand_atom op)) (one_end (unary_atom op))
@@ -200,7 +202,8 @@ mutual
       (λ e. has_one G (escape d b at) Comm (by_escape (has_atom b (atom Compl ∷ G) Comm e (least-HasType b (atom Compl ∷ G)))))
   least-HasType (accept d D b at) G =
       has_passed G (accept d D b at) (has (least_type (one_end (data_atom D) ∷ forms_of G) b) Comm) (one_end (acceptor_atom D))
-      (λ e. has_one G (accept d D b at) (acceptor_atom D) (by_accept (has_atom b (atom (data_atom D) ∷ G) Comm e (least-HasType b (atom (data_atom D) ∷ G)))))
+      (λ e. has_one G (accept d D b at) (acceptor_atom D) (by_accept
+      (has_atom b (atom (data_atom D) ∷ G) Comm e (least-HasType b (atom (data_atom D) ∷ G)))))
   least-HasType (put kind p at) G =
       has_passed G (put kind p at) (has (least_type (forms_of G) p) (put_atom kind)) (one_end Comm)
       (λ e. has_one G (put kind p at) Comm (by_put (has_atom p G (put_atom kind) e (least-HasType p G))))

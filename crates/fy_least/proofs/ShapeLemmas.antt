@@ -87,7 +87,8 @@ pair-alternative : (p : Tree) (i m : ℕ) (G : List PlainPaths) (x : PlainType �
     HasLeastPair (visits (m + 1) (paths x.0 ∷ G) x.1) k s → HasLeastPair (visits m G p) k s
 pair-alternative (lam d As c at) i m G x {k = k} {s = s} e pair = found (member As i) refl e
   where
-    found : (o : Option PlainType) → member As i ≡ o → option_map {U = PlainType × Tree} (λ X. (X, c)) o ≡ Some x → HasLeastPair (visits m G (lam d As c at)) k s
+    found : (o : Option PlainType) → member As i ≡ o → option_map {U = PlainType × Tree} (λ X. (X, c)) o ≡ Some x →
+        HasLeastPair (visits m G (lam d As c at)) k s
     found None f g = absurd (cc)
     found (Some B) f g =
         let same : x ≡ (B, c) = cc in
@@ -143,7 +144,8 @@ visits-premises (lit v at) m G = refl
 visits-premises (unary op p at) m G = one_part p (m + 1) G _
 visits-premises (binary op p q at) m G = two_parts (visits (m + 1) G p) (visits (m + 1 + nodes p) G q) _
 visits-premises (cond b p q at) m G =
-    ap (λ ws. visit m G (cond b p q at) ∷ (visits (m + 1) G b ++ (visits (m + 1 + nodes b) G p ++ ws))) (sym (append-nil (visits (m + 1 + nodes b + nodes p) G q)))
+    ap (λ ws. visit m G (cond b p q at) ∷ (visits (m + 1) G b ++ (visits (m + 1 + nodes b) G p ++ ws)))
+    (sym (append-nil (visits (m + 1 + nodes b + nodes p) G q)))
 visits-premises (case e parts at) m G =
     ap (λ ws. visit m G (case e parts at) ∷ (visits (m + 1) G e ++ ws)) (sym (parts-visits parts (m + 1 + nodes e) G (least_type G e ∷ [])))
 visits-premises (lam d As b at) m G = tt
@@ -172,7 +174,8 @@ pair-premises p m G Ps {k = k} {s = s} e pair =
     subst (λ vs. HasLeastPair vs k s) (sym is) (later_visit pair)
 
 -- contexts of premises
-context-push : (Ls : List PlainPaths) (As : List PlainType) (L : PlainPaths) (A : PlainType) → AreContextsBelow Ls (forms_of As) → ArePathsBelow L (paths A) →
+context-push : (Ls : List PlainPaths) (As : List PlainType) (L : PlainPaths) (A : PlainType) → AreContextsBelow Ls (forms_of As) →
+    ArePathsBelow L (paths A) →
     AreContextsBelow (Ls ++ L ∷ []) (forms_of (As ++ A ∷ []))
 context-push [] [] L A c low = and_variable low no_variables
 context-push [] (B ∷ As) L A c low = elim c [ ]
@@ -195,7 +198,8 @@ concluded-above d p H G A low e =
     ArePathsBelow-trans (least_type (forms_of G) p) (least-mono p H (forms_of G) low) (HasType-least (judged-sound d 0 G p A e))
 
 mutual
-  HasPair-least : {d : PlainDerivation} {m k : ℕ} {G : List PlainType} {p : Tree} {s : PlainShape} (H : List PlainPaths) → AreContextsBelow H (forms_of G) →
+  HasPair-least : {d : PlainDerivation} {m k : ℕ} {G : List PlainType} {p : Tree} {s : PlainShape} (H : List PlainPaths) →
+      AreContextsBelow H (forms_of G) →
       HasPair d m G p k s → HasLeastPair (visits m H p) k s
   HasPair-least H low (own {d = d} {m = m} {G = G} {p = p} {A = A} {q = q} e among) =
       let found = path-below (below-path (concluded-above d p H G A low e) among) in
@@ -211,13 +215,15 @@ mutual
   HasPair-least H low (in_rule {m = m} {p = p} {Ps = Ps} e pair) =
       pair-premises p m H Ps e (PremiseHasPair-least H [] low no_variables pair)
 
-  OneHasPair-least : {ds : PlainDerivations} {m k : ℕ} {G : List PlainType} {p : Tree} {s : PlainShape} (H : List PlainPaths) → AreContextsBelow H (forms_of G) →
+  OneHasPair-least : {ds : PlainDerivations} {m k : ℕ} {G : List PlainType} {p : Tree} {s : PlainShape} (H : List PlainPaths) →
+      AreContextsBelow H (forms_of G) →
       OneHasPair ds m G p k s → HasLeastPair (visits m H p) k s
   OneHasPair-least H low (this_one pair) = HasPair-least H low pair
   OneHasPair-least H low (other_one pair) = OneHasPair-least H low pair
 
   PremiseHasPair-least : {ds : PlainDerivations} {m k : ℕ} {G As : List PlainType} {Ps : List Premise} {s : PlainShape} (H Ls : List PlainPaths) →
-      AreContextsBelow H (forms_of G) → AreContextsBelow Ls (forms_of As) → PremiseHasPair ds m G Ps As k s → HasLeastPair (premise_visits m H Ps Ls) k s
+      AreContextsBelow H (forms_of G) → AreContextsBelow Ls (forms_of As) → PremiseHasPair ds m G Ps As k s →
+      HasLeastPair (premise_visits m H Ps Ls) k s
   PremiseHasPair-least H Ls low c (this_premise {m = m} {G = G} {As = As} {P = P} {Ps = Ps} pair) =
       pair-left (premise_visits (m + nodes P.1) H Ps (Ls ++ least_type (forms_under P.0 Ls H) P.1 ∷ []))
       (HasPair-least (forms_under P.0 Ls H) (context-under P.0 Ls As H G c low) pair)

@@ -1,3 +1,15 @@
 pub mod Blame
-pub mod Limits
+pub mod Counts
+pub mod Demands
+pub mod Derived
+pub mod Finding
+pub mod Forms
 pub mod Laws
+pub mod Limits
+pub mod Made
+pub mod Many
+pub mod Refused
+pub mod Rules
+pub mod Scopes
+pub mod Visited
+pub mod Written

@@ -1,6 +1,18 @@
-//! Laws of least types.
+//! Least types, and the derivations that are found by them.
 #![tactic(auto)]
 
+mod demands;
+mod error;
+mod finder;
+mod forms;
+mod found;
 mod laws;
+mod least;
+mod many;
+mod rules;
+mod scope;
+mod size;
 
+pub use error::FindError;
+pub use finder::find;
 pub use laws::{least_type_is_principal, shapes_are_least};
