@@ -1,0 +1,26 @@
+use Rattle.std.proofs.Common.{◌-◌, length, refl, sym, ◌∙◌}
+use Rattle.fy_read.specs.Opened.{nodes_of}
+use Rattle.fy_read.specs.OpenLevels.{levels_of}
+use Rattle.fy_read.proofs.PieceAnswers.{first_led, first_misfit, first_read}
+use Rattle.fy_read.proofs.ReaderLemmas.{no_first_digit}
+use Rattle.fy_read.proofs.read.Reader.begin_number.Goals as goal
+
+pub returns-in_default-clause-misfit : goal.returns-in_default-clause-misfit
+returns-in_default-clause-misfit c =
+    let s = c.args.self.now in λ is. no_first_digit s.awaited (nodes_of s.nodes) (length (levels_of s.levels).outer)
+    (c.args.byte - 48) c.in_default.not-Count
+
+pub returns-in_default-begun-clause-misfit : goal.returns-in_default-begun-clause-misfit
+returns-in_default-begun-clause-misfit c =
+    let s = c.args.self.now in
+    λ is. first_misfit (nodes_of s.nodes) c.in-Count.counted (c.args.byte - 48) (length (levels_of s.levels).outer) c.in-Count.is
+    (sym c.in_default-begun.is ∙ c.begun.ensures)
+
+pub returns-clause-led : goal.returns-clause-led
+returns-clause-led c =
+    let s = c.args.self.now in
+    first_led c.in-Count.counted (c.args.byte - 48) c.in-Some.value
+    (length (levels_of s.levels).outer) c.requires.sound c.in-Count.is c.in-Some.ensures
+
+pub returns-clause-read : goal.returns-clause-read
+returns-clause-read c = λ names text h. first_read c.in-Count.counted c.args.byte c.in-Some.value c.requires.digit refl c.in-Some.ensures h

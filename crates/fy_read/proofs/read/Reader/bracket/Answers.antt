@@ -1,0 +1,17 @@
+use Rattle.std.proofs.Common.{length}
+use Rattle.fy_read.specs.Opened.{nodes_of}
+use Rattle.fy_read.specs.OpenLevels.{levels_of}
+use Rattle.fy_read.specs.ReadSoFar.{at_piece}
+use Rattle.fy_read.proofs.ReaderAnswers.{bracket_led, bracket_misfit, bracket_read}
+use Rattle.fy_read.proofs.read.Reader.bracket.Goals as goal
+
+pub returns-then-byte-ne91-clause-misfit : goal.returns-then-byte-ne91-clause-misfit
+returns-then-byte-ne91-clause-misfit c =
+    λ is. bracket_misfit (nodes_of c.args.self.now.nodes) (length (levels_of c.args.self.now.levels).outer) c.requires.awaited c.if-byte-ne91.true
+
+pub returns-clause-led : goal.returns-clause-led
+returns-clause-led c = bracket_led c.requires.sound c.requires.begun c.requires.loose c.requires.awaited c.if-byte-ne91.false c.new.ensures
+
+pub returns-clause-read : goal.returns-clause-read
+returns-clause-read c =
+    λ loose names text h. at_piece c.requires.begun (bracket_read c.requires.loose c.requires.awaited c.if-byte-ne91.false c.new.ensures h)

@@ -1,0 +1,17 @@
+pub mod Spelling
+pub mod Refusals
+pub mod Steps
+pub mod Opened
+pub mod Readers
+pub mod Printable
+pub mod OpenTypes
+pub mod Levels
+pub mod OpenLevels
+pub mod Measures
+pub mod Halfway
+pub mod ReadSoFar
+pub mod Passing
+pub mod Shape
+pub mod Depth
+pub mod Stopping
+pub mod TextLaws
