@@ -10,7 +10,7 @@ use Rattle.fy_tool.specs.World.{Contents, Counts, Later}
 use Rattle.fy_tool.specs.Note.{ended_lines}
 use Rattle.fy_tool.specs.declared.world.Stop.{Stop}
 use Rattle.fy_tool.specs.declared.world.Stop.TheVariants.{Files, Input, Output, Notes, Memory}
-use Rattle.fy_tool.specs.Order.{Order}
+use Rattle.fy_words.specs.Order.{Order}
 use Rattle.fy_tool.specs.Due.{Due}
 use Rattle.fy_tool.specs.Answers.{FilesPart, InputPart, Part, Caused, Serves, Concludes, last_line, all_reads_of, all_keeps_of, Answers}
 use Rattle.fy_tool.proofs.Contents.{later_more, gained_both}

@@ -1,6 +1,6 @@
 -- Texts that are checked.
-use Rattle.std.proofs.Common.{◌≡◌, ℕ, zero, suc, ◌<◌, ◌≤◌, List, [], ◌∷◌, ◌++◌, ◌∙◌, length, map, refl, sym, ap, subst, arith, inl, inr}
-use Rattle.std.specs.Prelude.{◌≢◌, ◌⊎◌, IfOk, IfErr, MatchOption, codes, Some, None, Ok, Err}
+use Rattle.std.proofs.Common.{◌≡◌, ℕ, zero, suc, ◌<◌, ◌≤◌, List, [], ◌∷◌, ◌∙◌, length, map, refl, sym, ap, subst, arith, inl, inr}
+use Rattle.std.specs.Prelude.{◌≢◌, ◌⊎◌, IfOk, MatchResult, Some, None, Ok, Err}
 use Rattle.std.specs.List.{Any, Contains}
 use Rattle.std.specs.declared.option.Option.{Option}
 use Rattle.std.specs.declared.result.Result.{Result}
@@ -15,33 +15,48 @@ use Rattle.fy_syntax.specs.Trees as written
 use Rattle.fy_grammar.specs.declared.error.ParseError.{ParseError}
 use Rattle.fy_grammar.specs.declared.error.ParseError.TheVariants as parsing
 use Rattle.fy_grammar.specs.Program.{IsTheProgram, IsRefusal}
+use Rattle.fy_types.specs.Types.{atom}
+use Rattle.fy_types.specs.declared.types.Atom.TheVariants.{Comm}
 use Rattle.fy_phrase.specs.Tree.{Tree}
+use Rattle.fy_phrase.specs.Sizes.{depth}
 use Rattle.fy_expand.specs.declared.error.ExpandError.{ExpandError}
 use Rattle.fy_expand.specs.declared.error.ExpandError.TheVariants as expanding
 use Rattle.fy_expand.specs.Judged.{HasTokens, IsAllowed, IsJudged, too_long, no_tokens, no_program, too_deep, length_refused, tokens_refused, syntax_refused, depth_refused, expansion_refused}
 use Rattle.fy_expand.specs.Judged as judged
-use Rattle.fy_tool.specs.Checked.{lex_refusal, parse_refusal, expand_refusal, told_as, IsAccepted, IsRefusedFor}
+use Rattle.fy_expand.specs.WellMade.{HasDepths, IsWithinLimits}
+use Rattle.fy_expand.proofs.DepthLemmas.{depth-below}
+use Rattle.fy_derive.specs.Derivations.{PlainDerivation}
+use Rattle.fy_derive.specs.Judging.{conclusion_of, refusal as refusal_of}
+use Rattle.fy_derive.specs.Least.{visits}
+use Rattle.fy_derive.specs.Typing.{HasType}
+use Rattle.fy_derive.proofs.RunSafety.{accepted-typed}
+use Rattle.fy_least.specs.Blame.{blame_of}
+use Rattle.fy_least.specs.Finding.{IsFinding}
+use Rattle.fy_least.specs.Limits.{KeepTypeLimits}
+use Rattle.fy_least.specs.declared.error.FindError.{FindError}
+use Rattle.fy_least.specs.declared.error.FindError.TheVariants as finding
+use Rattle.fy_tool.specs.Checked.{lex_refusal, parse_refusal, expand_refusal, find_refusal, IsProgramText, IsRefusedFor, not_judged, too_large, no_command, HasNames}
 use Rattle.fy_tool.specs.declared.refusal.Refusal.{Refusal}
 use Rattle.fy_tool.specs.declared.refusal.Refusal.TheVariants as refusal
 use Rattle.fy_tool.specs.declared.world.Stop.{Stop}
 use Rattle.fy_tool.specs.declared.world.Stop.TheVariants.{Input, Output, Memory}
 use Rattle.fy_tool.specs.World.{Contents}
-use Rattle.fy_tool.specs.Due.{accepted}
+use Rattle.fy_tool.specs.Due.{written}
 use Rattle.fy_tool.specs.Answers.{Did}
 use Rattle.fy_tool.proofs.Contents.{appended-nil, nothing}
 
 -- what a check of a text answers
-abbrev Checked : Bytes → Result (Option Refusal) Stop → Type 0
-Checked text result = IfOk result (λ why. MatchOption why (IsAccepted text) (IsRefusedFor text))
+abbrev Checked : {T : Type 0} → (T → Type 0) → Bytes → Result (Result T Refusal) Stop → Type 0
+Checked P text result = IfOk result (λ found. MatchResult found P (IsRefusedFor text))
 
 -- a refusal was found, or memory was wanting
-abbrev Found : Option Refusal → Result (Option Refusal) Stop → Type 0
-Found why result = IfOk result (λ found. found ≡ why) × IfOk result (λ found. MatchOption found ⊥ (λ _. Unit {0}))
+abbrev Found : {T : Type 0} → Option Refusal → Result (Result T Refusal) Stop → Type 0
+Found why result = IfOk result (λ found. MatchResult found (λ _. ⊥) (λ w. why ≡ Some w))
 
-found_so : (text : Bytes) (why : Option Refusal) (result : Result (Option Refusal) Stop) → Found why result → ((w : Refusal) → why ≡ Some w → IsRefusedFor text w) → Checked text result
-found_so text why (Err stop) found is = tt
-found_so text why (Ok None) found is = absurd found.1
-found_so text why (Ok (Some w)) found is = is w (sym found.0)
+found_so : {T : Type 0} (P : T → Type 0) (text : Bytes) (why : Option Refusal) (result : Result (Result T Refusal) Stop) → Found why result → ((w : Refusal) → why ≡ Some w → IsRefusedFor text w) → Checked P text result
+found_so P text why (Err stop) found is = tt
+found_so P text why (Ok (Ok x)) found is = absurd found
+found_so P text why (Ok (Err w)) found is = is w found
 
 -- the predefined names are few
 pub few_first : (names : List Bytes) → names ≡ first_names → length names ≤ 3000000000
@@ -62,25 +77,26 @@ lex_told (lexing.NumberTooLarge p) w e same = cc
 lex_told lexing.TooManyTokens w e same = cc
 lex_told lexing.OutOfMemory w e same = cc
 
-pub not_lexed : (names : List Bytes) (text : Bytes) (error : LexError) (result : Result (Option Refusal) Stop) → length text ≤ 1048576 → names ≡ first_names → IsFaultOf names text error
-    → Found (lex_refusal error) result → Checked text result
-not_lexed names text error result short e fault found =
-    found_so text (lex_refusal error) result found
-    (λ w told. record { cause = tokens_refused error; is_judged = no_tokens short (subst (λ n. IsFaultOf n text error) e fault) (lex_told error w told); told = told })
+pub not_lexed : {T : Type 0} (P : T → Type 0) (names : List Bytes) (text : Bytes) (error : LexError) (result : Result (Result T Refusal) Stop) → length text ≤ 1048576 → names ≡ first_names → IsFaultOf names text error
+    → Found (lex_refusal error) result → Checked P text result
+not_lexed P names text error result short e fault found =
+    found_so P text (lex_refusal error) result found
+    (λ w told. not_judged (tokens_refused error) (no_tokens short (subst (λ n. IsFaultOf n text error) e fault) (lex_told error w told)) told)
 
 place_in : (tokens : List Token) (at : Place) → Contains (map (λ (t : Token). t.place) tokens) at → Any (λ (t : Token). t.place ≡ at) tokens
 place_in [] at (k, lt, e) = absurd (omega (arith, lt))
 place_in (t ∷ ts) at (zero, lt, e) = (0, t, omega arith, refl, e)
 place_in (t ∷ ts) at (suc k, lt, e) = let (j, u, l, is, p) = place_in ts at (k, omega (arith, lt), e) in (suc j, u, omega (arith, l), is, p)
 
-pub not_parsed : (text : Bytes) (tokens : List Token) (error : ParseError) (result : Result (Option Refusal) Stop) → HasTokens text tokens → IsRefusal tokens error → Found (parse_refusal error) result → Checked text result
-not_parsed text tokens (parsing.Syntax place) result has is found =
-    found_so text (Some (refusal.Syntax place)) result found
-    (λ w told. record { cause = syntax_refused place; is_judged = no_program has (λ tree a. is.none tree a.spelled a.nests) (place_in tokens place is.placed); told = told })
-not_parsed text tokens (parsing.TooDeep place) result has is found =
-    found_so text (Some (refusal.Deep place)) result found
-    (λ w told. record { cause = depth_refused place; is_judged = too_deep has (λ tree a. is.none tree a.spelled a.nests) (place_in tokens place is.placed); told = told })
-not_parsed text tokens parsing.OutOfMemory result has is found = found_so text None result found (λ w told. absurd cc)
+pub not_parsed : {T : Type 0} (P : T → Type 0) (text : Bytes) (tokens : List Token) (error : ParseError) (result : Result (Result T Refusal) Stop) → HasTokens text tokens → IsRefusal tokens error → Found (parse_refusal error) result
+    → Checked P text result
+not_parsed P text tokens (parsing.Syntax place) result has is found =
+    found_so P text (Some (refusal.Syntax place)) result found
+    (λ w told. not_judged (syntax_refused place) (no_program has (λ tree a. is.none tree a.spelled a.nests) (place_in tokens place is.placed)) told)
+not_parsed P text tokens (parsing.TooDeep place) result has is found =
+    found_so P text (Some (refusal.Deep place)) result found
+    (λ w told. not_judged (depth_refused place) (too_deep has (λ tree a. is.none tree a.spelled a.nests) (place_in tokens place is.placed)) told)
+not_parsed P text tokens parsing.OutOfMemory result has is found = found_so P text None result found (λ w told. absurd cc)
 
 expand_told : (error : ExpandError) (w : Refusal) → expand_refusal error ≡ Some w → error ≢ expanding.OutOfMemory
 expand_told (expanding.UnknownName p) w e same = cc
@@ -95,41 +111,66 @@ expand_told expanding.TooLarge w e same = cc
 expand_told expanding.TooManyVisits w e same = cc
 expand_told expanding.OutOfMemory w e same = cc
 
-pub not_expanded : (text : Bytes) (tokens : List Token) (tree : written.Tree) (error : ExpandError) (result : Result (Option Refusal) Stop) → HasTokens text tokens → IsTheProgram tokens tree
+pub not_expanded : {T : Type 0} (P : T → Type 0) (text : Bytes) (tokens : List Token) (tree : written.Tree) (error : ExpandError) (result : Result (Result T Refusal) Stop) → HasTokens text tokens → IsTheProgram tokens tree
     → (error ≡ expanding.OutOfMemory) ⊎ ((text : Bytes) (tokens : List Token) → HasTokens text tokens → IsAllowed tokens tree → IsJudged text (Err (expansion_refused error)))
-    → Found (expand_refusal error) result → Checked text result
-not_expanded text tokens tree error result has program refused found =
-    found_so text (expand_refusal error) result found
+    → Found (expand_refusal error) result → Checked P text result
+not_expanded P text tokens tree error result has program refused found =
+    found_so P text (expand_refusal error) result found
     (λ w told. elim refused [
       | inl memory ↦ absurd (expand_told error w told memory)
-      | inr is ↦ record { cause = expansion_refused error; is_judged = is text tokens has (is_allowed tokens tree program); told = told }
+      | inr is ↦ not_judged (expansion_refused error) (is text tokens has (is_allowed tokens tree program)) told
     ])
 
--- ---- acceptance, and length
+-- ---- core phrases, and length
 
-pub accepted_text : (text : Bytes) (tokens : List Token) (tree : written.Tree) (phrase : Tree) → HasTokens text tokens → IsTheProgram tokens tree
-    → ((text : Bytes) (tokens : List Token) → HasTokens text tokens → IsAllowed tokens tree → IsJudged text (Ok phrase)) → IsAccepted text
-accepted_text text tokens tree phrase has program is = record { phrase = phrase; is_judged = is text tokens has (is_allowed tokens tree program) }
+-- binders are less deep than the core limit on nesting
+pub depth_within : (p : Tree) → HasDepths p → IsWithinLimits p → depth p ≤ 1023
+depth_within p depths within = let h = within.shallow in let k = depth-below 0 p depths in omega arith
+
+pub core_judged : (text : Bytes) (tokens : List Token) (tree : written.Tree) (phrase : Tree) → HasTokens text tokens → IsTheProgram tokens tree
+    → ((text : Bytes) (tokens : List Token) → HasTokens text tokens → IsAllowed tokens tree → IsJudged text (Ok phrase)) → IsJudged text (Ok phrase)
+core_judged text tokens tree phrase has program is = is text tokens has (is_allowed tokens tree program)
+
+pub names_of : (names after : List Bytes) (text : Bytes) (tokens : List Token) → names ≡ first_names → IsTokensOf names text tokens after → HasNames text after
+names_of names after text tokens e read = record { tokens = tokens; read = subst (λ n. IsTokensOf n text tokens after) e read }
 
 pub long_text : (text : Bytes) → 1048576 < length text → IsRefusedFor text refusal.Length
-long_text text longer = record { cause = length_refused; is_judged = judged.too_long longer; told = refl }
+long_text text longer = not_judged length_refused (judged.too_long longer) refl
 
--- ---- what is written of a text that is accepted
+-- ---- typing
 
-abbrev line : Bytes
-line = codes "accepted" ++ 10 ∷ []
+-- what finding a derivation answers of a text with this core phrase
+pub not_found : {T : Type 0} (P : T → Type 0) (text : Bytes) (p : Tree) (error : FindError) (result : Result (Result T Refusal) Stop) → IsJudged text (Ok p) → IsFinding p (Err error) → Found (find_refusal error) result → Checked P text result
+not_found P text p (finding.NoType place) result is (within, none, blamed) found =
+    found_so P text (Some (refusal.NoType place)) result found
+    (λ w told.
+    let same : refusal.NoType (blame_of [] p) ≡ w = ap refusal.NoType (sym blamed) ∙ (let e : Some (refusal.NoType place) ≡ Some w = told in cc) in
+    subst (λ r. IsRefusedFor text r) same (no_command_in p is within none))
+  where
+    no_command_in : (p : Tree) → IsJudged text (Ok p) → KeepTypeLimits (visits 0 [] p) → ¬ HasType [] p (atom Comm) → IsRefusedFor text (refusal.NoType (blame_of [] p))
+    no_command_in p is within none = no_command p is within none
+not_found P text p finding.TypeTooLarge result is passes found =
+    found_so P text (Some refusal.LeastSize) result found
+    (λ w told. let same : refusal.LeastSize ≡ w = cc in subst (λ r. IsRefusedFor text r) same (too_large p is passes))
+not_found P text p finding.OutOfMemory result is memory found = found_so P text None result found (λ w told. absurd cc)
 
-pub accepted_put : (b c : Contents) (bytes : Bytes) (status : ℕ) → bytes ≡ line → status ≡ 0 → c ≡ record b { output = appended b.output bytes } → Did accepted b c (Ok status)
-accepted_put b c bytes status e none_is put = (
+-- a phrase that a derivation concludes `comm` for is a command
+pub is_program : (text : Bytes) (p : Tree) (d : PlainDerivation) → IsJudged text (Ok p) → KeepTypeLimits (visits 0 [] p) → refusal_of (conclusion_of p d) ≡ None → IsProgramText text p
+is_program text p d is within accepted = record { is_judged = is; within = within; is_command = accepted-typed p d accepted }
+
+-- ---- what is written
+
+pub written_put : (b c : Contents) (bytes : Bytes) (status : ℕ) → status ≡ 0 → c ≡ record b { output = appended b.output bytes } → Did (written bytes) b c (Ok status)
+written_put b c bytes status none_is put = (
   none_is,
-  put ∙ (λ i. record { files = b.files; input = b.input; output = appended b.output (e i); notes = sym (appended-nil b.notes) i }),
+  put ∙ (λ i. record { files = b.files; input = b.input; output = appended b.output bytes; notes = sym (appended-nil b.notes) i }),
 )
 
-pub accepted_part : (b c : Contents) (bytes : Bytes) (stop : Stop) → bytes ≡ line → c ≡ record b { output = c.output } → GainedPart b.output c.output bytes → stop ≡ Output → Did accepted b c (Err stop)
-accepted_part b c bytes stop e rest part stop_is = record {
+pub written_part : (b c : Contents) (bytes : Bytes) (stop : Stop) → c ≡ record b { output = c.output } → GainedPart b.output c.output bytes → stop ≡ Output → Did (written bytes) b c (Err stop)
+written_part b c bytes stop rest part stop_is = record {
   files = ap (λ (x : Contents). x.files) rest;
   input = ap (λ (x : Contents). x.input) rest;
-  output = subst (λ t. GainedPart b.output c.output t) e part;
+  output = part;
   notes = subst (λ n. GainedPart b.notes n []) (sym (ap (λ (x : Contents). x.notes) rest)) (nothing b.notes []);
   unchanged = λ _. ap (λ (x : Contents). x.files) rest;
   whole = λ memory. let clash : Output ≡ Memory = sym stop_is ∙ memory in absurd cc;

@@ -18,7 +18,7 @@ use Rattle.rv_machine.specs.declared.run.MachineRun.{MachineRun}
 use Rattle.rv_machine.proofs.Runs.{run_none, run_more}
 use Rattle.fy_tool.specs.World.{Contents, Counts, Later}
 use Rattle.fy_tool.specs.Note.{texts, ended_lines}
-use Rattle.fy_tool.specs.Due.{Running, IsOwnEnd, IsRun, status_of, end_notes, traced, ran}
+use Rattle.fy_tool.specs.Due.{Running, of_machine, IsOwnEnd, IsRun, status_of, end_notes, traced, ran}
 use Rattle.fy_tool.specs.Answers.{Asks, Caused, WholeLines}
 use Rattle.fy_tool.specs.Working.{HasRun}
 use Rattle.fy_tool.specs.declared.world.Stop.{Stop}
@@ -34,7 +34,7 @@ pub record Takes (input rest : Bytes) : Type 0 where
   pub taken : Bytes
   pub is : input ≡ taken ++ rest
 
-first_taken : (input : Bytes) → Takes input (drop 1 input)
+pub first_taken : (input : Bytes) → Takes input (drop 1 input)
 first_taken [] = record { taken = []; is = refl }
 first_taken (b ∷ bs) = record { taken = b ∷ []; is = refl }
 
@@ -56,7 +56,7 @@ from_takes (events.Fault kind place) program world = record { taken = []; is = r
 from_takes events.Exhausted program world = record { taken = []; is = refl }
 from_takes (events.Trap kind) program world = record { taken = []; is = refl }
 
-then_takes : (a b c : Bytes) → Takes a b → Takes b c → Takes a c
+pub then_takes : (a b c : Bytes) → Takes a b → Takes b c → Takes a c
 then_takes a b c t u = record { taken = t.taken ++ u.taken; is = t.is ∙ ap (λ x. t.taken ++ x) u.is ∙ sym (append_assoc t.taken u.taken c) }
 
 run_takes : (program : Program) (n : ℕ) (world : World) → Takes world.input (run program n world).input
@@ -66,7 +66,7 @@ run_takes program (suc n) world =
     subst (λ rest. Takes world.input rest) (sym more)
     (then_takes _ _ _ (run_takes program n world) (from_takes (run program n world).ending program (run program n world)))
 
-gave_by : (before now : Option Bytes) (input rest taken : Bytes) → ForSome before (λ left. input ≡ left) → now ≡ option_map (λ _. rest) before → input ≡ taken ++ rest → Gave before now taken
+pub gave_by : (before now : Option Bytes) (input rest taken : Bytes) → ForSome before (λ left. input ≡ left) → now ≡ option_map (λ _. rest) before → input ≡ taken ++ rest → Gave before now taken
 gave_by None now input rest taken told is split = ap (λ n. option_map (λ r. taken ++ r) n) (sym is)
 gave_by (Some left) now input rest taken told is split = ap (λ b. Some b) (sym (told left refl) ∙ split) ∙ ap (λ n. option_map (λ r. taken ++ r) n) (sym is)
 
@@ -83,7 +83,7 @@ running_by program core limit input = record { program = program; first = going_
 abbrev pub Ran : Program → Core → ℕ → MachineRun → Core → Contents → Contents → Type 0
 Ran program core limit done after h c = RunsTo program core limit done after h.input c.input h.output c.output
 
-asks_by : (program : Program) (first : World) (n limit : ℕ) (end : Ending) → n ≤ limit → EndsSo end program first n limit → end ≡ ends.InputFault → Asks (Some (record { program = program; first = first; limit = limit }))
+asks_by : (program : Program) (first : World) (n limit : ℕ) (end : Ending) → n ≤ limit → EndsSo end program first n limit → end ≡ ends.InputFault → Asks (Some (of_machine (record { program = program; first = first; limit = limit })))
 asks_by program first n limit end le so is = (n, le, subst (λ e. EndsSo e program first n limit) is so)
 
 -- a run that a fault of the outside ended: a part of what is due was done

@@ -9,8 +9,8 @@ use Rattle.fy_image.specs.declared.error.ImageError.TheVariants.{TooLarge}
 use Rattle.fy_phrase.specs.Tree.{Tree}
 use Rattle.fy_phrase.specs.Reads.{reads}
 use Rattle.fy_phrase.specs.declared.phrase.Phrase.{Phrase}
-use Rattle.fy_tool.specs.Small.{IsProgram}
-use Rattle.fy_tool.specs.Said.{IsCommand, puts_of}
+use Rattle.fy_small.specs.Small.{IsProgram}
+use Rattle.fy_small.specs.Said.{IsCommand, puts_of}
 use Rattle.fy_tool.specs.Due.{IsRefused}
 use Rattle.fy_tool.specs.Working.{Judged}
 

@@ -13,7 +13,7 @@ use Rattle.rv_insn.specs.Step.{Core}
 use Rattle.rv_machine.specs.Start.{IsProgramOf, start_of}
 use Rattle.fy_tool.specs.World.{Contents}
 use Rattle.fy_tool.specs.Note.{ended_lines}
-use Rattle.fy_tool.specs.Due.{Due, Running, ran}
+use Rattle.fy_tool.specs.Due.{of_machine, Due, Running, ran}
 use Rattle.fy_tool.specs.Answers.{files_after, after_all, InputPart, Did}
 use Rattle.fy_tool.specs.Working.{IsUnbegun, WasKept, Keeps, HasRun, HasKeptAndRun, KeepsAndRuns}
 use Rattle.fy_tool.specs.declared.world.Stop.{Stop}
@@ -130,7 +130,7 @@ did_kept running name bytes n end h c d (Err stop) ready kept p =
     let not_memory : stop ≢ Memory = λ memory. ready (ap (λ s. Err s) memory) in
     record {
       files = inr (inl (p.files ∙ ap (λ (x : Contents). x.files) kept));
-      input = subst (λ i. InputPart (Some running) i d.input) (ap (λ (x : Contents). x.input) kept) p.input;
+      input = subst (λ i. InputPart (Some (of_machine running)) i d.input) (ap (λ (x : Contents). x.input) kept) p.input;
       output = subst (λ o. GainedPart o d.output due.output) (ap (λ (x : Contents). x.output) kept) p.output;
       notes = subst (λ n. GainedPart n d.notes (ended_lines due.notes)) (ap (λ (x : Contents). x.notes) kept) p.notes;
       unchanged = λ memory. absurd (not_memory memory);

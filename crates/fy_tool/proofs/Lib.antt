@@ -1,14 +1,3 @@
-pub mod Numbers
-pub mod TokenLemmas
-pub mod StatementLemmas
-pub mod Sequences
-pub mod Programs
-pub mod CopyRuns
-pub mod CopyOutputs
-pub mod ImageCode
-pub mod ImageRuns
-pub mod Headlines
-pub mod WordLemmas
 pub mod Contents
 pub mod Lines
 pub mod Judging
@@ -16,6 +5,7 @@ pub mod Checking
 pub mod WholeRuns
 pub mod Parts
 pub mod Executing
+pub mod Copying
 pub mod Tracing
 pub mod Keeping
 pub mod Listing

@@ -10,7 +10,7 @@ use Rattle.fy_tool.specs.World.{Contents, Counts, Later}
 use Rattle.fy_tool.specs.Note.{ended_lines}
 use Rattle.fy_tool.specs.declared.world.Stop.{Stop}
 use Rattle.fy_tool.specs.declared.world.Stop.TheVariants.{Files, Input, Output, Notes, Memory}
-use Rattle.fy_tool.specs.Due.{Due, Running}
+use Rattle.fy_tool.specs.Due.{Due, Runs}
 use Rattle.fy_tool.specs.Answers.{files_after, after_all, FilesPart, InputPart, Part, Caused}
 use Rattle.fy_tool.proofs.Contents.{appended-nil, nothing}
 
@@ -32,7 +32,7 @@ pub none_taken : (left : Option Bytes) → Gave left left []
 none_taken None = refl
 none_taken (Some rest) = refl
 
-pub input_none : (running : Option Running) (left : Option Bytes) → InputPart running left left
+pub input_none : (running : Option Runs) (left : Option Bytes) → InputPart running left left
 input_none None left = refl
 input_none (Some running) left = ([], none_taken left)
 

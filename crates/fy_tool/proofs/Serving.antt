@@ -1,6 +1,6 @@
 -- From the parts of a command's work to what is due for the words.
 use Rattle.std.proofs.Common.{◌≡◌, ◌≢◌, ℕ, [], ◌∷◌, sym, ap, ◌∙◌, refl, subst, Some, None, inl, inr}
-use Rattle.std.specs.Prelude.{IfOk, IfErr}
+use Rattle.std.specs.Prelude.{◌⊎◌, IfOk, IfErr}
 use Rattle.std.specs.Option.{ForSome}
 use Rattle.std.specs.declared.option.Option.{Option}
 use Rattle.std.specs.declared.result.Result.{Result}
@@ -8,7 +8,10 @@ use Rattle.std.specs.declared.result.Result.TheVariants.{Err}
 use Rattle.fy_base.specs.Outside.{Bytes, Tells}
 use Rattle.fy_base.specs.declared.data.Ending.{Ending}
 use Rattle.fy_base.specs.declared.data.Ending.TheVariants as ends
+use Rattle.fy_phrase.specs.Reads.{reads}
 use Rattle.fy_phrase.specs.Tree.{Tree}
+use Rattle.fy_derive.specs.Print.{derivation_text}
+use Rattle.fy_derive.specs.Reading.{plain_derivation}
 use Rattle.fy_image.specs.Form.{IsImageBytes}
 use Rattle.fy_image.specs.Refusals.{refusal_of}
 use Rattle.fy_image.specs.declared.error.ImageError.{ImageError}
@@ -17,14 +20,16 @@ use Rattle.rv_insn.specs.Program.{Program}
 use Rattle.rv_machine.specs.Start.{start_of, IsProgramOf as IsProgramOfImage}
 use Rattle.rv_machine.specs.Ends.{IsMachineEnd}
 use Rattle.fy_tool.specs.World.{Contents, Counts, Later}
-use Rattle.fy_tool.specs.Said.{image_of}
-use Rattle.fy_tool.specs.Checked.{IsAccepted, IsRefusedFor}
+use Rattle.fy_small.specs.Said.{image_of}
+use Rattle.fy_tool.specs.Checked.{IsProgramText, IsAccepted, IsRefusedFor}
 use Rattle.fy_tool.specs.declared.refusal.Refusal.{Refusal}
-use Rattle.fy_tool.specs.Order.{Order, check, build, exec, run, list}
+use Rattle.fy_words.specs.Order.{Order, check, derive, build, exec, run, copy, list}
 use Rattle.fy_tool.specs.Note.{refusal_note}
-use Rattle.fy_tool.specs.Due.{Due, told, BuildsText, IsRefused, IsBuilt, IsOwnEnd, IsDue, usage, stopped, refused, accepted, accepts, faults, builds, lists, unread, executes, runs, stack_wanted, steps_wanted, kept_as, file_of, keeps_of, IsReadyFirst}
+use Rattle.fy_tool.specs.Due.{Due, told, BuildsText, TypesText, IsRefused, IsBuilt, IsOwnEnd, IsDue, usage, stopped, refused, accepted, written, accepts, faults, derives, copies, builds, lists, unread, executes, runs, kept_as, file_of, keeps_of, IsReadyFirst}
+use Rattle.fy_words.specs.Order.{copy_wanted, steps_wanted, stack_wanted}
 use Rattle.fy_tool.specs.Answers.{Caused, Did, IsOwn, Serves}
-use Rattle.fy_tool.specs.Working.{IsProgramOf, IsUnbegun, Keeps, Executes, KeepsAndRuns, HasRun, listed}
+use Rattle.fy_tool.specs.Working.{IsProgramOf, IsUnbegun, Keeps, Executes, KeepsAndRuns, HasRun, HasCopied, IsOfText, listed}
+use Rattle.fy_tool.specs.declared.check.Program.{Program as ProgramOfText}
 use Rattle.fy_tool.specs.declared.note.Note.{Note}
 use Rattle.fy_tool.specs.declared.note.Note.TheVariants as note
 use Rattle.fy_tool.specs.declared.world.Stop.{Stop}
@@ -32,7 +37,7 @@ use Rattle.fy_tool.specs.declared.world.Stop.TheVariants.{Input, Memory}
 use Rattle.fy_tool.proofs.Contents.{later_more}
 use Rattle.fy_tool.proofs.Parts.{content_of, part_none, if_caused_more, keeps_more}
 use Rattle.fy_tool.proofs.Keeping.{some_input}
-use Rattle.fy_tool.proofs.Headlines.{small_runs_as_copy_rule, small_never_sticks, shows_copy_rule, one_program}
+use Rattle.fy_small.proofs.Headlines.{small_runs_as_copy_rule, small_never_sticks, shows_copy_rule, one_program}
 
 -- words that are no command
 pub serves_usage : (b c : Contents) (k k1 : Counts) (result : Result ℕ Stop) → Later k k1 → IfErr result (λ stop. Caused [] [] stop k k1) → IfOk result IsOwn → result ≢ Err Memory
@@ -134,12 +139,26 @@ serves_accepted file text b c d k k1 k2 result is a ready did =
     let input = some_input c.input in
     done (check file) text b c d k k1 k2 result accepted input.0 a input.1 (accepts file text input.0 is) did (λ _ memory. absurd (ready memory))
 
--- `check` of a text that is refused
-pub serves_faulted : (file text : Bytes) (why : Refusal) (b c d : Contents) (k k1 k2 : Counts) (result : Result ℕ Stop) → IsRefusedFor text why → After (check file) text b c d k k1 k2 result → result ≢ Err Memory → Did (told 2 (note.Refused why ∷ [])) c d result
-    → Serves (Some (check file)) b d k k2 result
-serves_faulted file text why b c d k k1 k2 result is a ready did =
+-- a text that is no program, where it is typed
+pub serves_faulted : (order : Order) (text : Bytes) (why : Refusal) (b c d : Contents) (k k1 k2 : Counts) (result : Result ℕ Stop) → TypesText order → IsRefusedFor text why → After order text b c d k k1 k2 result → result ≢ Err Memory
+    → Did (told 2 (note.Refused why ∷ [])) c d result → Serves (Some order) b d k k2 result
+serves_faulted order text why b c d k k1 k2 result types is a ready did =
     let input = some_input c.input in
-    done (check file) text b c d k k1 k2 result (told 2 (note.Refused why ∷ [])) input.0 a input.1 (faults file text input.0 why is) did (λ _ memory. absurd (ready memory))
+    done order text b c d k k1 k2 result (told 2 (note.Refused why ∷ [])) input.0 a input.1 (faults order text input.0 why types is) did (λ _ memory. absurd (ready memory))
+
+-- `derive` of a program
+pub serves_derived : (file text : Bytes) (program : ProgramOfText) (b c d : Contents) (k k1 k2 : Counts) (result : Result ℕ Stop) → IsOfText text program → After (derive file) text b c d k k1 k2 result → (result ≡ Err Memory → d.output ≡ c.output)
+    → IsUnbegun c d result ⊎ Did (written (derivation_text program.names (plain_derivation program.derivation))) c d result → Serves (Some (derive file)) b d k k2 result
+serves_derived file text program b c d k k1 k2 result is a ready (inl unbegun) = none_done (derive file) text b c d k k1 k2 result a unbegun
+serves_derived file text program b c d k k1 k2 result is a ready (inr did) =
+    let input = some_input c.input in
+    done (derive file) text b c d k k1 k2 result _ input.0 a input.1 (derives file text input.0 (reads program.phrase) program.names (plain_derivation program.derivation) is.is_program is.named is.derived) did (λ _ memory. ready memory)
+
+-- `copy` of a program
+pub serves_copied : (file : Bytes) (steps : Option ℕ) (text : Bytes) (p : Tree) (b c d : Contents) (k k1 k2 : Counts) (result : Result ℕ Stop) → IsProgramText text p → After (copy file steps) text b c d k k1 k2 result
+    → HasCopied p (copy_wanted steps) c d result → Serves (Some (copy file steps)) b d k k2 result
+serves_copied file steps text p b c d k k1 k2 result is a r =
+    done (copy file steps) text b c d k k1 k2 result _ r.input a r.fed (copies file steps text r.input p r.n r.end is r.is_run) r.did (λ ready. absurd ready)
 
 is_built : (text : Bytes) (stack : ℕ) (p : Tree) → IsProgramOf text p → IsBuilt text stack p (image_of stack p)
 is_built text stack p is = record { short = is.short; program = is.program; stack_is = refl; runs = small_runs_as_copy_rule stack p is.command is.few }

@@ -7,10 +7,11 @@ use Rattle.std.specs.declared.result.Result.TheVariants.{Ok, Err}
 use Rattle.std.specs.FinMap.{insert}
 use Rattle.fy_base.specs.Outside.{Bytes, Folder, Rose, Gave, appended, Gained, GainedPart, IsPrefix, Tells, Kept, OthersStay}
 use Rattle.rv_machine.specs.Ends.{AsksAt}
+use Rattle.fy_copy.specs.Ends as copy
 use Rattle.fy_tool.specs.World.{Contents, Counts, Later}
 use Rattle.fy_tool.specs.Note.{texts, ended_lines}
-use Rattle.fy_tool.specs.Order.{Order}
-use Rattle.fy_tool.specs.Due.{Due, Running, IsDue, file_of, keeps_of, IsReadyFirst}
+use Rattle.fy_words.specs.Order.{Order}
+use Rattle.fy_tool.specs.Due.{Due, Runs, of_machine, of_phrase, IsDue, file_of, keeps_of, IsReadyFirst}
 use Rattle.fy_tool.specs.declared.note.Note.TheVariants as note
 use Rattle.fy_tool.specs.declared.world.Stop.{Stop}
 use Rattle.fy_tool.specs.declared.world.Stop.TheVariants.{Files, Input, Output, Notes, Memory}
@@ -44,14 +45,15 @@ FilesPart None before now = now ≡ before
 FilesPart (Some kept) before now = (now ≡ before) ⊎ Kept before now kept.0 kept.1 ⊎ OthersStay before now kept.0
 
 -- a run takes bytes of input, and nothing else does
-abbrev pub InputPart : Option Running → Option Bytes → Option Bytes → Type 0
+abbrev pub InputPart : Option Runs → Option Bytes → Option Bytes → Type 0
 InputPart None before now = now ≡ before
 InputPart (Some running) before now = (taken : Bytes) × Gave before now taken
 
--- a run comes to an instruction, within its limit, that reads a byte
-abbrev pub Asks : Option Running → Type 0
+-- a run comes to an instruction, or to a step, within its limit, that reads a byte
+abbrev pub Asks : Option Runs → Type 0
 Asks None = ⊥
-Asks (Some running) = (n : ℕ) × (n ≤ running.limit) × AsksAt running.program running.first n
+Asks (Some (of_machine running)) = (n : ℕ) × (n ≤ running.limit) × AsksAt running.program running.first n
+Asks (Some (of_phrase copying)) = (n : ℕ) × (n ≤ copying.limit) × copy.AsksAt copying.phrase copying.input n
 
 -- whole lines of the due notes
 pub record WholeLines (notes : List Bytes) (before now : Option Bytes) : Type 0 where

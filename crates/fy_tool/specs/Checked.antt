@@ -1,10 +1,15 @@
 -- Which texts are accepted, and why the others are refused: by the first stage that refuses, where the stages are the length, the tokens,
--- the syntax with its nesting, the expansion, and the core limits.
-use Rattle.std.specs.Prelude.{◌≡◌, Some, None, Ok, Err}
+-- the syntax with its nesting, the expansion, the core limits, and the typing with its limits.
+use Rattle.std.specs.Prelude.{◌≡◌, List, [], Some, None, Ok, Err}
 use Rattle.std.specs.declared.option.Option.{Option}
 use Rattle.fy_base.specs.Outside.{Bytes}
+use Rattle.fy_types.specs.Names.{first_names}
+use Rattle.fy_types.specs.Types.{atom}
+use Rattle.fy_types.specs.declared.types.Atom.TheVariants.{Comm}
 use Rattle.fy_lexer.specs.declared.error.LexError.{LexError}
 use Rattle.fy_lexer.specs.declared.error.LexError.TheVariants as lexing
+use Rattle.fy_lexer.specs.declared.token.Token.{Token}
+use Rattle.fy_lexer.specs.Tokens.{IsTokensOf}
 use Rattle.fy_grammar.specs.declared.error.ParseError.{ParseError}
 use Rattle.fy_grammar.specs.declared.error.ParseError.TheVariants as parsing
 use Rattle.fy_phrase.specs.Tree.{Tree}
@@ -12,6 +17,12 @@ use Rattle.fy_expand.specs.declared.error.ExpandError.{ExpandError}
 use Rattle.fy_expand.specs.declared.error.ExpandError.TheVariants as expanding
 use Rattle.fy_expand.specs.Judged.{IsJudged, length_refused, tokens_refused, syntax_refused, depth_refused, expansion_refused}
 use Rattle.fy_expand.specs.Judged as judged
+use Rattle.fy_derive.specs.Typing.{HasType}
+use Rattle.fy_derive.specs.Least.{visits}
+use Rattle.fy_least.specs.Blame.{blame_of}
+use Rattle.fy_least.specs.Limits.{KeepTypeLimits, PassTypeLimits}
+use Rattle.fy_least.specs.declared.error.FindError.{FindError}
+use Rattle.fy_least.specs.declared.error.FindError.TheVariants as finding
 use Rattle.fy_tool.specs.declared.refusal.Refusal.{Refusal}
 use Rattle.fy_tool.specs.declared.refusal.Refusal.TheVariants as refusal
 
@@ -41,6 +52,11 @@ expand_refusal expanding.TooLarge = Some refusal.CoreSize
 expand_refusal expanding.TooManyVisits = Some refusal.Visits
 expand_refusal expanding.OutOfMemory = None
 
+abbrev pub find_refusal : FindError → Option Refusal
+find_refusal (finding.NoType place) = Some (refusal.NoType place)
+find_refusal finding.TypeTooLarge = Some refusal.LeastSize
+find_refusal finding.OutOfMemory = None
+
 -- how a refusal of the judged text is told
 abbrev pub told_as : judged.Refusal → Option Refusal
 told_as length_refused = Some refusal.Length
@@ -49,13 +65,23 @@ told_as (syntax_refused place) = Some (refusal.Syntax place)
 told_as (depth_refused place) = Some (refusal.Deep place)
 told_as (expansion_refused error) = expand_refusal error
 
--- the text has a core phrase
+-- the text's core phrase is a command, and its types keep their limits
+pub record IsProgramText (text : Bytes) (p : Tree) : Type 0 where
+  pub is_judged : IsJudged text (Ok p)
+  pub within : KeepTypeLimits (visits 0 [] p)
+  pub is_command : HasType [] p (atom Comm)
+
 pub record IsAccepted (text : Bytes) : Type 0 where
   pub phrase : Tree
-  pub is_judged : IsJudged text (Ok phrase)
+  pub is_program : IsProgramText text phrase
 
--- the first stage that refuses the text, and why
-pub record IsRefusedFor (text : Bytes) (why : Refusal) : Type 0 where
-  pub cause : judged.Refusal
-  pub is_judged : IsJudged text (Err cause)
-  pub told : told_as cause ≡ Some why
+-- the first stage that refuses the text, and why; typing refuses for its limits before the type
+pub data IsRefusedFor (text : Bytes) : Refusal → Type 0 where
+  not_judged : {why : Refusal} (cause : judged.Refusal) → IsJudged text (Err cause) → told_as cause ≡ Some why → IsRefusedFor text why
+  too_large : (p : Tree) → IsJudged text (Ok p) → PassTypeLimits (visits 0 [] p) → IsRefusedFor text refusal.LeastSize
+  no_command : (p : Tree) → IsJudged text (Ok p) → KeepTypeLimits (visits 0 [] p) → ¬ HasType [] p (atom Comm) → IsRefusedFor text (refusal.NoType (blame_of [] p))
+
+-- the names of the text: those that are always there, and then its others in the order in which they first stand in it
+pub record HasNames (text : Bytes) (names : List Bytes) : Type 0 where
+  pub tokens : List Token
+  pub read : IsTokensOf first_names text tokens names

@@ -6,6 +6,12 @@ use Rattle.fy_base.specs.Outside.{Bytes}
 use Rattle.fy_base.specs.declared.data.Ending.{Ending}
 use Rattle.fy_base.specs.declared.data.Ending.TheVariants as ends
 use Rattle.fy_phrase.specs.Tree.{Tree}
+use Rattle.fy_phrase.specs.Copy.{copy_after, peak_load}
+use Rattle.fy_copy.specs.Ends.{IsHeldBelow}
+use Rattle.fy_copy.specs.Ends as copy
+use Rattle.fy_derive.specs.Derivations.{PlainDerivation}
+use Rattle.fy_derive.specs.Judging.{conclusion_of, refusal}
+use Rattle.fy_derive.specs.Print.{derivation_text}
 use Rattle.fy_image.specs.Form.{IsImageBytes}
 use Rattle.fy_image.specs.Refusals.{refusal_of}
 use Rattle.fy_image.specs.declared.error.ImageError.{ImageError}
@@ -15,11 +21,11 @@ use Rattle.rv_machine.specs.Fetch.{fetches}
 use Rattle.rv_machine.specs.Start.{IsProgramOf, start_of}
 use Rattle.rv_machine.specs.Run.{World, run, going_world}
 use Rattle.rv_machine.specs.Ends.{EndsSo}
-use Rattle.fy_tool.specs.Small.{IsProgram}
-use Rattle.fy_tool.specs.Checked.{IsAccepted, IsRefusedFor}
-use Rattle.fy_tool.specs.Headline.{RunsAsCopyRule, ShowsCopyRule}
-use Rattle.fy_tool.specs.Order.{Order}
-use Rattle.fy_tool.specs.Order as orders
+use Rattle.fy_small.specs.Small.{IsProgram}
+use Rattle.fy_tool.specs.Checked.{IsProgramText, IsAccepted, IsRefusedFor, HasNames}
+use Rattle.fy_small.specs.Headline.{RunsAsCopyRule, ShowsCopyRule}
+use Rattle.fy_words.specs.Order.{Order, stack_wanted, steps_wanted, copy_wanted}
+use Rattle.fy_words.specs.Order as orders
 use Rattle.fy_tool.specs.Note.{texts, ended_lines, refusal_note}
 use Rattle.fy_tool.specs.Shown.{shown, listing}
 use Rattle.fy_tool.specs.declared.refusal.Refusal.{Refusal}
@@ -32,6 +38,16 @@ pub record Running : Type 0 where
   pub first : World
   pub limit : ℕ
 
+-- a run of the copy rule on a phrase and an input, of at most so many steps
+pub record Copying : Type 0 where
+  pub phrase : Tree
+  pub input : Bytes
+  pub limit : ℕ
+
+pub data Runs : Type 0 where
+  of_machine : Running → Runs
+  of_phrase : Copying → Runs
+
 -- what is due; where the rest of the input is none, the input is as before. The notes are lines
 pub record Due : Type 0 where
   pub status : ℕ
@@ -39,15 +55,19 @@ pub record Due : Type 0 where
   pub notes : List Bytes
   pub kept : Option (Bytes × Bytes)
   pub rest : Option Bytes
-  pub running : Option Running
+  pub running : Option Runs
 
 -- a status and notes, and nothing else
 abbrev pub told : ℕ → List Note → Due
 told status notes = record { status = status; output = []; notes = texts notes; kept = None; rest = None; running = None }
 
--- what `check` is due to write of a text that is accepted, and nothing else
+-- bytes at output, and nothing else
+abbrev pub written : Bytes → Due
+written output = record { status = 0; output = output; notes = []; kept = None; rest = None; running = None }
+
+-- what `check` is due to write of a text that is accepted
 abbrev pub accepted : Due
-accepted = record { status = 0; output = codes "accepted" ++ 10 ∷ []; notes = []; kept = None; rest = None; running = None }
+accepted = written (codes "accepted" ++ 10 ∷ [])
 
 -- ---- texts and their images
 
@@ -61,19 +81,6 @@ pub record IsBuilt (text : Bytes) (stack : ℕ) (p : Tree) (image : Image) : Typ
   pub program : IsProgram text p
   pub stack_is : image.stack_words ≡ stack
   pub runs : RunsAsCopyRule p image
-
--- what is wanted where no option says it
-abbrev pub stack_wanted : Option ℕ → ℕ
-stack_wanted stack = unwrap_or stack 1048576
-
-abbrev pub steps_wanted : Option ℕ → ℕ
-steps_wanted steps = unwrap_or steps 1000000000
-
--- an order whose image has a stack of a size that images have
-abbrev pub HasStack : Order → Type 0
-HasStack (orders.build file image stack) = (1024 ≤ stack_wanted stack) × (stack_wanted stack ≤ 16777216)
-HasStack (orders.run file steps stack image) = (1024 ≤ stack_wanted stack) × (stack_wanted stack ≤ 16777216)
-HasStack _ = Unit {0}
 
 -- the name under which `run` keeps its image: FILE followed by `.img`, where no option names another
 abbrev pub kept_as : Bytes → Option Bytes → Bytes
@@ -108,6 +115,7 @@ abbrev pub note_of : Ending → Option Note
 note_of (ends.Fault kind place) = Some (note.Fault kind place)
 note_of ends.Exhausted = Some note.StackExhausted
 note_of ends.Spent = Some note.StepsSpent
+note_of ends.TooBig = Some note.CopyLimit
 note_of (ends.Trap kind) = Some (note.Trapped kind)
 note_of _ = None
 
@@ -128,12 +136,44 @@ ran running trace kept n end = record {
   notes = traced trace running n ++ texts (end_notes end n);
   kept = kept;
   rest = Some (run running.program n running.first).input;
-  running = Some running;
+  running = Some (of_machine running);
 }
 
 -- the run of an image on an input
 abbrev pub running_of : Program → Image → Bytes → Option ℕ → Running
 running_of program image input steps = record { program = program; first = going_world (start_of image) input; limit = steps_wanted steps }
+
+-- ---- the copy rule
+
+-- the ends of runs of typed phrases that no fault of the outside ended
+abbrev pub IsOwnCopyEnd : Ending → Type 0
+IsOwnCopyEnd ends.Ended = Unit {0}
+IsOwnCopyEnd (ends.Fault kind place) = Unit {0}
+IsOwnCopyEnd ends.Spent = Unit {0}
+IsOwnCopyEnd ends.TooBig = Unit {0}
+IsOwnCopyEnd _ = ⊥
+
+-- a run of at most so many steps ends so after n of them, and no focus before passed the limit on held phrases
+pub record IsCopyRun (copying : Copying) (n : ℕ) (end : Ending) : Type 0 where
+  pub ends : copy.EndsSo end copying.phrase copying.input n copying.limit
+  pub held : IsHeldBelow copying.phrase copying.input n
+  pub own : IsOwnCopyEnd end
+  pub within : n ≤ copying.limit
+
+-- the last notes of a run of the copy rule of n steps that ended so
+abbrev pub copy_notes : Ending → ℕ → ℕ → List Note
+copy_notes end n peak = option_to_list (note_of end) ++ note.Copied n peak ∷ []
+
+-- what is due for a run that ends so after n steps
+abbrev pub copied : Copying → ℕ → Ending → Due
+copied copying n end = record {
+  status = status_of end;
+  output = (copy_after copying.phrase copying.input n).output;
+  notes = texts (copy_notes end n (peak_load copying.phrase copying.input n));
+  kept = None;
+  rest = Some (copy_after copying.phrase copying.input n).input;
+  running = Some (of_phrase copying);
+}
 
 -- ---- orders
 
@@ -141,7 +181,16 @@ running_of program image input steps = record { program = program; first = going
 abbrev pub BuildsText : Order → Type 0
 BuildsText (orders.exec image steps trace) = ⊥
 BuildsText (orders.check file) = ⊥
+BuildsText (orders.derive file) = ⊥
+BuildsText (orders.copy file steps) = ⊥
 BuildsText _ = Unit {0}
+
+-- an order that types a text
+abbrev pub TypesText : Order → Type 0
+TypesText (orders.check file) = Unit {0}
+TypesText (orders.derive file) = Unit {0}
+TypesText (orders.copy file steps) = Unit {0}
+TypesText _ = ⊥
 
 -- what is due for the words, by the content of the file that they name, if it has one, and by the input
 pub data IsDue : Option Order → Option Bytes → Bytes → Due → Type 0 where
@@ -151,15 +200,23 @@ pub data IsDue : Option Order → Option Bytes → Bytes → Due → Type 0 wher
   stopped : (order : Order) (content : Option Bytes) (input : Bytes) → IsDue (Some order) content input (told 7 [])
   -- a text that can't be built yet
   refused : (order : Order) (text input : Bytes) → BuildsText order → IsRefused text → IsDue (Some order) (Some text) input (told 2 (note.Unbuilt ∷ []))
-  -- `check` of a text that is accepted, and of one that is refused
+  -- a text that is no program, where it is typed
+  faults : (order : Order) (text input : Bytes) (why : Refusal) → TypesText order → IsRefusedFor text why → IsDue (Some order) (Some text) input (told 2 (note.Refused why ∷ []))
+  -- `check` of a text that is one
   accepts : (file text input : Bytes) → IsAccepted text → IsDue (Some (orders.check file)) (Some text) input accepted
-  faults : (file text input : Bytes) (why : Refusal) → IsRefusedFor text why → IsDue (Some (orders.check file)) (Some text) input (told 2 (note.Refused why ∷ []))
+  -- `derive` writes the text of a derivation that the phrase is a command
+  derives : (file text input : Bytes) (p : Tree) (names : List Bytes) (d : PlainDerivation) → IsProgramText text p → HasNames text names → refusal (conclusion_of p d) ≡ None
+      → IsDue (Some (orders.derive file)) (Some text) input (written (derivation_text names d))
+  -- `copy` runs the phrase by the copy rule
+  copies : (file : Bytes) (steps : Option ℕ) (text input : Bytes) (p : Tree) (n : ℕ) (end : Ending) → IsProgramText text p
+      → IsCopyRun (record { phrase = p; input = input; limit = copy_wanted steps }) n end
+      → IsDue (Some (orders.copy file steps)) (Some text) input (copied (record { phrase = p; input = input; limit = copy_wanted steps }) n end)
   -- `build` keeps the image's bytes
   builds : (file name : Bytes) (stack : Option ℕ) (text input : Bytes) (p : Tree) (image : Image) (bytes : Bytes) → IsBuilt text (stack_wanted stack) p image → IsImageBytes image bytes
       → IsDue (Some (orders.build file name stack)) (Some text) input (record { status = 0; output = []; notes = []; kept = Some (name, bytes); rest = None; running = None })
   -- `list` writes the image's listing
   lists : (file text input : Bytes) (p : Tree) (image : Image) (built : IsBuilt text (stack_wanted None) p image)
-      → IsDue (Some (orders.list file)) (Some text) input (record { status = 0; output = ended_lines (listing built.runs.program); notes = []; kept = None; rest = None; running = None })
+      → IsDue (Some (orders.list file)) (Some text) input (written (ended_lines (listing built.runs.program)))
   -- `exec` of bytes that are no image
   unread : (name : Bytes) (steps trace : Option ℕ) (bytes input : Bytes) (error : ImageError) (why : Note) → refusal_of bytes ≡ Some error → refusal_note error ≡ Some why
       → IsDue (Some (orders.exec name steps trace)) (Some bytes) input (told 6 (why ∷ []))
@@ -174,9 +231,11 @@ pub data IsDue : Option Order → Option Bytes → Bytes → Due → Type 0 wher
 -- the files that an order reads and those that it keeps
 abbrev pub file_of : Order → Bytes
 file_of (orders.check file) = file
+file_of (orders.derive file) = file
 file_of (orders.build file image stack) = file
 file_of (orders.exec image steps trace) = image
 file_of (orders.run file steps stack image) = file
+file_of (orders.copy file steps) = file
 file_of (orders.list file) = file
 
 abbrev pub keeps_of : Order → List Bytes
@@ -187,5 +246,6 @@ keeps_of _ = []
 -- an order that takes all its memory before it puts a byte to output
 abbrev pub IsReadyFirst : Order → Type 0
 IsReadyFirst (orders.exec image steps (Some count)) = ⊥
+IsReadyFirst (orders.copy file steps) = ⊥
 IsReadyFirst (orders.list file) = ⊥
 IsReadyFirst _ = Unit {0}

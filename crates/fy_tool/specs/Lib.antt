@@ -1,12 +1,6 @@
-pub mod Small
-pub mod Reading
-pub mod Said
 pub mod World
 pub mod Note
-pub mod Order
-pub mod Words
 pub mod Shown
-pub mod Headline
 pub mod Checked
 pub mod Due
 pub mod Answers

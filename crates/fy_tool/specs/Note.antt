@@ -11,9 +11,9 @@ use Rattle.fy_base.specs.declared.data.FaultKind.TheVariants.{Overflow, Zero, Ra
 use Rattle.fy_base.specs.declared.data.TrapKind.{TrapKind}
 use Rattle.fy_base.specs.declared.data.TrapKind.TheVariants.{Illegal, FetchAlign, FetchRange, LoadAlign, LoadRange, StoreAlign, StoreRange, Service}
 use Rattle.fy_tool.specs.declared.refusal.Refusal.{Refusal}
-use Rattle.fy_tool.specs.declared.refusal.Refusal.TheVariants.{Length, Byte, Unclosed, Number, Tokens, Syntax, Deep, Name, TypeName, Double, Letrec, Merge, Alternatives, TypeSize, CoreDepth, CoreSize, Visits}
+use Rattle.fy_tool.specs.declared.refusal.Refusal.TheVariants.{Length, Byte, Unclosed, Number, Tokens, Syntax, Deep, Name, TypeName, Double, Letrec, Merge, Alternatives, TypeSize, CoreDepth, CoreSize, Visits, NoType, LeastSize}
 use Rattle.fy_tool.specs.declared.note.Note.{Note}
-use Rattle.fy_tool.specs.declared.note.Note.TheVariants.{Fault, StackExhausted, StepsSpent, Trapped, Refused, Unbuilt, Usage, OutsideFiles, OutsideInput, OutsideOutput, Memory, Instructions, ImageMagic, ImageVersion, ImageTruncated, ImageTrailing, ImageField, ImageLength}
+use Rattle.fy_tool.specs.declared.note.Note.TheVariants.{Fault, StackExhausted, StepsSpent, CopyLimit, Trapped, Refused, Unbuilt, Usage, OutsideFiles, OutsideInput, OutsideOutput, Memory, Instructions, Copied, ImageMagic, ImageVersion, ImageTruncated, ImageTrailing, ImageField, ImageLength}
 
 -- a place, as it is printed: line, colon, column
 abbrev pub place_text : Place → Bytes
@@ -53,6 +53,8 @@ word_of (TypeSize place) = codes "typesize "
 word_of CoreDepth = codes "coredeep"
 word_of CoreSize = codes "coresize"
 word_of Visits = codes "visits"
+word_of (NoType place) = codes "type "
+word_of LeastSize = codes "least"
 
 abbrev pub place_of : Refusal → Option Place
 place_of Length = None
@@ -72,6 +74,8 @@ place_of (TypeSize place) = Some place
 place_of CoreDepth = None
 place_of CoreSize = None
 place_of Visits = None
+place_of (NoType place) = Some place
+place_of LeastSize = None
 
 abbrev pub maybe_place_text : Option Place → Bytes
 maybe_place_text None = []
@@ -81,6 +85,7 @@ abbrev pub note_text : Note → Bytes
 note_text (Fault kind place) = fault_name kind ++ place_text place
 note_text StackExhausted = codes "stack exhausted"
 note_text StepsSpent = codes "steps spent"
+note_text CopyLimit = codes "copy limit"
 note_text (Trapped kind) = trap_name kind
 note_text (Refused why) = word_of why ++ maybe_place_text (place_of why)
 note_text Unbuilt = codes "unbuilt"
@@ -96,6 +101,7 @@ note_text (ImageTrailing count) = codes "image trailing " ++ decimal count
 note_text (ImageField field) = codes "image field " ++ decimal field
 note_text ImageLength = codes "image length"
 note_text (Instructions count) = codes "instructions " ++ decimal count
+note_text (Copied steps peak) = codes "steps " ++ decimal steps ++ codes " peak " ++ decimal peak
 
 -- each line with its end, byte 10
 abbrev pub ended_lines : List Bytes → Bytes

@@ -2,14 +2,18 @@
 use Rattle.std.specs.Prelude.{◌≡◌, ◌≢◌, ◌⊎◌, ℕ, ◌≤◌, List, [], length, Some, None, Option, MatchOption, MatchResult, IfOk, All}
 use Rattle.std.specs.Option.{ForSome}
 use Rattle.std.specs.declared.result.Result.{Result}
-use Rattle.std.specs.declared.result.Result.TheVariants.{Err}
+use Rattle.std.specs.declared.result.Result.TheVariants.{Ok, Err}
 use Rattle.fy_base.specs.Outside.{Bytes, Folder, Tells, GainedPart, appended}
 use Rattle.fy_base.specs.declared.data.Ending.{Ending}
 use Rattle.fy_image.specs.Form.{IsImageBytes}
 use Rattle.fy_image.specs.declared.image.Image.{Image}
 use Rattle.fy_phrase.specs.Tree.{Tree}
 use Rattle.fy_phrase.specs.Reads.{reads}
+use Rattle.fy_phrase.specs.Sizes.{depth}
 use Rattle.fy_phrase.specs.declared.phrase.Phrase.{Phrase}
+use Rattle.fy_expand.specs.Judged.{IsJudged}
+use Rattle.fy_derive.specs.Judging.{conclusion_of, refusal}
+use Rattle.fy_derive.specs.Reading.{plain_derivation}
 use Rattle.rv_insn.specs.Program.{Program, AreRead}
 use Rattle.rv_insn.specs.Step.{Core}
 use Rattle.rv_machine.specs.Run.{going_world}
@@ -22,11 +26,13 @@ use Rattle.fy_tool.specs.declared.note.Note.{Note}
 use Rattle.fy_tool.specs.Shown.{listing}
 use Rattle.fy_tool.specs.World.{Contents}
 use Rattle.fy_tool.specs.Note.{ended_lines, refusal_note}
-use Rattle.fy_tool.specs.Small.{IsProgram}
-use Rattle.fy_tool.specs.Said.{IsCommand, puts_of}
-use Rattle.fy_tool.specs.Checked.{IsAccepted, IsRefusedFor}
+use Rattle.fy_small.specs.Small.{IsProgram}
+use Rattle.fy_small.specs.Said.{IsCommand, puts_of}
+use Rattle.fy_tool.specs.Checked.{IsProgramText, IsRefusedFor, HasNames}
+use Rattle.fy_tool.specs.declared.check.Core.{Core as CoreOfText}
+use Rattle.fy_tool.specs.declared.check.Program.{Program as ProgramOfText}
 use Rattle.fy_tool.specs.declared.refusal.Refusal.{Refusal}
-use Rattle.fy_tool.specs.Due.{Due, IsRefused, IsRun, ran}
+use Rattle.fy_tool.specs.Due.{Due, IsRefused, IsRun, ran, IsCopyRun, copied, written}
 use Rattle.fy_tool.specs.Answers.{Did, WholeLines}
 use Rattle.fy_tool.specs.declared.world.Stop.{Stop}
 use Rattle.fy_tool.specs.declared.world.Stop.TheVariants.{Input, Memory}
@@ -46,9 +52,22 @@ Judged text found = MatchOption found (IsRefused text) (λ p. IsProgramOf text (
 abbrev pub Reads : Bytes → Option Folder → Result (Option Phrase) Stop → Type 0
 Reads name files result = IfOk result (λ found. (text : Bytes) × Tells files name (Some text) × Judged text found)
 
+-- the core phrase and the names of a text
+pub record IsCore (text : Bytes) (core : CoreOfText) : Type 0 where
+  pub is_judged : IsJudged text (Ok (reads core.phrase))
+  pub shallow : depth (reads core.phrase) ≤ 1023
+  pub named : HasNames text core.names
+
+-- the program of a text, with its names and a derivation that it is a command
+pub record IsOfText (text : Bytes) (program : ProgramOfText) : Type 0 where
+  pub is_program : IsProgramText text (reads program.phrase)
+  pub shallow : depth (reads program.phrase) ≤ 1023
+  pub named : HasNames text program.names
+  pub derived : refusal (conclusion_of (reads program.phrase) (plain_derivation program.derivation)) ≡ None
+
 -- a text that was checked
-abbrev pub Checks : Bytes → Option Folder → Result (Option Refusal) Stop → Type 0
-Checks name files result = IfOk result (λ why. (text : Bytes) × Tells files name (Some text) × MatchOption why (IsAccepted text) (IsRefusedFor text))
+abbrev pub Checks : Bytes → Option Folder → Result (Result ProgramOfText Refusal) Stop → Type 0
+Checks name files result = IfOk result (λ found. (text : Bytes) × Tells files name (Some text) × MatchResult found (IsOfText text) (IsRefusedFor text))
 
 -- memory was wanting before anything was done
 pub record IsUnbegun (before now : Contents) (result : Result ℕ Stop) : Type 0 where
@@ -88,6 +107,15 @@ pub record HasRun (program : Program) (core : Core) (limit : ℕ) (trace : Optio
   pub is_run : IsRun (record { program = program; first = going_world core input; limit = limit }) n end
   pub did : Did (ran (record { program = program; first = going_world core input; limit = limit }) trace kept n end) before now result
 
+-- a phrase ran by the copy rule on an input that explains it, and what is due for its run was done, or a part
+pub record HasCopied (p : Tree) (limit : ℕ) (before now : Contents) (result : Result ℕ Stop) : Type 0 where
+  pub input : Bytes
+  pub fed : ForSome before.input (λ left. input ≡ left)
+  pub n : ℕ
+  pub end : Ending
+  pub is_run : IsCopyRun (record { phrase = p; input = input; limit = limit }) n end
+  pub did : Did (copied (record { phrase = p; input = input; limit = limit }) n end) before now result
+
 -- an image was loaded and ran
 pub record HasExecuted (image : Image) (limit : ℕ) (trace : Option ℕ) (kept : Option (Bytes × Bytes)) (before now : Contents) (result : Result ℕ Stop) : Type 0 where
   pub program : Program
@@ -116,4 +144,4 @@ ReadsImage name files result = IfOk result (λ read. (bytes : Bytes) × Tells fi
 
 -- the listing of a program was put
 abbrev pub listed : Program → Due
-listed program = record { status = 0; output = ended_lines (listing program); notes = []; kept = None; rest = None; running = None }
+listed program = written (ended_lines (listing program))

@@ -1,39 +1,56 @@
 //! Texts that are checked.
 
-ghost use Rattle.std.specs.Prelude.{◌≡◌, ◌≢◌, ◌≤◌, [], ◌∷◌, length, IfOk, IfErr, MatchOption};
+ghost use Rattle.std.specs.Prelude.{◌≡◌, ◌≢◌, ◌≤◌, [], ◌∷◌, length, Some, IfOk, IfErr, MatchResult};
 ghost use Rattle.fy_tool.specs.World.{Later};
 ghost use Rattle.fy_tool.specs.Answers.{Caused};
-ghost use Rattle.fy_tool.specs.Checked.{IsAccepted, IsRefusedFor};
-ghost use Rattle.fy_tool.specs.Working.{Checks};
+ghost use Rattle.fy_tool.specs.Checked.{IsRefusedFor};
+ghost use Rattle.fy_tool.specs.Working.{Checks, IsCore, IsOfText};
 
-use crate::refusal::{Refusal, expand_refusal, lex_refusal, parse_refusal};
+use crate::refusal::{Refusal, expand_refusal, find_refusal, lex_refusal, parse_refusal};
 use crate::world::{Stop, World};
 use fy_base::OutOfMemory;
+use fy_derive::Derivation;
 use fy_expand::expand;
 use fy_grammar::parse;
+use fy_least::find;
 use fy_lexer::lex;
+use fy_phrase::Phrase;
 use fy_types::Names;
 use std::alloc::Global;
 
 // The most bytes that a text has.
 const TEXT_LIMIT: usize = 1_048_576;
 
+/// What a text stands for: its core phrase, a derivation that this is a command, and its names.
+#[derive(Debug, Drop)]
+pub(crate) struct Program {
+    pub phrase: Phrase,
+    pub derivation: Derivation,
+    pub names: Names,
+}
+
+// A core phrase, and the names of its text.
+#[derive(Debug, Drop)]
+pub(crate) struct Core {
+    pub phrase: Phrase,
+    pub names: Names,
+}
+
 // A refusal, or want of memory.
-fn refused(why: Option<Refusal>) -> Result<Option<Refusal>, Stop>
-    ensures why { IfOk result (λ found. found ≡ why) }
-    ensures found { IfOk result (λ found. MatchOption found ⊥ (λ _. Unit {0})) }
+fn refused<T: Drop>(why: Option<Refusal>) -> Result<Result<T, Refusal>, Stop>
+    ensures why { IfOk result (λ found. MatchResult found (λ _. ⊥) (λ w. why ≡ Some w)) }
     ensures memory { IfErr result (λ stop. stop ≡ Stop.Memory) }
 {
     match why {
-        Some(why) => Ok(Some(why)),
+        Some(why) => Ok(Err(why)),
         None => Err(Stop::Memory),
     }
 }
 
-// Why a text is refused, or `None` where it is accepted.
-fn refusal_of(alloc: Global, text: &[u8]) -> Result<Option<Refusal>, Stop>
+// The core phrase of a text, or why it has none.
+fn core_of(alloc: Global, text: &[u8]) -> Result<Result<Core, Refusal>, Stop>
     requires { length text.now ≤ 1048576 }
-    ensures checked { IfOk result (λ why. MatchOption why (IsAccepted text.now) (IsRefusedFor text.now)) }
+    ensures core { IfOk result (λ found. MatchResult found (IsCore text.now) (IsRefusedFor text.now)) }
     ensures memory { IfErr result (λ stop. stop ≡ Stop.Memory) }
 {
     let mut names = match Names::new(alloc) {
@@ -49,19 +66,39 @@ fn refusal_of(alloc: Global, text: &[u8]) -> Result<Option<Refusal>, Stop>
         Err(error) => return refused(parse_refusal(error)),
     };
     match expand(alloc, &tree) {
-        Ok(_) => Ok(None),
+        Ok(phrase) => Ok(Ok(Core { phrase, names })),
         Err(error) => refused(expand_refusal(error)),
     }
 }
 
-/// Why the text in a file is refused, or `None` where it is accepted. The stages are its length, its
-/// tokens, its syntax with its nesting, its expansion, and the core limits; the first that refuses is
-/// told.
-pub fn refusal_in<W: World>(
+// The program of a text, or why it is none.
+fn program_of(alloc: Global, text: &[u8]) -> Result<Result<Program, Refusal>, Stop>
+    requires { length text.now ≤ 1048576 }
+    ensures checked { IfOk result (λ found. MatchResult found (IsOfText text.now) (IsRefusedFor text.now)) }
+    ensures memory { IfErr result (λ stop. stop ≡ Stop.Memory) }
+{
+    let core = match core_of(alloc, text)? {
+        Ok(core) => core,
+        Err(why) => return Ok(Err(why)),
+    };
+    match find(alloc, &core.phrase) {
+        Ok(derivation) => Ok(Ok(Program {
+            phrase: core.phrase,
+            derivation,
+            names: core.names,
+        })),
+        Err(error) => refused(find_refusal(error)),
+    }
+}
+
+/// The program of the text in a file, or why it is none. The stages are its length, its tokens, its
+/// syntax with its nesting, its expansion, the core limits, and its typing with its limits; the first
+/// that refuses is told.
+pub(crate) fn program_in<W: World>(
     alloc: Global,
     file: &str,
     world: &mut W,
-) -> Result<Option<Refusal>, Stop>
+) -> Result<Result<Program, Refusal>, Stop>
     ensures holds { W.holds world.new ≡ W.holds world.old }
     ensures read { Checks file.now (W.holds world.old).files result }
     ensures caused { IfErr result (λ stop. Caused (file.now ∷ []) [] stop (W.counts world.old) (W.counts world.new)) }
@@ -70,8 +107,8 @@ pub fn refusal_in<W: World>(
     ensures same { W.names world.new ≡ W.names world.old }
 {
     let Some(text) = world.fetch(alloc, file, TEXT_LIMIT)? else {
-        return Ok(Some(Refusal::Length));
+        return Ok(Err(Refusal::Length));
     };
-    let why = refusal_of(alloc, text.as_slice())?;
-    Ok(why)
+    let found = program_of(alloc, text.as_slice())?;
+    Ok(found)
 }

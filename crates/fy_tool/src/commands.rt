@@ -1,30 +1,35 @@
 //! What each command does.
 
-ghost use Rattle.std.specs.Prelude.{◌≡◌, ◌≢◌, ◌≤◌, [], ◌∷◌, ◌++◌, None, Some, Err, codes, string_bytes, IfOk, IfErr};
+ghost use Rattle.std.specs.Prelude.{◌≡◌, ◌≢◌, ◌≤◌, [], ◌∷◌, ◌++◌, ◌⊎◌, None, Some, Err, codes, string_bytes, IfOk, IfErr};
 ghost use Rattle.std.specs.Option.{option_map};
 ghost use Rattle.fy_image.specs.Ranges.{IsImage};
+ghost use Rattle.fy_derive.specs.Print.{derivation_text};
+ghost use Rattle.fy_derive.specs.Reading.{plain_derivation};
 ghost use Rattle.fy_phrase.specs.Reads.{reads};
 ghost use Rattle.rv_insn.specs.Program.{Program};
 ghost use Rattle.rv_insn.specs.declared.events.Status.TheVariants.{Running};
 ghost use Rattle.rv_machine.specs.Start.{IsProgramOf, start_of};
 ghost use Rattle.fy_tool.specs.World.{Later};
-ghost use Rattle.fy_tool.specs.Said.{IsCommand, puts_of, image_of};
-ghost use Rattle.fy_tool.specs.Order.{order_of, check, build, exec, run, list};
-ghost use Rattle.fy_tool.specs.Due.{accepted, steps_wanted, stack_wanted, kept_as, HasStack};
+ghost use Rattle.fy_small.specs.Said.{IsCommand, puts_of, image_of};
+ghost use Rattle.fy_words.specs.Order.{order_of, check, derive, build, exec, run, copy, list};
+ghost use Rattle.fy_tool.specs.Due.{written, kept_as};
+ghost use Rattle.fy_words.specs.Order.{copy_wanted, steps_wanted, stack_wanted, IsInRange};
 ghost use Rattle.fy_tool.specs.Answers.{Caused, Did, IsOwn, Serves};
-ghost use Rattle.fy_tool.specs.Working.{Executes, Keeps, KeepsAndRuns, ReadsImage, listed};
+ghost use Rattle.fy_tool.specs.Working.{Executes, Keeps, KeepsAndRuns, IsUnbegun, ReadsImage, listed};
 
-use crate::check::refusal_in;
-use crate::command::Command;
+use crate::check::program_in;
 use crate::note::{Note, refusal_note};
-use crate::runs::{run_machine, run_traced};
+use crate::runs::{run_copied, run_machine, run_traced};
 use crate::shown::line_of;
 use crate::source::{image_of, keep_image, source};
 use crate::tell::refuse;
 use crate::world::{Stop, World};
 use fy_base::OutOfMemory;
+use fy_derive::{Derivation, print_derivation};
 use fy_image::{Image, read_image};
 use fy_phrase::Phrase;
+use fy_types::Names;
+use fy_words::Command;
 use rv_machine::{Fetched, Machine};
 use std::alloc::Global;
 
@@ -36,6 +41,9 @@ const STACK_WORDS: u32 = 1_048_576;
 
 // The most instructions of a run where no option says them.
 const RUN_LIMIT: u64 = 1_000_000_000;
+
+// The most steps of the copy rule where no option says them.
+const COPY_LIMIT: u64 = 100_000;
 
 // The address of the first word of code.
 const CODE_START: u64 = 65_536;
@@ -115,19 +123,26 @@ fn execute<W: World>(
     }
 }
 
-// Writes that a text is accepted.
-fn accept<W: World>(world: &mut W) -> Result<u8, Stop>
-    ensures did { Did accepted (W.holds world.old) (W.holds world.new) result }
+// Writes bytes to output.
+fn write<W: World>(bytes: &[u8], world: &mut W) -> Result<u8, Stop>
+    ensures did { Did (written bytes.now) (W.holds world.old) (W.holds world.new) result }
     ensures own { IfOk result IsOwn }
     ensures caused { IfErr result (λ stop. Caused [] [] stop (W.counts world.old) (W.counts world.new)) }
     ensures memory { result ≢ Err Stop.Memory }
     ensures later { Later (W.counts world.old) (W.counts world.new) }
     ensures same { W.names world.new ≡ W.names world.old }
 {
-    match world.put(b"accepted\n") {
+    match world.put(bytes) {
         Ok(()) => Ok(0),
         Err(stop) => Err(stop),
     }
+}
+
+// The most steps of the copy rule that are wanted.
+fn copy_wanted(steps: Option<u64>) -> u64
+    ensures { result ≡ copy_wanted steps }
+{
+    steps.unwrap_or(COPY_LIMIT)
 }
 
 // Checks the text in a file.
@@ -135,10 +150,61 @@ fn check_file<W: World>(alloc: Global, file: &str, world: &mut W) -> Result<u8, 
     ensures serves { Serves (Some (check file.now)) (W.holds world.old) (W.holds world.new) (W.counts world.old) (W.counts world.new) result }
     ensures same { W.names world.new ≡ W.names world.old }
 {
-    match refusal_in(alloc, file, world) {
+    match program_in(alloc, file, world) {
         Err(stop) => Err(stop),
-        Ok(Some(why)) => refuse(2, Note::Refused(why), world),
-        Ok(None) => accept(world),
+        Ok(Err(why)) => refuse(2, Note::Refused(why), world),
+        Ok(Ok(_)) => write(b"accepted\n", world),
+    }
+}
+
+// Writes the text of a derivation.
+fn write_derivation<W: World>(
+    alloc: Global,
+    names: &Names,
+    derivation: &Derivation,
+    world: &mut W,
+) -> Result<u8, Stop>
+    ensures did { IsUnbegun (W.holds world.old) (W.holds world.new) result
+        ⊎ Did (written (derivation_text names.now (plain_derivation derivation.now))) (W.holds world.old) (W.holds world.new) result }
+    ensures own { IfOk result IsOwn }
+    ensures caused { IfErr result (λ stop. Caused [] [] stop (W.counts world.old) (W.counts world.new)) }
+    ensures ready { result ≡ Err Stop.Memory → (W.holds world.new).output ≡ (W.holds world.old).output }
+    ensures later { Later (W.counts world.old) (W.counts world.new) }
+    ensures same { W.names world.new ≡ W.names world.old }
+{
+    match print_derivation(alloc, names, derivation) {
+        Ok(text) => write(text.as_slice(), world),
+        Err(OutOfMemory) => Err(Stop::Memory),
+    }
+}
+
+// Writes a derivation of the text in a file.
+fn derive_file<W: World>(alloc: Global, file: &str, world: &mut W) -> Result<u8, Stop>
+    ensures serves { Serves (Some (derive file.now)) (W.holds world.old) (W.holds world.new) (W.counts world.old) (W.counts world.new) result }
+    ensures same { W.names world.new ≡ W.names world.old }
+{
+    match program_in(alloc, file, world) {
+        Err(stop) => Err(stop),
+        Ok(Err(why)) => refuse(2, Note::Refused(why), world),
+        Ok(Ok(program)) => write_derivation(alloc, &program.names, &program.derivation, world),
+    }
+}
+
+// Runs the text in a file by the copy rule.
+fn copy_file<W: World>(
+    alloc: Global,
+    file: &str,
+    steps: Option<u64>,
+    world: &mut W,
+) -> Result<u8, Stop>
+    requires { copy_wanted steps ≤ 1000000000 }
+    ensures serves { Serves (Some (copy file.now steps)) (W.holds world.old) (W.holds world.new) (W.counts world.old) (W.counts world.new) result }
+    ensures same { W.names world.new ≡ W.names world.old }
+{
+    match program_in(alloc, file, world) {
+        Err(stop) => Err(stop),
+        Ok(Err(why)) => refuse(2, Note::Refused(why), world),
+        Ok(Ok(program)) => run_copied(alloc, &program.phrase, copy_wanted(steps), world),
     }
 }
 
@@ -355,12 +421,13 @@ fn list_file<W: World>(alloc: Global, file: &str, world: &mut W) -> Result<u8, S
 
 /// Does what a command asks for.
 pub fn serve<W: World>(alloc: Global, command: Command, world: &mut W) -> Result<u8, Stop>
-    requires { HasStack (order_of command) }
+    requires { IsInRange (order_of command) }
     ensures serves { Serves (Some (order_of command.entry)) (W.holds world.old) (W.holds world.new) (W.counts world.old) (W.counts world.new) result }
     ensures same { W.names world.new ≡ W.names world.old }
 {
     match command {
         Command::Check { file } => check_file(alloc, file, world),
+        Command::Derive { file } => derive_file(alloc, file, world),
         Command::Build { file, image, stack } => build_file(alloc, file, image, stack, world),
         Command::Exec {
             image,
@@ -373,6 +440,7 @@ pub fn serve<W: World>(alloc: Global, command: Command, world: &mut W) -> Result
             stack,
             image,
         } => run_file(alloc, file, steps, stack, image, world),
+        Command::Copy { file, steps } => copy_file(alloc, file, steps, world),
         Command::List { file } => list_file(alloc, file, world),
     }
 }

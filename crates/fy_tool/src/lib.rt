@@ -2,22 +2,16 @@
 #![tactic(auto)]
 
 mod check;
-mod command;
 mod commands;
 mod note;
 mod refusal;
 mod runs;
 mod shown;
-mod small;
 mod source;
 mod tell;
 mod top;
 mod trace;
-mod words;
 mod world;
 
-pub use command::{Command, command_of};
+pub use fy_words::{Command, command_of};
 pub use top::forsythe;
-
-#[cfg(test)]
-mod tests;

@@ -1,6 +1,6 @@
 //! The notes of a call, a line each.
 
-ghost use Rattle.std.specs.Prelude.{◌≡◌, ◌≤◌, ◌+◌, [], ◌∷◌, ◌++◌, length};
+ghost use Rattle.std.specs.Prelude.{◌≡◌, ◌≤◌, ◌+◌, [], ◌∷◌, ◌++◌, codes, length};
 ghost use Rattle.std.specs.Fmt.{decimal};
 ghost use Rattle.fy_tool.specs.Note.{note_text, place_text, maybe_place_text, fault_name, trap_name, refusal_note};
 
@@ -16,8 +16,10 @@ pub enum Note {
     Fault { kind: FaultKind, place: Place },
     /// The stack was exhausted.
     StackExhausted,
-    /// All the instructions that were allowed are spent.
+    /// All the instructions, or steps of the copy rule, that were allowed are spent.
     StepsSpent,
+    /// The next focus of the copy rule would be too large to hold.
+    CopyLimit,
     /// The machine trapped.
     Trapped(TrapKind),
     /// The text is refused.
@@ -32,6 +34,8 @@ pub enum Note {
     Memory,
     /// How many instructions a run executed.
     Instructions(u64),
+    /// How many steps a run of the copy rule made, and the greatest load.
+    Copied { steps: u64, peak: u64 },
     /// The bytes don't begin as those of an image.
     ImageMagic,
     /// The image has another version.
@@ -74,6 +78,16 @@ fn push_place(line: &mut Line, place: Place)
     push_number(line, place.line.into());
     line.push_str(":");
     push_number(line, place.col.into());
+}
+
+fn push_run(line: &mut Line, steps: u64, peak: u64)
+    requires { length line.old.bytes ≤ 20 }
+    ensures text { line.new.bytes ≡ line.old.bytes ++ decimal steps ++ codes " peak " ++ decimal peak }
+    ensures length { length line.new.bytes ≤ length line.old.bytes + 46 }
+{
+    push_number(line, steps);
+    line.push_str(" peak ");
+    push_number(line, peak);
 }
 
 fn push_maybe_place(line: &mut Line, place: Option<Place>)
@@ -121,6 +135,7 @@ pub fn line_of(note: Note) -> Line
         Note::Fault { kind, .. } => begun(fault_name(kind)),
         Note::StackExhausted => begun("stack exhausted"),
         Note::StepsSpent => begun("steps spent"),
+        Note::CopyLimit => begun("copy limit"),
         Note::Trapped(kind) => begun(trap_name(kind)),
         Note::Refused(why) => begun(why.word()),
         Note::Unbuilt => begun("unbuilt"),
@@ -130,6 +145,7 @@ pub fn line_of(note: Note) -> Line
         Note::OutsideOutput => begun("outside output"),
         Note::Memory => begun("memory"),
         Note::Instructions(_) => begun("instructions "),
+        Note::Copied { .. } => begun("steps "),
         Note::ImageMagic => begun("image magic"),
         Note::ImageVersion(_) => begun("image version "),
         Note::ImageTruncated => begun("image truncated"),
@@ -141,6 +157,7 @@ pub fn line_of(note: Note) -> Line
         Note::Fault { place, .. } => push_place(&mut line, place),
         Note::Refused(why) => push_maybe_place(&mut line, why.place()),
         Note::Instructions(count) | Note::ImageTrailing(count) => push_number(&mut line, count),
+        Note::Copied { steps, peak } => push_run(&mut line, steps, peak),
         Note::ImageVersion(version) => push_number(&mut line, version.into()),
         Note::ImageField(field) => push_number(&mut line, field.into()),
         _ => {}

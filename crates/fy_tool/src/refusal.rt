@@ -2,11 +2,12 @@
 
 ghost use Rattle.std.specs.Prelude.{◌≡◌, ◌≤◌, length};
 ghost use Rattle.fy_tool.specs.Note.{word_of, place_of};
-ghost use Rattle.fy_tool.specs.Checked.{lex_refusal, parse_refusal, expand_refusal};
+ghost use Rattle.fy_tool.specs.Checked.{lex_refusal, parse_refusal, expand_refusal, find_refusal};
 
 use fy_base::Place;
 use fy_expand::ExpandError;
 use fy_grammar::ParseError;
+use fy_least::FindError;
 use fy_lexer::LexError;
 
 /// Why a text is refused, and where.
@@ -46,6 +47,10 @@ pub enum Refusal {
     CoreSize,
     /// The core phrase has over 65,536 visits.
     Visits,
+    /// The core phrase is no command; the place is that of the innermost phrase that is blamed.
+    NoType(Place),
+    /// A least type or a written type is too large, or all least types together are.
+    LeastSize,
 }
 
 impl Refusal {
@@ -72,6 +77,8 @@ impl Refusal {
             Refusal::CoreDepth => "coredeep",
             Refusal::CoreSize => "coresize",
             Refusal::Visits => "visits",
+            Refusal::NoType(_) => "type ",
+            Refusal::LeastSize => "least",
         }
     }
 
@@ -84,7 +91,8 @@ impl Refusal {
             | Refusal::Tokens
             | Refusal::CoreDepth
             | Refusal::CoreSize
-            | Refusal::Visits => None,
+            | Refusal::Visits
+            | Refusal::LeastSize => None,
             Refusal::Byte(place)
             | Refusal::Unclosed(place)
             | Refusal::Number(place)
@@ -96,7 +104,8 @@ impl Refusal {
             | Refusal::Letrec(place)
             | Refusal::Merge(place)
             | Refusal::Alternatives(place)
-            | Refusal::TypeSize(place) => Some(place),
+            | Refusal::TypeSize(place)
+            | Refusal::NoType(place) => Some(place),
         }
     }
 }
@@ -141,5 +150,16 @@ pub(crate) fn expand_refusal(error: ExpandError) -> Option<Refusal>
         ExpandError::TooLarge => Some(Refusal::CoreSize),
         ExpandError::TooManyVisits => Some(Refusal::Visits),
         ExpandError::OutOfMemory => None,
+    }
+}
+
+/// The refusal of a core phrase without a derivation, or `None` where memory was wanting.
+pub(crate) fn find_refusal(error: FindError) -> Option<Refusal>
+    ensures { result ≡ find_refusal error }
+{
+    match error {
+        FindError::NoType(place) => Some(Refusal::NoType(place)),
+        FindError::TypeTooLarge => Some(Refusal::LeastSize),
+        FindError::OutOfMemory => None,
     }
 }

@@ -1,15 +1,20 @@
-//! Runs of images, and how they are told.
+//! Runs of images and of phrases, and how they are told.
 
 ghost use Rattle.std.specs.Prelude.{◌≡◌, ◌≢◌, ◌≤◌, ◌++◌, [], ◌∷◌, ◌⊎◌, Some, None, Err, OnOk, OnErr, IfOk, IfErr, map};
 ghost use Rattle.fy_base.specs.Outside.{Rose, GainedPart, appended};
+ghost use Rattle.fy_derive.specs.Typing.{HasType};
+ghost use Rattle.fy_phrase.specs.Reads.{reads};
+ghost use Rattle.fy_phrase.specs.Sizes.{depth};
+ghost use Rattle.fy_types.specs.Types.{atom};
+ghost use Rattle.fy_types.specs.declared.types.Atom.TheVariants.{Comm};
 ghost use Rattle.rv_insn.specs.declared.events.Status.TheVariants.{Running};
 ghost use Rattle.rv_insn.specs.Program.{Program, AreRead};
 ghost use Rattle.fy_tool.specs.World.{Later};
 ghost use Rattle.fy_tool.specs.Note.{texts, ended_lines};
 ghost use Rattle.fy_tool.specs.Shown.{shown};
-ghost use Rattle.fy_tool.specs.Due.{status_of, note_of, end_notes};
+ghost use Rattle.fy_tool.specs.Due.{status_of, note_of, end_notes, copy_notes};
 ghost use Rattle.fy_tool.specs.Answers.{Caused, IsOwn};
-ghost use Rattle.fy_tool.specs.Working.{IsUnbegun, AreFetched, TellsLines, HasRun};
+ghost use Rattle.fy_tool.specs.Working.{IsUnbegun, AreFetched, TellsLines, HasRun, HasCopied};
 
 use crate::note::Note;
 use crate::shown::line_of;
@@ -17,6 +22,8 @@ use crate::tell::tell;
 use crate::trace::Trace;
 use crate::world::{Stop, World};
 use fy_base::{Ending, OutOfMemory};
+use fy_copy::CopyRun;
+use fy_phrase::Phrase;
 use rv_machine::{Machine, MachineRun, Unwatched};
 use std::alloc::Global;
 
@@ -40,6 +47,7 @@ fn note_of(end: Ending) -> Option<Note>
         Ending::Fault { kind, place } => Some(Note::Fault { kind, place }),
         Ending::Exhausted => Some(Note::StackExhausted),
         Ending::Spent => Some(Note::StepsSpent),
+        Ending::TooBig => Some(Note::CopyLimit),
         Ending::Trap(kind) => Some(Note::Trapped(kind)),
         _ => None,
     }
@@ -152,6 +160,56 @@ pub fn run_traced<W: World>(
         Ending::InputFault => Err(Stop::Input),
         Ending::OutputFault => Err(Stop::Output),
         _ => match tell_traced(alloc, trace, run, world) {
+            Ok(()) => Ok(status_of(run.end)),
+            Err(stop) => Err(stop),
+        },
+    }
+}
+
+// Tells how a run of the copy rule ended.
+fn tell_copy<W: World>(run: CopyRun, world: &mut W) -> Result<(), Stop>
+    ensures told { OnOk result (W.holds world.new ≡ record (W.holds world.old) { notes = appended (W.holds world.old).notes (ended_lines (texts (copy_notes run.end run.steps run.peak))) }) }
+    ensures rest { W.holds world.new ≡ record (W.holds world.old) { notes = (W.holds world.new).notes } }
+    ensures part { OnErr result (GainedPart (W.holds world.old).notes (W.holds world.new).notes (ended_lines (texts (copy_notes run.end run.steps run.peak)))) }
+    ensures stop { IfErr result (λ stop. stop ≡ Stop.Notes) }
+    ensures rose { OnErr result (Rose (W.counts world.old).notes (W.counts world.new).notes) }
+    ensures later { Later (W.counts world.old) (W.counts world.new) }
+    ensures same { W.names world.new ≡ W.names world.old }
+{
+    let count = Note::Copied {
+        steps: run.steps,
+        peak: run.peak,
+    };
+    match note_of(run.end) {
+        None => tell(&[count], world),
+        Some(note) => tell(&[note, count], world),
+    }
+}
+
+/// Runs a command by the copy rule for at most so many steps, and tells how it ended.
+pub fn run_copied<W: World>(
+    alloc: Global,
+    p: &Phrase,
+    steps: u64,
+    world: &mut W,
+) -> Result<u8, Stop>
+    requires depth { depth (reads p.now) ≤ 1023 }
+    requires command { HasType [] (reads p.now) (atom Comm) }
+    requires steps { steps ≤ 1000000000 }
+    ensures run { HasCopied (reads p.now) steps (W.holds world.old) (W.holds world.new) result }
+    ensures own { IfOk result IsOwn }
+    ensures caused { IfErr result (λ stop. Caused [] [] stop (W.counts world.old) (W.counts world.new)) }
+    ensures later { Later (W.counts world.old) (W.counts world.new) }
+    ensures same { W.names world.new ≡ W.names world.old }
+{
+    let run = match world.copy(alloc, p, steps) {
+        Ok(run) => run,
+        Err(stop) => return Err(stop),
+    };
+    match run.end {
+        Ending::InputFault => Err(Stop::Input),
+        Ending::OutputFault => Err(Stop::Output),
+        _ => match tell_copy(run, world) {
             Ok(()) => Ok(status_of(run.end)),
             Err(stop) => Err(stop),
         },

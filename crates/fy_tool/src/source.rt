@@ -5,14 +5,14 @@ ghost use Rattle.fy_image.specs.Ranges.{IsImage};
 ghost use Rattle.fy_phrase.specs.Reads.{reads};
 ghost use Rattle.fy_tool.specs.World.{Later};
 ghost use Rattle.fy_tool.specs.Answers.{Caused, IsOwn};
-ghost use Rattle.fy_tool.specs.Said.{IsCommand, puts_of, image_of};
+ghost use Rattle.fy_small.specs.Said.{IsCommand, puts_of, image_of};
 ghost use Rattle.fy_tool.specs.Working.{Judged, Reads, Keeps};
 
-use crate::small::{compile, program_of};
 use crate::world::{Stop, World};
 use fy_base::OutOfMemory;
 use fy_image::{Image, write_image};
 use fy_phrase::Phrase;
+use fy_small::{compile, program_of};
 use std::alloc::Global;
 
 // The most bytes that a text has.

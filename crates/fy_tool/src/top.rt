@@ -2,21 +2,21 @@
 
 ghost use Rattle.std.specs.Prelude.{◌≡◌, map, string_bytes, IfSome};
 ghost use Rattle.std.specs.Option.{option_map};
-ghost use Rattle.fy_tool.specs.Order.{command_from, order_of};
-ghost use Rattle.fy_tool.specs.Due.{HasStack};
+ghost use Rattle.fy_words.specs.Order.{command_from, order_of};
+ghost use Rattle.fy_words.specs.Order.{IsInRange};
 ghost use Rattle.fy_tool.specs.Answers.{Answers};
 
-use crate::command::{Command, command_of};
 use crate::commands::serve;
 use crate::note::Note;
 use crate::tell::{conclude, refuse};
 use crate::world::{Outside, World};
 use fy_base::{Files, Sink, Source};
+use fy_words::{Command, command_of};
 use std::alloc::Global;
 
 // Answers a command, or words that are none.
 fn answer<W: World>(alloc: Global, command: Option<Command>, world: &mut W) -> u8
-    requires { IfSome command (λ command. HasStack (order_of command)) }
+    requires { IfSome command (λ command. IsInRange (order_of command)) }
     ensures answers { Answers (option_map order_of command.entry) (W.holds world.old) (W.holds world.new) (W.counts world.old) (W.counts world.new) result }
     ensures same { W.names world.new ≡ W.names world.old }
 {
@@ -38,9 +38,9 @@ fn answer<W: World>(alloc: Global, command: Option<Command>, world: &mut W) -> u
 /// |---|---|
 /// | 0 | done, or the program ended |
 /// | 1 | the program faulted |
-/// | 2 | `check` refuses the text, or it can't be built yet: it has over 4,096 bytes or isn't of the small grammar |
+/// | 2 | `check`, `derive` or `copy` refuses the text, or it can't be built yet: it has over 4,096 bytes or isn't of the small grammar |
 /// | 3 | the stack was exhausted |
-/// | 4 | all the instructions that were allowed are spent |
+/// | 4 | all the instructions or steps that were allowed are spent, or the next focus of the copy rule is too large to hold |
 /// | 5 | the words are no command |
 /// | 6 | the bytes are no image's |
 /// | 7 | a count of faults rose |

@@ -4,12 +4,17 @@ ghost use Rattle.std.specs.Prelude.{◌≡◌, ◌≤◌, OnOk, OnErr, IfOk, IfE
 ghost use Rattle.std.specs.Option.{ForSome};
 ghost use Rattle.std.specs.Borrow.{GName};
 ghost use Rattle.fy_base.specs.Outside.{Rose, GainedPart, Tells, IsLong, OthersStay, appended};
+ghost use Rattle.fy_copy.specs.Ends.{DoesPart, IsCopyEnd, RunsTo as CopyRunsTo};
+ghost use Rattle.fy_phrase.specs.Reads.{reads};
+ghost use Rattle.fy_phrase.specs.Sizes.{depth};
 ghost use Rattle.rv_machine.specs.Ends.{Watched, IsMachineEnd};
 ghost use Rattle.fy_tool.specs.Answers.{files_after};
 ghost use Rattle.rv_insn.specs.declared.events.Status.TheVariants.{Running};
 ghost use Rattle.fy_tool.specs.World.{Contents, Counts, Later};
 
-use fy_base::{Ending, FetchError, Files, KeepError, Sink, Source};
+use fy_base::{Ending, FetchError, Files, KeepError, OutOfMemory, Sink, Source};
+use fy_copy::{CopyRun, run_copy};
+use fy_phrase::Phrase;
 use rv_machine::{Machine, MachineRun, Watch, run_watched};
 use std::alloc::Global;
 
@@ -91,6 +96,23 @@ pub trait World {
         ensures output_fault { result.end ≡ Ending.OutputFault → Rose (counts self.old).output (counts self.new).output }
         ensures later { Later (counts self.old) (counts self.new) }
         ensures same { names self.new ≡ names self.old };
+
+    /// Runs a phrase by the copy rule on the input and the output.
+    fn copy(&mut self, alloc: Global, p: &Phrase, steps: u64) -> Result<CopyRun, Stop>
+        requires depth { depth (reads p.now) ≤ 1023 }
+        requires steps { steps ≤ 1000000000000 }
+        ensures did { IfOk result (λ done. CopyRunsTo (reads p.now) steps done
+            (holds self.old).input (holds self.new).input (holds self.old).output (holds self.new).output) }
+        ensures memory { OnErr result (DoesPart (reads p.now) steps
+            (holds self.old).input (holds self.new).input (holds self.old).output (holds self.new).output) }
+        ensures steps { IfOk result (λ done. done.steps ≤ steps) }
+        ensures rest { holds self.new ≡ record (holds self.old) { input = (holds self.new).input; output = (holds self.new).output } }
+        ensures end { IfOk result (λ done. IsCopyEnd done.end) }
+        ensures stop { IfErr result (λ stop. stop ≡ Stop.Memory) }
+        ensures input_fault { IfOk result (λ done. done.end ≡ Ending.InputFault → Rose (counts self.old).input (counts self.new).input) }
+        ensures output_fault { IfOk result (λ done. done.end ≡ Ending.OutputFault → Rose (counts self.old).output (counts self.new).output) }
+        ensures later { Later (counts self.old) (counts self.new) }
+        ensures same { names self.new ≡ names self.old };
 }
 
 /// The objects of a call.
@@ -143,5 +165,12 @@ impl<F: Files, I: Source, O: Sink, N: Sink> World for Outside<'_, '_, '_, '_, F,
 
     fn run<V: Watch>(&mut self, machine: &mut Machine, watch: &mut V, steps: u64) -> MachineRun {
         run_watched(machine, self.input, self.output, watch, steps)
+    }
+
+    fn copy(&mut self, alloc: Global, p: &Phrase, steps: u64) -> Result<CopyRun, Stop> {
+        match run_copy(alloc, p, self.input, self.output, steps) {
+            Ok(run) => Ok(run),
+            Err(OutOfMemory) => Err(Stop::Memory),
+        }
     }
 }

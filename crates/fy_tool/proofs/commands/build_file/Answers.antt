@@ -1,8 +1,8 @@
 use Rattle.std.proofs.Common.{subst}
-use Rattle.fy_tool.specs.Said.{image_of}
+use Rattle.fy_small.specs.Said.{image_of}
 use Rattle.fy_tool.specs.Working.{Keeps}
 use Rattle.fy_phrase.specs.Reads.{reads}
-use Rattle.fy_tool.specs.Order.{build}
+use Rattle.fy_words.specs.Order.{build}
 use Rattle.fy_tool.specs.Due.{keeps_of}
 use Rattle.fy_tool.proofs.Parts.{if_keeps_more}
 use Rattle.fy_tool.proofs.Serving.{after, serves_unread, serves_refused, serves_build}

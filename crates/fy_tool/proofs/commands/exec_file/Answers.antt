@@ -1,5 +1,5 @@
 use Rattle.std.proofs.Common.{subst}
-use Rattle.fy_tool.specs.Order.{exec}
+use Rattle.fy_words.specs.Order.{exec}
 use Rattle.fy_tool.specs.Working.{Executes}
 use Rattle.fy_tool.proofs.Serving.{after, serves_unread, serves_no_image, serves_exec}
 use Rattle.fy_tool.proofs.commands.exec_file.Goals as goal

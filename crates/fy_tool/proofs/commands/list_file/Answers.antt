@@ -2,7 +2,7 @@ use Rattle.std.proofs.Common.{[], refl, sym, subst}
 use Rattle.fy_image.specs.declared.image.Image.{Image}
 use Rattle.fy_phrase.specs.Reads.{reads}
 use Rattle.rv_machine.specs.Start.{IsProgramOf}
-use Rattle.fy_tool.specs.Order.{list}
+use Rattle.fy_words.specs.Order.{list}
 use Rattle.fy_tool.specs.Answers.{Caused}
 use Rattle.fy_tool.specs.declared.world.Stop.{Stop}
 use Rattle.fy_tool.proofs.Contents.{later_same}

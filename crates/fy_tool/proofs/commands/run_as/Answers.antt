@@ -3,9 +3,11 @@ use Rattle.std.specs.Prelude.{IfErr}
 use Rattle.std.specs.Option.{option_map}
 use Rattle.fy_base.specs.Outside.{Bytes}
 use Rattle.fy_phrase.specs.Reads.{reads}
-use Rattle.fy_tool.specs.Order.{run}
-use Rattle.fy_tool.specs.Due.{keeps_of, steps_wanted, stack_wanted}
-use Rattle.fy_tool.specs.Said.{image_of}
+use Rattle.fy_words.specs.Order.{run}
+use Rattle.fy_tool.specs.Due.{keeps_of}
+use Rattle.fy_words.specs.Order.{steps_wanted}
+use Rattle.fy_words.specs.Order.{stack_wanted}
+use Rattle.fy_small.specs.Said.{image_of}
 use Rattle.fy_tool.specs.Answers.{Caused}
 use Rattle.fy_tool.specs.Working.{KeepsAndRuns}
 use Rattle.fy_tool.proofs.Parts.{if_keeps_more}

@@ -1,7 +1,7 @@
 use Rattle.std.proofs.Common.{sym, subst}
 use Rattle.fy_image.specs.Ranges.{IsImage}
 use Rattle.fy_phrase.specs.Reads.{reads}
-use Rattle.fy_tool.proofs.Programs.{image_is}
+use Rattle.fy_small.proofs.Programs.{image_is}
 use Rattle.fy_tool.proofs.source.image_of.Goals as goal
 
 pub returns-in-Ok-clause-ranges : goal.returns-in-Ok-clause-ranges

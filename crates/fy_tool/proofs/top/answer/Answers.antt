@@ -1,7 +1,7 @@
 use Rattle.std.proofs.Common.{ap, sym, subst, Some, None}
 use Rattle.std.specs.Option.{option_map}
 use Rattle.std.specs.Prelude.{Option}
-use Rattle.fy_tool.specs.Order.{Order, order_of}
+use Rattle.fy_words.specs.Order.{Order, order_of}
 use Rattle.fy_tool.specs.Answers.{Answers}
 use Rattle.fy_tool.proofs.Serving.{serves_usage}
 use Rattle.fy_tool.proofs.Answering.{answered}

@@ -1,0 +1,10 @@
+pub mod Numbers
+pub mod TokenLemmas
+pub mod StatementLemmas
+pub mod Sequences
+pub mod Programs
+pub mod CopyRuns
+pub mod CopyOutputs
+pub mod ImageCode
+pub mod ImageRuns
+pub mod Headlines

@@ -1,0 +1,4 @@
+pub mod Small
+pub mod Reading
+pub mod Said
+pub mod Headline

@@ -1,0 +1,22 @@
+use Rattle.fy_phrase.specs.Reads.{reads}
+use Rattle.fy_derive.specs.Reading.{plain_derivation}
+use Rattle.fy_tool.specs.Working.{IsOfText}
+use Rattle.fy_tool.proofs.Checking.{is_program, not_found}
+use Rattle.fy_tool.proofs.check.program_of.Goals as goal
+
+pub returns-in-Ok-find-clause-checked : goal.returns-in-Ok-find-clause-checked
+returns-in-Ok-find-clause-checked c =
+    let core = c.in-Ok.core in
+    let found = c.in-Ok-find.ensures.found in
+    let read = rw c.in-Ok.is at c.in_ok-core.ensures.core in
+    record {
+      is_program = is_program c.args.text.now (reads core.phrase) (plain_derivation c.in-Ok-find.derivation) read.is_judged found.0 found.1;
+      shallow = read.shallow;
+      named = read.named;
+      derived = found.1;
+    }
+
+pub returns-in-Err-find-clause-checked : goal.returns-in-Err-find-clause-checked
+returns-in-Err-find-clause-checked c =
+    let read = rw c.in-Ok.is at c.in_ok-core.ensures.core in
+    not_found (IsOfText c.args.text.now) c.args.text.now (reads c.in-Ok.core.phrase) c.in-Err-find.error c.refused.result read.is_judged c.in-Err-find.ensures.found (rw (← c.find_refusal.ensures) c.refused.ensures.why)

@@ -1,0 +1,187 @@
+-- What the words ask for.
+use Rattle.std.specs.Prelude.{ℕ, ◌≤◌, ◌+◌, ◌-◌, ◌*◌, ◌&&◌, ◌||◌, not, true, false, nat_le, nat_eq, Bool, if◌then◌else◌, List, [], ◌∷◌, ◌++◌, length, drop, unwrap_or, Some, None, codes}
+use Rattle.std.specs.Fmt.{decimal}
+use Rattle.std.specs.List.{starts_with}
+use Rattle.std.specs.Option.{option_map, option_to_list}
+use Rattle.std.specs.declared.option.Option.{Option}
+use Rattle.std.specs.Str.{bytes_eq}
+use Rattle.fy_base.specs.Outside.{Bytes}
+use Rattle.fy_words.specs.declared.command.Command.{Command}
+use Rattle.fy_words.specs.declared.command.Command.TheVariants as command
+
+-- a command with what its words name; an option that isn't among the words is none
+pub data Order : Type 0 where
+  check : (file : Bytes) → Order
+  derive : (file : Bytes) → Order
+  build : (file image : Bytes) (stack : Option ℕ) → Order
+  exec : (image : Bytes) (steps trace : Option ℕ) → Order
+  run : (file : Bytes) (steps stack : Option ℕ) (image : Option Bytes) → Order
+  copy : (file : Bytes) (steps : Option ℕ) → Order
+  list : (file : Bytes) → Order
+
+-- the order that a command stands for
+abbrev pub order_of : Command → Order
+order_of (command.Check file) = check file.now
+order_of (command.Derive file) = derive file.now
+order_of (command.Build file image stack) = build file.now image.now stack
+order_of (command.Exec image steps trace) = exec image.now steps trace
+order_of (command.Run file steps stack image) = run file.now steps stack (option_map (λ name. name.now) image)
+order_of (command.Copy file steps) = copy file.now steps
+order_of (command.List file) = list file.now
+
+-- ---- options and operands
+
+-- a word that begins with two hyphens is an option
+abbrev pub is_option : Bytes → Bool
+is_option word = starts_with nat_eq word (codes "--")
+
+-- every other word is an operand
+abbrev pub operands : List Bytes → List Bytes
+operands [] = []
+operands (word ∷ words) = if is_option word then operands words else word ∷ operands words
+
+-- what stands behind the key in a word that begins with it
+abbrev pub behind : Bytes → Bytes → Option Bytes
+behind key word = if starts_with nat_eq word key then Some (drop (length key) word) else None
+
+-- the values of an option: what stands behind its key, word by word
+abbrev pub values : Bytes → List Bytes → List Bytes
+values key [] = []
+values key (word ∷ words) = option_to_list (behind key word) ++ values key words
+
+-- whether a word begins with one of the keys
+abbrev pub has_key : List Bytes → Bytes → Bool
+has_key [] word = false
+has_key (key ∷ keys) word = starts_with nat_eq word key || has_key keys word
+
+-- whether each option has one of the keys
+abbrev pub are_known : List Bytes → List Bytes → Bool
+are_known keys [] = true
+are_known keys (word ∷ words) = (not (is_option word) || has_key keys word) && are_known keys words
+
+-- ---- their form
+
+-- a name has a byte or more
+abbrev pub name_of : Bytes → Option Bytes
+name_of [] = None
+name_of (b ∷ bs) = Some (b ∷ bs)
+
+-- the number that digits write after those of a number
+abbrev pub number_from : ℕ → Bytes → ℕ
+number_from value [] = value
+number_from value (d ∷ ds) = number_from (10 * value + (d - 48)) ds
+
+-- the number in a range that is written so, in plain decimal
+abbrev pub number_in : ℕ → ℕ → Bytes → Option ℕ
+number_in least most text =
+    let n = number_from 0 text in if nat_le least n && (nat_le n most && bytes_eq (decimal n) text) then Some n else None
+
+-- the one operand
+abbrev pub only_operand : List Bytes → Option Bytes
+only_operand (word ∷ []) = name_of word
+only_operand _ = None
+
+-- an option that stands among the words at most once: not among them, its value, or none where that isn't in form or stands twice
+abbrev pub at_most_once : {X : Type 0} → (Bytes → Option X) → List Bytes → Option (Option X)
+at_most_once form [] = Some None
+at_most_once form (value ∷ []) = option_map Some (form value)
+at_most_once form (value ∷ other ∷ more) = None
+
+abbrev pub image_option : List Bytes → Option (Option Bytes)
+image_option words = at_most_once name_of (values (codes "--image=") words)
+
+abbrev pub stack_option : List Bytes → Option (Option ℕ)
+stack_option words = at_most_once (number_in 1024 16777216) (values (codes "--stack=") words)
+
+abbrev pub steps_option : List Bytes → Option (Option ℕ)
+steps_option words = at_most_once (number_in 1 1000000000000) (values (codes "--steps=") words)
+
+-- the steps of the copy rule
+abbrev pub copy_option : List Bytes → Option (Option ℕ)
+copy_option words = at_most_once (number_in 1 1000000000) (values (codes "--steps=") words)
+
+abbrev pub trace_option : List Bytes → Option (Option ℕ)
+trace_option words = at_most_once (number_in 1 4096) (values (codes "--trace=") words)
+
+-- ---- the commands
+
+-- `check FILE`
+abbrev pub check_from : List Bytes → Option Order
+check_from words = if are_known [] words then option_map check (only_operand (operands words)) else None
+
+-- `derive FILE`
+abbrev pub derive_from : List Bytes → Option Order
+derive_from words = if are_known [] words then option_map derive (only_operand (operands words)) else None
+
+-- `build FILE --image=OUT [--stack=W]`
+abbrev pub build_with : Option Bytes → Option (Option Bytes) → Option (Option ℕ) → Option Order
+build_with (Some file) (Some (Some image)) (Some stack) = Some (build file image stack)
+build_with _ _ _ = None
+
+abbrev pub build_from : List Bytes → Option Order
+build_from words =
+    if are_known (codes "--image=" ∷ codes "--stack=" ∷ []) words then build_with (only_operand (operands words)) (image_option words) (stack_option words) else None
+
+-- `exec IMAGE [--steps=N] [--trace=K]`
+abbrev pub exec_with : Option Bytes → Option (Option ℕ) → Option (Option ℕ) → Option Order
+exec_with (Some image) (Some steps) (Some trace) = Some (exec image steps trace)
+exec_with _ _ _ = None
+
+abbrev pub exec_from : List Bytes → Option Order
+exec_from words =
+    if are_known (codes "--steps=" ∷ codes "--trace=" ∷ []) words then exec_with (only_operand (operands words)) (steps_option words) (trace_option words) else None
+
+-- `run FILE [--steps=N] [--stack=W] [--image=OUT]`
+abbrev pub run_with : Option Bytes → Option (Option ℕ) → Option (Option ℕ) → Option (Option Bytes) → Option Order
+run_with (Some file) (Some steps) (Some stack) (Some image) = Some (run file steps stack image)
+run_with _ _ _ _ = None
+
+abbrev pub run_from : List Bytes → Option Order
+run_from words =
+    if are_known (codes "--steps=" ∷ codes "--stack=" ∷ codes "--image=" ∷ []) words then run_with (only_operand (operands words)) (steps_option words) (stack_option words) (image_option words) else None
+
+-- `copy FILE [--steps=M]`
+abbrev pub copy_with : Option Bytes → Option (Option ℕ) → Option Order
+copy_with (Some file) (Some steps) = Some (copy file steps)
+copy_with _ _ = None
+
+abbrev pub copy_from : List Bytes → Option Order
+copy_from words = if are_known (codes "--steps=" ∷ []) words then copy_with (only_operand (operands words)) (copy_option words) else None
+
+-- `list FILE`
+abbrev pub list_from : List Bytes → Option Order
+list_from words = if are_known [] words then option_map list (only_operand (operands words)) else None
+
+-- the order that words are, if they are one: the first word is the command
+abbrev pub command_from : List Bytes → Option Order
+command_from [] = None
+command_from (name ∷ words) =
+    if bytes_eq name (codes "check") then check_from words
+    else (if bytes_eq name (codes "derive") then derive_from words
+    else (if bytes_eq name (codes "build") then build_from words
+    else (if bytes_eq name (codes "exec") then exec_from words
+    else (if bytes_eq name (codes "run") then run_from words
+    else (if bytes_eq name (codes "copy") then copy_from words
+    else (if bytes_eq name (codes "list") then list_from words
+    else None))))))
+
+-- ---- what is wanted where no option says it
+
+-- words of stack
+abbrev pub stack_wanted : Option ℕ → ℕ
+stack_wanted stack = unwrap_or stack 1048576
+
+-- instructions of a run
+abbrev pub steps_wanted : Option ℕ → ℕ
+steps_wanted steps = unwrap_or steps 1000000000
+
+-- steps of the copy rule
+abbrev pub copy_wanted : Option ℕ → ℕ
+copy_wanted steps = unwrap_or steps 100000
+
+-- an order whose image has a stack of a size that images have, or whose steps are few enough
+abbrev pub IsInRange : Order → Type 0
+IsInRange (build file image stack) = (1024 ≤ stack_wanted stack) × (stack_wanted stack ≤ 16777216)
+IsInRange (run file steps stack image) = (1024 ≤ stack_wanted stack) × (stack_wanted stack ≤ 16777216)
+IsInRange (copy file steps) = copy_wanted steps ≤ 1000000000
+IsInRange _ = Unit {0}

@@ -1,0 +1,210 @@
+//! The words of a call.
+
+ghost use Rattle.std.specs.Prelude.{◌≡◌, ◌≤◌, map, string_bytes, IfSome};
+ghost use Rattle.std.specs.Option.{option_map};
+ghost use Rattle.fy_words.specs.Order.{IsInRange, copy_wanted, stack_wanted};
+ghost use Rattle.fy_words.specs.Order.{stack_option, trace_option, steps_option, check_from, build_from, exec_from, run_from, list_from, command_from, order_of, copy_option, copy_from, derive_from};
+
+use crate::words::{are_known, name_option, number_option, only_operand};
+
+/// What the words ask for. An option that isn't among the words is `None`.
+#[derive(Clone, Copy)]
+pub enum Command<'a> {
+    /// Checks the text in the file.
+    Check {
+        file: &'a str,
+    },
+    /// Writes a derivation of the text in the file.
+    Derive {
+        file: &'a str,
+    },
+    /// Builds an image of the text in the file, and keeps it.
+    Build {
+        file: &'a str,
+        image: &'a str,
+        stack: Option<u32>,
+    },
+    /// Runs an image.
+    Exec {
+        image: &'a str,
+        steps: Option<u64>,
+        trace: Option<u32>,
+    },
+    /// Builds an image of the text in the file, keeps it, and runs it.
+    Run {
+        file: &'a str,
+        steps: Option<u64>,
+        stack: Option<u32>,
+        image: Option<&'a str>,
+    },
+    /// Runs the text in the file by the copy rule.
+    Copy {
+        file: &'a str,
+        steps: Option<u64>,
+    },
+    /// Lists the image of the text in the file.
+    List {
+        file: &'a str,
+    },
+}
+
+// The words of the stack that `--stack=` asks for.
+fn stack_option(words: &[String]) -> Option<Option<u32>>
+    ensures option { result ≡ stack_option (map string_bytes words.now) }
+    ensures range { IfSome result (λ stack. (1024 ≤ stack_wanted stack) × (stack_wanted stack ≤ 16777216)) }
+{
+    let stack = number_option("--stack=", 1024, 16_777_216, words)?;
+    match stack {
+        None => Some(None),
+        Some(words) => Some(Some(words as u32)),
+    }
+}
+
+// How many instructions `--trace=` asks for.
+fn trace_option(words: &[String]) -> Option<Option<u32>>
+    ensures { result ≡ trace_option (map string_bytes words.now) }
+{
+    let trace = number_option("--trace=", 1, 4096, words)?;
+    match trace {
+        None => Some(None),
+        Some(count) => Some(Some(count as u32)),
+    }
+}
+
+// The most instructions that `--steps=` allows.
+fn steps_option(words: &[String]) -> Option<Option<u64>>
+    ensures { result ≡ steps_option (map string_bytes words.now) }
+{
+    number_option("--steps=", 1, 1_000_000_000_000, words)
+}
+
+// The most steps of the copy rule that `--steps=` allows.
+fn copy_option(words: &[String]) -> Option<Option<u64>>
+    ensures option { result ≡ copy_option (map string_bytes words.now) }
+    ensures range { IfSome result (λ steps. copy_wanted steps ≤ 1000000000) }
+{
+    number_option("--steps=", 1, 1_000_000_000, words)
+}
+
+// `check FILE`
+fn check_of(words: &[String]) -> Option<Command<'_>>
+    ensures order { option_map order_of result ≡ check_from (map string_bytes words.now) }
+    ensures stack { IfSome result (λ command. IsInRange (order_of command)) }
+{
+    if !are_known(&[], words) {
+        return None;
+    }
+    let file = only_operand(words)?;
+    Some(Command::Check { file })
+}
+
+// `derive FILE`
+fn derive_of(words: &[String]) -> Option<Command<'_>>
+    ensures order { option_map order_of result ≡ derive_from (map string_bytes words.now) }
+    ensures stack { IfSome result (λ command. IsInRange (order_of command)) }
+{
+    if !are_known(&[], words) {
+        return None;
+    }
+    let file = only_operand(words)?;
+    Some(Command::Derive { file })
+}
+
+// `build FILE --image=OUT [--stack=W]`
+fn build_of(words: &[String]) -> Option<Command<'_>>
+    ensures order { option_map order_of result ≡ build_from (map string_bytes words.now) }
+    ensures stack { IfSome result (λ command. IsInRange (order_of command)) }
+{
+    if !are_known(&["--image=", "--stack="], words) {
+        return None;
+    }
+    let file = only_operand(words)?;
+    let image = name_option("--image=", words)??;
+    let stack = stack_option(words)?;
+    Some(Command::Build { file, image, stack })
+}
+
+// `exec IMAGE [--steps=N] [--trace=K]`
+fn exec_of(words: &[String]) -> Option<Command<'_>>
+    ensures order { option_map order_of result ≡ exec_from (map string_bytes words.now) }
+    ensures stack { IfSome result (λ command. IsInRange (order_of command)) }
+{
+    if !are_known(&["--steps=", "--trace="], words) {
+        return None;
+    }
+    let image = only_operand(words)?;
+    let steps = steps_option(words)?;
+    let trace = trace_option(words)?;
+    Some(Command::Exec {
+        image,
+        steps,
+        trace,
+    })
+}
+
+// `run FILE [--steps=N] [--stack=W] [--image=OUT]`
+fn run_of(words: &[String]) -> Option<Command<'_>>
+    ensures order { option_map order_of result ≡ run_from (map string_bytes words.now) }
+    ensures stack { IfSome result (λ command. IsInRange (order_of command)) }
+{
+    if !are_known(&["--steps=", "--stack=", "--image="], words) {
+        return None;
+    }
+    let file = only_operand(words)?;
+    let steps = steps_option(words)?;
+    let stack = stack_option(words)?;
+    let image = name_option("--image=", words)?;
+    Some(Command::Run {
+        file,
+        steps,
+        stack,
+        image,
+    })
+}
+
+// `copy FILE [--steps=M]`
+fn copy_of(words: &[String]) -> Option<Command<'_>>
+    ensures order { option_map order_of result ≡ copy_from (map string_bytes words.now) }
+    ensures stack { IfSome result (λ command. IsInRange (order_of command)) }
+{
+    if !are_known(&["--steps="], words) {
+        return None;
+    }
+    let file = only_operand(words)?;
+    let steps = copy_option(words)?;
+    Some(Command::Copy { file, steps })
+}
+
+// `list FILE`
+fn list_of(words: &[String]) -> Option<Command<'_>>
+    ensures order { option_map order_of result ≡ list_from (map string_bytes words.now) }
+    ensures stack { IfSome result (λ command. IsInRange (order_of command)) }
+{
+    if !are_known(&[], words) {
+        return None;
+    }
+    let file = only_operand(words)?;
+    Some(Command::List { file })
+}
+
+/// The command that the words are, or `None` exactly where they are none: the first word names it,
+/// a word that begins with `--` is an option, and every other word is an operand. Options stand
+/// anywhere behind the first word, each at most once. It takes no memory.
+pub fn command_of(words: &[String]) -> Option<Command<'_>>
+    ensures order { option_map order_of result ≡ command_from (map string_bytes words.now) }
+    ensures stack { IfSome result (λ command. IsInRange (order_of command)) }
+{
+    let [name, words @ ..] = words else {
+        return None;
+    };
+    match name.as_str() {
+        "check" => check_of(words),
+        "derive" => derive_of(words),
+        "build" => build_of(words),
+        "exec" => exec_of(words),
+        "run" => run_of(words),
+        "copy" => copy_of(words),
+        "list" => list_of(words),
+        _ => None,
+    }
+}
