@@ -14,6 +14,3 @@ mod types;
 
 pub use error::ParseError;
 pub use program::parse;
-
-#[cfg(test)]
-mod tests;

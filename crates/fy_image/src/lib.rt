@@ -13,6 +13,3 @@ pub use image::Image;
 pub use laws::laws_of_images;
 pub use read::read_image;
 pub use write::write_image;
-
-#[cfg(test)]
-mod tests;

@@ -184,6 +184,3 @@ fn found<T: Copy + Drop>(table: &[(&[u8], T)], text: &[u8]) -> Option<T>
     }
     None
 }
-
-#[cfg(test)]
-mod tests;

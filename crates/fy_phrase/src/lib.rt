@@ -10,6 +10,3 @@ pub use closing::close_with;
 pub use copying::copy_phrase;
 pub use phrase::{DataTy, MarkKind, Parts, Phrase};
 pub use sizes::{depth_of, node_count};
-
-#[cfg(test)]
-mod tests;

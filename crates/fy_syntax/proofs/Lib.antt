@@ -10,4 +10,3 @@ pub mod WrittenLemmas
 pub mod PlaceLemmas
 pub mod LexedLemmas
 pub mod PrintLemmas
-pub mod Examples

@@ -12,6 +12,3 @@ pub use laws::grammar_is_unambiguous;
 pub use printer::print_surface;
 pub use surface::{Def, DefList, Link, LinkList, PrefixList, Prefixed, Surface, SurfaceList};
 pub use types::{Decl, DeclList, NameList, SurfaceTy, SurfaceTyList};
-
-#[cfg(test)]
-mod tests;

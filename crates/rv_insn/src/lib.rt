@@ -21,6 +21,3 @@ pub use laws::{
     words_are_unambiguous,
 };
 pub use prints::print_insn;
-
-#[cfg(test)]
-mod tests;

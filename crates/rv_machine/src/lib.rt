@@ -17,6 +17,3 @@ pub use machine::Machine;
 pub use run::{MachineRun, run_machine, run_watched};
 pub use rv_insn::{Event, Status};
 pub use watch::{Fetched, Unwatched, Watch};
-
-#[cfg(test)]
-mod tests;

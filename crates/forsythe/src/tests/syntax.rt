@@ -4,16 +4,15 @@ ghost use Rattle.fy_base.specs.declared.data.Place.{Place as PlaceRecord};
 ghost use Rattle.fy_syntax.specs.Reading.{tree_of};
 ghost use Rattle.fy_syntax.specs.Trees.{Tree, Trees, Links};
 
-use crate::{
+use crate::tests::made::AT;
+use fy_base::{BinOp, OutOfMemory};
+use fy_syntax::{
     Def, DefList, Link, LinkList, Surface, SurfaceList, SurfaceTy, SurfaceTyList,
     grammar_is_unambiguous, nesting, print_surface,
 };
-use fy_base::{BinOp, OutOfMemory, Place};
 use fy_types::Names;
 use std::alloc::Global;
 use std::test::Fail;
-
-const AT: Place = Place { line: 1, col: 1 };
 
 // `putint ( 1 + 2 )`, where `putint` has the number 1
 fn putint_of_a_sum(alloc: Global) -> Result<Surface, OutOfMemory>

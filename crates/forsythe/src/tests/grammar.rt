@@ -1,12 +1,13 @@
-use crate::{ParseError, parse};
+use crate::tests::made::repeated;
 use fy_base::Place;
+use fy_grammar::{ParseError, parse};
 use fy_lexer::lex;
 use fy_types::Names;
 use std::alloc::Global;
 use std::test::Fail;
 
 // The refusal of a text's tokens, if they spell no tree.
-#[tactic(auto, using(crate::proofs::Lexed::lexed_ended))]
+#[tactic(auto, using(crate::proofs::Ended::lexed_ended))]
 fn refusal_of(alloc: Global, text: &[u8]) -> Result<Option<ParseError>, Fail> {
     if text.len() > 1048576 {
         return Ok(Some(ParseError::OutOfMemory));
@@ -102,26 +103,15 @@ fn nested(alloc: Global, deep: u32, times: u32) -> Result<Vec<u8>, Fail> {
     Ok(text)
 }
 
-// The text so many times.
-fn repeated(alloc: Global, piece: &[u8], times: u32) -> Result<Vec<u8>, Fail> {
-    let mut text = Vec::new(alloc);
-    for _ in 0..times {
-        for byte in piece {
-            text.push(*byte)?;
-        }
-    }
-    Ok(text)
-}
-
 // A parenthesis and `skip` are one node each.
 #[test]
 fn nests_to_256(rt: HostRuntime) -> Result<(), Fail> {
     let alloc = rt.alloc();
     assert_eq!(rt; refusal_of(alloc, &nested(alloc, 255, 1)?)?, None);
     assert_eq!(rt; refusal_of(alloc, &nested(alloc, 256, 1)?)?, deep(256));
-    let loops = repeated(alloc, b"loop ", 255)?;
+    let loops = repeated(alloc, b"", b"loop ", 255, b"")?;
     assert_eq!(rt; refusal_of(alloc, &loops)?, syntax(1276));
-    let loops = repeated(alloc, b"loop ", 256)?;
+    let loops = repeated(alloc, b"", b"loop ", 256, b"")?;
     assert_eq!(rt; refusal_of(alloc, &loops)?, deep(1276));
     Ok(())
 }
@@ -130,9 +120,11 @@ fn nests_to_256(rt: HostRuntime) -> Result<(), Fail> {
 fn reads_long_texts(rt: HostRuntime) -> Result<(), Fail> {
     let alloc = rt.alloc();
     assert_eq!(rt; refusal_of(alloc, &nested(alloc, 255, 512)?)?, None);
-    assert_eq!(rt; refusal_of(alloc, &repeated(alloc, b"a ", 200000)?)?, None);
-    let mut sum = repeated(alloc, b"1+", 131000)?;
-    sum.push(b'1')?;
+    assert_eq!(rt;
+        refusal_of(alloc, &repeated(alloc, b"", b"a ", 200000, b"")?)?,
+        None
+    );
+    let sum = repeated(alloc, b"", b"1+", 131000, b"1")?;
     assert_eq!(rt; refusal_of(alloc, &sum)?, None);
     Ok(())
 }

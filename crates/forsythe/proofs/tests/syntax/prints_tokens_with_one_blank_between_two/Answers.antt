@@ -1,6 +1,6 @@
 use Rattle.fy_syntax.specs.Reading.{tree_of}
-use Rattle.fy_syntax.proofs.Examples.{putint_of_a_sum}
-use Rattle.fy_syntax.proofs.tests.prints_tokens_with_one_blank_between_two.Goals as goal
+use Rattle.forsythe.proofs.PrintedSum.{putint_of_a_sum}
+use Rattle.forsythe.proofs.tests.syntax.prints_tokens_with_one_blank_between_two.Goals as goal
 
 pub print_surface-requires : goal.print_surface-requires
 print_surface-requires g c =

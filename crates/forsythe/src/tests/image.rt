@@ -1,4 +1,4 @@
-use super::*;
+use fy_image::{ImageError, read_image, write_image};
 use std::test::Fail;
 
 // An image of 1,024 stack words whose code is `ecall`.

@@ -1,14 +1,9 @@
-use crate::{DataTy, MarkKind, Parts, Phrase, close_with, copy_phrase, depth_of, node_count};
-use fy_base::{BinOp, Datum, OutOfMemory, Place, PutKind, UnOp};
+use crate::tests::made::{AT, boxed};
+use fy_base::{BinOp, Datum, OutOfMemory, PutKind, UnOp};
+use fy_phrase::{DataTy, MarkKind, Parts, Phrase, close_with, copy_phrase, depth_of, node_count};
 use fy_types::{Atom, Ty, TyList};
 use std::alloc::Global;
 use std::test::Fail;
-
-const AT: Place = Place { line: 1, col: 1 };
-
-fn boxed(alloc: Global, p: Phrase) -> Result<Box<Phrase>, OutOfMemory> {
-    Ok(Box::new(alloc, p)?)
-}
 
 fn var(alloc: Global, k: u32) -> Result<Box<Phrase>, OutOfMemory> {
     boxed(alloc, Phrase::Var(k, AT))
