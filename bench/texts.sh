@@ -49,3 +49,14 @@ nested=$(repeated '(' 255)skip$(repeated ')' 255)
 { repeated '\\x: int | bool. ' 17; printf skip; } | measure '17 abstractions of two alternatives'
 { printf '\\x: int'; repeated ' & int' 4094; printf '. skip'; } | measure 'a type of 4,096 nodes'
 { printf 'lettype t0 == int in '; for i in $(seq 60); do printf 'lettype t%s == t%s & t%s in ' "$i" $((i - 1)) $((i - 1)); done; printf skip; } | measure 'a type doubled 60 times'
+{ repeated '(\\x: int | bool. ' 13; printf '(skip; skip)'; repeated ') 1' 13; } | measure '13 calls, 49,000 visits'
+# Types of so many fields, each with a name of its own.
+fields() {
+    for i in $(seq "$1"); do [ "$i" = 1 ] || printf ' & '; printf '(a%s: int)' "$i"; done
+}
+for size in 10 100 1000 2000; do
+    calls=$((4000000 / (4 * size + 200)))
+    [ "$calls" -le 4000 ] || calls=4000
+    { printf 'lettype t == '; fields "$size"; printf ' in let p == \\f: t -> comm. \\x: t. (f x'; repeated '; f x' $((calls - 1)); printf ') in skip'; } | measure "$calls calls on $size fields"
+done
+{ printf 'lettype t == '; fields 2000; printf ' in let p == \\x: t. (x.a2000'; repeated ', b == x.a1' 500; printf ') in skip'; } | measure '501 fields of 2,000 are taken'

@@ -1,3 +1,2 @@
-{ `escape` names the way out of a command: when `e` is run, the rest in parentheses is left out. By
-  the copy rule it writes 13. }
+{ `escape` names the way out of a command: when `e` is run, the rest in parentheses is left out. It writes 13. }
 (escape e in (putint 1; e; putint 2)); putint 3
