@@ -18,15 +18,15 @@ use Rattle.fy_read.proofs.GrammarLemmas.{lost, node_word-text}
 use Rattle.fy_read.proofs.LexLemmas.{greatest_small}
 
 -- bytes that pass a test, before one that doesn't or the end
-abbrev EndsRun : (ℕ → Bool) → Bytes → Type 0
+abbrev pub EndsRun : (ℕ → Bool) → Bytes → Type 0
 EndsRun p [] = Unit {0}
 EndsRun p (b ∷ text) = p b ≡ false
 
-ends_name : {text : Bytes} → BeginsOther text → EndsRun is_name_byte text
+pub ends_name : {text : Bytes} → BeginsOther text → EndsRun is_name_byte text
 ends_name nothing_more = tt
 ends_name (begins (other name digit)) = name
 
-ends_digits : {text : Bytes} → BeginsOther text → EndsRun is_digit text
+pub ends_digits : {text : Bytes} → BeginsOther text → EndsRun is_digit text
 ends_digits nothing_more = tt
 ends_digits (begins (other name digit)) = digit
 
@@ -52,7 +52,7 @@ all_step true true h = (refl, refl)
 all_step true false h = absurd cc
 all_step false b h = absurd cc
 
-same_run : (p : ℕ → Bool) (v w s t : Bytes) → list_all p v ≡ true → list_all p w ≡ true → EndsRun p s → EndsRun p t → v ++ s ≡ w ++ t →
+pub same_run : (p : ℕ → Bool) (v w s t : Bytes) → list_all p v ≡ true → list_all p w ≡ true → EndsRun p s → EndsRun p t → v ++ s ≡ w ++ t →
     (v ≡ w) × (s ≡ t)
 same_run p [] [] s t all_v all_w ends_s ends_t e = (refl, e)
 same_run p [] (b ∷ w) [] t all_v all_w ends_s ends_t e = absurd cc
@@ -101,7 +101,7 @@ type_like n k d true b t h = refl
 type_like n k d false b t h = absurd cc
 
 -- a word that fits looks like a name
-word_like : (c d : Reached) (w : Bytes) → after c (word w) ≡ Some d → is_name_like w ≡ true
+pub word_like : (c d : Reached) (w : Bytes) → after c (word w) ≡ Some d → is_name_like w ≡ true
 word_like (at zero k awaited.Node) d w h = absurd cc
 word_like (at (suc m) k awaited.Node) d w h = known_like m d w (node_word w) refl h
 word_like (at n k awaited.Bracket) d w h = absurd cc
@@ -110,12 +110,12 @@ word_like (at n k awaited.Part) d w h = type_like n k d (is_name_like w) _ _ h
 word_like (at n k awaited.Colon) d w h = absurd cc
 word_like (at n k awaited.Joint) d w h = absurd cc
 
-like_names : (w : Bytes) → is_name_like w ≡ true → list_all is_name_byte w ≡ true
+pub like_names : (w : Bytes) → is_name_like w ≡ true → list_all is_name_byte w ≡ true
 like_names [] h = refl
 like_names (b ∷ w) h = let t = all_step (is_letter b) (list_all is_name_byte w) h in and_from _ _ (ap (λ x. x || (is_digit b || (b == 95))) t.0) t.1
 
 -- a number that fits is small
-number_small : (c d : Reached) (m : ℕ) → after c (number m) ≡ Some d → m < 2 ^ 64
+pub number_small : (c d : Reached) (m : ℕ) → after c (number m) ≡ Some d → m < 2 ^ 64
 number_small (at n k awaited.Node) d m h = absurd cc
 number_small (at n k awaited.Bracket) d m h = absurd cc
 number_small (at n k awaited.Part) d m h = absurd cc
@@ -126,7 +126,7 @@ number_small (at n k (awaited.Count c)) d m h = let t = counted_within n m c d _
 digit_yes : (d : ℕ) → d < 10 → is_digit (48 + d) ≡ true
 digit_yes d h = grind (arith, nat_tests)
 
-decimal_digits : (m : ℕ) → m < 2 ^ 64 → list_all is_digit (decimal m) ≡ true
+pub decimal_digits : (m : ℕ) → m < 2 ^ 64 → list_all is_digit (decimal m) ≡ true
 decimal_digits m small =
     decimal_by_steps (λ m ds. list_all is_digit ds ≡ true)
     (λ n h. and_from _ _ (digit_yes n h) refl)
@@ -134,25 +134,25 @@ decimal_digits m small =
     m small
 
 -- the first byte of a piece tells its kind
-data Kind : Type 0 where
+pub data Kind : Type 0 where
   a_name : Kind
   a_number : Kind
   a_sign : Kind
 
-abbrev kind_of : ℕ → Kind
+abbrev pub kind_of : ℕ → Kind
 kind_of b = if is_letter b then a_name else (if is_digit b then a_number else a_sign)
 
-abbrev kind : Piece → Kind
+abbrev pub kind : Piece → Kind
 kind (word w) = a_name
 kind (number m) = a_number
 kind (sign s) = a_sign
 
-record BeginsAs (text : Bytes) (k : Kind) : Type 0 where
-  first : ℕ
-  rest : Bytes
-  is : text ≡ first ∷ rest
-  kind : kind_of first ≡ k
-  visible : is_blank first ≡ false
+pub record BeginsAs (text : Bytes) (k : Kind) : Type 0 where
+  pub first : ℕ
+  pub rest : Bytes
+  pub is : text ≡ first ∷ rest
+  pub kind : kind_of first ≡ k
+  pub visible : is_blank first ≡ false
 
 letter_kind : (b : ℕ) → is_letter b ≡ true → (kind_of b ≡ a_name) × (is_blank b ≡ false)
 letter_kind b h = (ap (λ t. if t then a_name else (if is_digit b then a_number else a_sign)) h, grind (arith, nat_tests))
@@ -188,7 +188,7 @@ sign_begins colon text = record { first = 58; rest = text; is = refl; kind = ref
 sign_begins arrow text = record { first = 45; rest = 62 ∷ text; is = refl; kind = refl; visible = refl }
 sign_begins ampersand text = record { first = 38; rest = text; is = refl; kind = refl; visible = refl }
 
-piece_begins : (c d : Reached) (p : Piece) (text : Bytes) → after c p ≡ Some d → BeginsAs (spelling p ++ text) (kind p)
+pub piece_begins : (c d : Reached) (p : Piece) (text : Bytes) → after c p ≡ Some d → BeginsAs (spelling p ++ text) (kind p)
 piece_begins c d (word w) text h = word_begins w text (word_like c d w h)
 piece_begins c d (number m) text h =
     let small = number_small c d m h in digits_begin (decimal m) text (decimal_nonempty m small) (decimal_digits m small)
@@ -210,10 +210,10 @@ sign_known colon text = refl
 sign_known arrow text = refl
 sign_known ampersand text = refl
 
-same_sign : (s r : Sign) (t u : Bytes) → spelling (sign s) ++ t ≡ spelling (sign r) ++ u → s ≡ r
+pub same_sign : (s r : Sign) (t u : Bytes) → spelling (sign s) ++ t ≡ spelling (sign r) ++ u → s ≡ r
 same_sign s r t u e = let k : Some s ≡ Some r = sym (sign_known s t) ∙ (ap (λ x. sign_at (head_of x)) e ∙ sign_known r u) in cc
 
-behind_sign : (s : Sign) (t u : Bytes) → spelling (sign s) ++ t ≡ spelling (sign s) ++ u → t ≡ u
+pub behind_sign : (s : Sign) (t u : Bytes) → spelling (sign s) ++ t ≡ spelling (sign s) ++ u → t ≡ u
 behind_sign open_bracket t u e = same_tail e
 behind_sign close_bracket t u e = same_tail e
 behind_sign open_paren t u e = same_tail e
@@ -222,7 +222,7 @@ behind_sign colon t u e = same_tail e
 behind_sign arrow t u e = same_tail (same_tail e)
 behind_sign ampersand t u e = same_tail e
 
-same_kind : (s t : Bytes) (j k : Kind) → BeginsAs s j → BeginsAs t k → s ≡ t → j ≡ k
+pub same_kind : (s t : Bytes) (j k : Kind) → BeginsAs s j → BeginsAs t k → s ≡ t → j ≡ k
 same_kind s t j k a b e = sym a.kind ∙ (ap kind_of (same_head (sym a.is ∙ (e ∙ b.is))) ∙ b.kind)
 
 Both : Piece → Piece → Bytes → Bytes → Type 0
@@ -258,26 +258,26 @@ same_piece c d e (sign x) (number n) t u f g s r same =
     let k = same_kind _ _ _ _ (piece_begins c d (sign x) t f) (piece_begins c e (number n) u g) same in absurd cc
 
 -- how a text begins that pieces spell
-data View (loose : Bool) : List Piece → Bytes → Type 0 where
+pub data View (loose : Bool) : List Piece → Bytes → Type 0 where
   ends : {text : Bytes} → text ≡ [] → View loose [] text
   blank : {ps : List Piece} {text : Bytes} (b : ℕ) (rest : Bytes) → text ≡ b ∷ rest → is_blank b ≡ true → AreSpelled false ps rest →
       View loose ps text
   piece : {ps : List Piece} {text : Bytes} (p : Piece) (rest : Bytes) → text ≡ spelling p ++ rest → AreSpelled (is_loose p) ps rest →
       View loose (p ∷ ps) text
 
-view : {loose : Bool} {ps : List Piece} {text : Bytes} → AreSpelled loose ps text → View loose ps text
+pub view : {loose : Bool} {ps : List Piece} {text : Bytes} → AreSpelled loose ps text → View loose ps text
 view at_end = ends refl
 view (a_blank {b = b} {text = text} h rest) = blank b text refl h rest
 view (a_piece {p = p} {text = text} h rest) = piece p text refl rest
 
-none_left_blank : {X : Type 0} {b : ℕ} {s : Bytes} → b ∷ s ≡ [] → X
+pub none_left_blank : {X : Type 0} {b : ℕ} {s : Bytes} → b ∷ s ≡ [] → X
 none_left_blank h = absurd cc
 
-blank_visible : {X : Type 0} (b : ℕ) → is_blank b ≡ true → is_blank b ≡ false → X
+pub blank_visible : {X : Type 0} (b : ℕ) → is_blank b ≡ true → is_blank b ≡ false → X
 blank_visible b h k = let e : true ≡ false = sym h ∙ k in absurd cc
 
 -- pieces that lead somewhere begin with one that fits
-fits_first : (c d : Reached) (p : Piece) (ps : List Piece) (o : Option Reached) → after c p ≡ o → after_all o ps ≡ Some d →
+pub fits_first : (c d : Reached) (p : Piece) (ps : List Piece) (o : Option Reached) → after c p ≡ o → after_all o ps ≡ Some d →
     (e : Reached) × (after c p ≡ Some e) × (after_all (Some e) ps ≡ Some d)
 fits_first c d p ps None is h = lost ps d h
 fits_first c d p ps (Some e) is h = (e, is, h)
@@ -288,7 +288,7 @@ OnlyOne ps text =
     (k : Bool) (qs : List Piece) (bytes : Bytes) (c d e : Reached) → AreSpelled k qs bytes → text ≡ bytes → after_all (Some c) ps ≡ Some d → after_all
     (Some c) qs ≡ Some e → ps ≡ qs
 
-none_left : {k : Bool} {qs : List Piece} {bytes : Bytes} (c e : Reached) → View k qs bytes → bytes ≡ [] → after_all (Some c) qs ≡ Some e → [] ≡ qs
+pub none_left : {k : Bool} {qs : List Piece} {bytes : Bytes} (c e : Reached) → View k qs bytes → bytes ≡ [] → after_all (Some c) qs ≡ Some e → [] ≡ qs
 none_left c e (ends is) empty g = refl
 none_left c e (blank b rest is h s) empty g = none_left_blank (sym is ∙ empty)
 none_left c e (piece {ps = ps} q rest is s) empty g =

@@ -4,8 +4,11 @@ use Rattle.fy_base.specs.Outside.{Bytes}
 use Rattle.fy_types.specs.Names.{are_distinct}
 use Rattle.fy_derive.specs.Derivations.{PlainDerivation}
 use Rattle.fy_derive.specs.Print.{derivation_text}
+use Rattle.fy_lexer.specs.Tokens.{HasAdded}
+use Rattle.fy_read.specs.declared.error.ReadError.{ReadError}
+use Rattle.fy_read.specs.declared.error.ReadError.TheVariants.{OutOfMemory}
 use Rattle.fy_read.specs.Printable.{IsPrintable}
-use Rattle.fy_read.specs.Refusals.{Begins, IsText}
+use Rattle.fy_read.specs.Refusals.{Begins, IsText, IsWithin, IsReadFault}
 use Rattle.fy_read.specs.Spelling.{IsTextOf}
 use Rattle.fy_read.specs.Steps.{start, finish, steps, ended_fit}
 
@@ -23,3 +26,14 @@ TextsAreUnique =
 abbrev pub PrintedIsUnique : Type 0
 PrintedIsUnique =
     (names : List Bytes) (d e : PlainDerivation) → IsTrue (are_distinct names) → IsPrintable names d → IsTextOf names e (derivation_text names d) → e ≡ d
+
+-- a text is read as that derivation: it is no other's, and is refused for want of memory alone
+pub record IsReadAs (names : List Bytes) (text : Bytes) (d : PlainDerivation) : Type 0 where
+  pub only : (e : PlainDerivation) → IsTextOf names e text → e ≡ d
+  pub taken : (fault : ReadError) → IsReadFault text fault → fault ≡ OutOfMemory
+
+-- what is printed of a derivation within the limits is read as that derivation, also where names were added since
+abbrev pub PrintedIsRead : Type 0
+PrintedIsRead =
+    (names later : List Bytes) (d : PlainDerivation) → IsTrue (are_distinct later) → HasAdded names later → IsPrintable names d → IsWithin d →
+    IsReadAs later (derivation_text names d) d

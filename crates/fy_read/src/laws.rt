@@ -1,7 +1,7 @@
 //! Laws of the texts of derivations.
 
 ghost use Rattle.fy_read.specs.Printable.{PrintedIsText};
-ghost use Rattle.fy_read.specs.TextLaws.{StepsAreTexts, TextsAreUnique, PrintedIsUnique};
+ghost use Rattle.fy_read.specs.TextLaws.{StepsAreTexts, TextsAreUnique, PrintedIsUnique, PrintedIsRead};
 
 /// What is printed of a derivation is a text of it, where its names are those of identifiers, its
 /// lists have the lengths that texts have, and its meets have two or more members. It does nothing:
@@ -22,4 +22,11 @@ pub fn steps_are_texts()
 pub fn texts_are_unique()
     ensures texts { TextsAreUnique }
     ensures printed { PrintedIsUnique }
+{}
+
+/// What is printed of a derivation is read as that derivation, where it is within the limits, its
+/// names are those of identifiers, its lists have the lengths that texts have, and its meets have two
+/// or more members. It does nothing: its contract is the law.
+pub fn printed_is_read()
+    ensures { PrintedIsRead }
 {}
