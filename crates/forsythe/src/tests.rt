@@ -2,6 +2,7 @@
 
 mod copy;
 mod derive;
+mod examples;
 mod expand;
 mod grammar;
 mod image;

@@ -6,11 +6,11 @@ use std::test::Fail;
 
 #[derive(Drop)]
 // What a call left: its status, the files, and the bytes at output and at notes.
-struct Left {
-    status: u8,
-    files: MemoryFiles,
-    output: MemorySink,
-    notes: MemorySink,
+pub struct Left {
+    pub status: u8,
+    pub files: MemoryFiles,
+    pub output: MemorySink,
+    pub notes: MemorySink,
 }
 
 fn words_of(alloc: Global, words: &[&str]) -> Result<Vec<String>, AllocError> {
@@ -62,7 +62,7 @@ fn call_on(
 }
 
 // A call over `p.fy` with this text.
-fn call(alloc: Global, words: &[&str], text: &[u8], failing: Vec<u64>) -> Result<Left, Fail> {
+pub fn call(alloc: Global, words: &[&str], text: &[u8], failing: Vec<u64>) -> Result<Left, Fail> {
     call_on(alloc, words, "p.fy", text, failing)
 }
 
