@@ -4,19 +4,9 @@
 # Prints for each program the steps that it made, the least user time and the steps a second. FORSYTHE names another
 # built program than bin/forsythe.
 set -eu
-here=$(cd "$(dirname "$0")" && pwd -P)
-rounds=${1:-5}
-program=${FORSYTHE:-$here/../bin/forsythe}
-work=$(mktemp -d)
-trap 'rm -rf "$work"' EXIT
-
-# A piece so many times.
-repeated() {
-    awk -v piece="$1" -v times="$2" 'BEGIN { for (i = 0; i < times; i++) printf "%s", piece }'
-}
+. "$(dirname "$0")/measured.sh"
 
 # The user time of `copy` of the text on the input, in seconds.
-TIMEFORMAT=%U
 user_time() {
     { time "$program" copy "$work/text.fy" --steps=100000 >"$work/output" 2>"$work/notes" <"$work/input"; } 2>&1 || true
 }

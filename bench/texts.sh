@@ -4,19 +4,9 @@
 # Prints for each text the least user time, its bytes and what `check` says. FORSYTHE names another built program
 # than bin/forsythe.
 set -eu
-here=$(cd "$(dirname "$0")" && pwd -P)
-rounds=${1:-5}
-program=${FORSYTHE:-$here/../bin/forsythe}
-work=$(mktemp -d)
-trap 'rm -rf "$work"' EXIT
-
-# A piece so many times.
-repeated() {
-    awk -v piece="$1" -v times="$2" 'BEGIN { for (i = 0; i < times; i++) printf "%s", piece }'
-}
+. "$(dirname "$0")/measured.sh"
 
 # The user time of `check` of a file, in seconds.
-TIMEFORMAT=%U
 user_time() {
     { time "$program" check "$1" >"$work/output" 2>"$work/notes" </dev/null; } 2>&1 || true
 }
