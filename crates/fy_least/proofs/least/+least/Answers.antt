@@ -1,317 +1,172 @@
+mod Commands
+mod Forms
 use Rattle.std.proofs.Common.{◌+◌, ◌∷◌, ◌++◌, map, inl, inr, refl, sym, ap, subst, arith, IfOk}
 use Rattle.std.proofs.lemmas.List.{length-map}
 use Rattle.std.proofs.lemmas.Result.{err_from_is_err_and}
-use Rattle.fy_types.specs.declared.types.Atom.TheVariants.{Comm, Compl}
 use Rattle.fy_types.specs.Types.{no_types}
 use Rattle.fy_types.specs.Paths.{paths}
 use Rattle.fy_types.specs.Reading.{plain_paths, plain_type, types_from}
-use Rattle.fy_phrase.specs.Tree.{no_trees, var, lit, unary, binary, cond, case, lam, app, field, sel, merge, let_in, rec, skip, seq, assign, while_do, forever, new, escape, accept, put, read}
+use Rattle.fy_phrase.specs.Tree.{no_trees, unary, binary, cond, case, lam, app, field, sel, merge, let_in, rec}
 use Rattle.fy_phrase.specs.Reads.{reads, reads_parts}
 use Rattle.fy_phrase.specs.Sizes as sizes
-use Rattle.fy_derive.specs.Atoms.{data_atom, cell_type}
-use Rattle.fy_derive.specs.Least.{has, one_end, merge_of, least_type, visits, visits_of_all}
+use Rattle.fy_derive.specs.Least.{merge_of, least_type, visits, visits_of_all}
 use Rattle.fy_derive.specs.Reading.{plain_derivation}
-use Rattle.fy_derive.proofs.FormLemmas.{Var-tree, Unary-tree, Binary-tree, Cond-tree, Case-tree, Lam-tree, App-tree, Field-tree, Sel-tree, Merge-tree, LetIn-tree, Rec-tree, Seq-tree, Assign-tree, WhileDo-tree, Forever-tree, New-tree, Escape-tree, Accept-tree, Put-tree, Read-tree}
 use Rattle.fy_least.specs.Counts.{this_form}
 use Rattle.fy_least.specs.Forms.{IsMerged}
 use Rattle.fy_least.specs.Many.{AreFound, no_parts, AreFoundUnder, no_alternatives}
 use Rattle.fy_least.specs.Scopes.{scope_forms}
 use Rattle.fy_least.specs.Visited.{IsFound, IsMade, IsRefused, blame_at}
-use Rattle.fy_least.proofs.ArmLemmas.{Lit-tree, Skip-tree, Mark-tree, ok-of, same-ok, large-of, turned, too-large, scope-under}
+use Rattle.fy_least.proofs.ArmLemmas.{ok-of, large-of, turned, too-large, scope-under}
 use Rattle.fy_least.proofs.EachFound.{part-more, parts-all, part-refused, alternative-more, alternatives-all, alternative-large, alternative-refused}
-use Rattle.fy_least.proofs.FormFound.{var-found, app-found, field-found, sel-found, let-found, rec-found, merge-found, cond-found}
+use Rattle.fy_least.proofs.FormFound.{app-found, field-found, sel-found, let-found, rec-found, merge-found, cond-found}
 use Rattle.fy_least.proofs.LamFound.{bodies-once, bodies-length, lam-found}
 use Rattle.fy_least.proofs.ManyFound.{case-found}
-use Rattle.fy_least.proofs.RefusedLemmas.{none-refused, one-refused, two-refused, three-refused, only-part, first-part, other-parts, second-part, cond-part, written-refused, under-refused, lam-refused, case-refused}
-use Rattle.fy_least.proofs.RuleFound.{lit-found, skip-found, mark-found, unary-found, forever-found, escape-found, accept-found, put-found, read-found, while-found, command-same, seq-found, new-found, binary-found, assign-found}
+use Rattle.fy_least.proofs.RefusedLemmas.{one-refused, two-refused, three-refused, only-part, first-part, other-parts, second-part, cond-part, written-refused, under-refused, lam-refused, case-refused}
+use Rattle.fy_least.proofs.RuleFound.{unary-found, binary-found}
 use Rattle.fy_least.proofs.least.+least.Goals as goal
+use Rattle.fy_least.proofs.least.+least.Answers.Forms as forms
+use Rattle.fy_least.proofs.least.+least.Answers.Commands as commands
 
 pub found_in-returns-in-Var-clause-ok : goal.found_in-returns-in-Var-clause-ok
-found_in-returns-in-Var-clause-ok t c =
-    let G = scope_forms c.args.scope.now in
-    let shape = Var-tree c.args.p.now c.in-Var.number c.in-Var.at c.in-Var.is in
-    ok-of c.variable.result shape (λ r. var-found G c.in-Var.number c.in-Var.at r) c.variable.ensures.made c.variable.ensures.derived
+found_in-returns-in-Var-clause-ok = forms.found_in-returns-in-Var-clause-ok
 
 pub found_in-returns-in-Var-clause-large : goal.found_in-returns-in-Var-clause-large
-found_in-returns-in-Var-clause-large t c =
-    let G = scope_forms c.args.scope.now in
-    let shape = Var-tree c.args.p.now c.in-Var.number c.in-Var.at c.in-Var.is in
-    λ e. large-of G shape (none-refused G (var c.in-Var.number c.in-Var.at) refl (λ m. refl) (c.variable.ensures.large e))
+found_in-returns-in-Var-clause-large = forms.found_in-returns-in-Var-clause-large
 
 pub found_in-returns-in-Lit-clause-ok : goal.found_in-returns-in-Lit-clause-ok
-found_in-returns-in-Lit-clause-ok t c =
-    let G = scope_forms c.args.scope.now in
-    let shape = Lit-tree c.args.p.now c.in-Lit.datum c.in-Lit.at c.in-Lit.is in
-    ok-of c.axiom.result shape (λ r. lit-found G c.in-Lit.datum c.in-Lit.at r) (rw c.datum_atom.ensures at c.axiom.ensures.made)
-    c.axiom.ensures.derived
+found_in-returns-in-Lit-clause-ok = forms.found_in-returns-in-Lit-clause-ok
 
 pub found_in-returns-in-Lit-clause-large : goal.found_in-returns-in-Lit-clause-large
-found_in-returns-in-Lit-clause-large t c =
-    let G = scope_forms c.args.scope.now in
-    let shape = Lit-tree c.args.p.now c.in-Lit.datum c.in-Lit.at c.in-Lit.is in
-    λ e. large-of G shape (none-refused G (lit c.in-Lit.datum c.in-Lit.at) refl (λ m. refl) (c.axiom.ensures.large e))
+found_in-returns-in-Lit-clause-large = forms.found_in-returns-in-Lit-clause-large
 
 pub found_in-returns-in-Unary-clause-ok : goal.found_in-returns-in-Unary-clause-ok
-found_in-returns-in-Unary-clause-ok t c =
-    let G = scope_forms c.args.scope.now in
-    let shape = Unary-tree c.args.p.now c.in-Unary.op c.in-Unary.part c.in-Unary.at c.in-Unary.is in
-    same-ok G c.found_in_unary.result shape (rw c.deref.ensures at c.found_in_unary.ensures.ok)
+found_in-returns-in-Unary-clause-ok = forms.found_in-returns-in-Unary-clause-ok
 
 pub found_in-returns-in-Unary-clause-large : goal.found_in-returns-in-Unary-clause-large
-found_in-returns-in-Unary-clause-large t c =
-    let G = scope_forms c.args.scope.now in
-    let shape = Unary-tree c.args.p.now c.in-Unary.op c.in-Unary.part c.in-Unary.at c.in-Unary.is in
-    λ e. large-of G shape (rw c.deref.ensures at (c.found_in_unary.ensures.large e))
+found_in-returns-in-Unary-clause-large = forms.found_in-returns-in-Unary-clause-large
 
 pub found_in-returns-in-Binary-clause-ok : goal.found_in-returns-in-Binary-clause-ok
-found_in-returns-in-Binary-clause-ok t c =
-    let G = scope_forms c.args.scope.now in
-    let shape = Binary-tree c.args.p.now c.in-Binary.op c.in-Binary.left c.in-Binary.right c.in-Binary.at c.in-Binary.is in
-    same-ok G c.found_in_binary.result shape (rw (c.deref-in-Binary.ensures, c.deref-in-Binary-2.ensures) at c.found_in_binary.ensures.ok)
+found_in-returns-in-Binary-clause-ok = forms.found_in-returns-in-Binary-clause-ok
 
 pub found_in-returns-in-Binary-clause-large : goal.found_in-returns-in-Binary-clause-large
-found_in-returns-in-Binary-clause-large t c =
-    let G = scope_forms c.args.scope.now in
-    let shape = Binary-tree c.args.p.now c.in-Binary.op c.in-Binary.left c.in-Binary.right c.in-Binary.at c.in-Binary.is in
-    λ e. large-of G shape (rw (c.deref-in-Binary.ensures, c.deref-in-Binary-2.ensures) at (c.found_in_binary.ensures.large e))
+found_in-returns-in-Binary-clause-large = forms.found_in-returns-in-Binary-clause-large
 
 pub found_in-returns-in-Cond-clause-ok : goal.found_in-returns-in-Cond-clause-ok
-found_in-returns-in-Cond-clause-ok t c =
-    let G = scope_forms c.args.scope.now in
-    let shape = Cond-tree c.args.p.now c.in-Cond.test c.in-Cond.first c.in-Cond.second c.in-Cond.at c.in-Cond.is in
-    same-ok G c.found_in_conditional.result shape (rw (c.deref-in-Cond.ensures, c.deref-in-Cond-2.ensures, c.deref-in-Cond-3.ensures) at
-    c.found_in_conditional.ensures.ok)
+found_in-returns-in-Cond-clause-ok = forms.found_in-returns-in-Cond-clause-ok
 
 pub found_in-returns-in-Cond-clause-large : goal.found_in-returns-in-Cond-clause-large
-found_in-returns-in-Cond-clause-large t c =
-    let G = scope_forms c.args.scope.now in
-    let shape = Cond-tree c.args.p.now c.in-Cond.test c.in-Cond.first c.in-Cond.second c.in-Cond.at c.in-Cond.is in
-    λ e. large-of G shape (rw (c.deref-in-Cond.ensures, c.deref-in-Cond-2.ensures, c.deref-in-Cond-3.ensures) at
-    (c.found_in_conditional.ensures.large e))
+found_in-returns-in-Cond-clause-large = forms.found_in-returns-in-Cond-clause-large
 
 pub found_in-returns-in-Case-clause-ok : goal.found_in-returns-in-Case-clause-ok
-found_in-returns-in-Case-clause-ok t c =
-    let G = scope_forms c.args.scope.now in
-    let shape = Case-tree c.args.p.now c.in-Case.index c.in-Case.parts c.in-Case.at c.in-Case.is in
-    same-ok G c.found_in_case.result shape (rw c.deref-in-Case.ensures at c.found_in_case.ensures.ok)
+found_in-returns-in-Case-clause-ok = forms.found_in-returns-in-Case-clause-ok
 
 pub found_in-returns-in-Case-clause-large : goal.found_in-returns-in-Case-clause-large
-found_in-returns-in-Case-clause-large t c =
-    let G = scope_forms c.args.scope.now in
-    let shape = Case-tree c.args.p.now c.in-Case.index c.in-Case.parts c.in-Case.at c.in-Case.is in
-    λ e. large-of G shape (rw c.deref-in-Case.ensures at (c.found_in_case.ensures.large e))
+found_in-returns-in-Case-clause-large = forms.found_in-returns-in-Case-clause-large
 
 pub found_in-returns-in-Lam-clause-ok : goal.found_in-returns-in-Lam-clause-ok
-found_in-returns-in-Lam-clause-ok t c =
-    let G = scope_forms c.args.scope.now in
-    let shape = Lam-tree c.args.p.now c.in-Lam.field-0 c.in-Lam.types c.in-Lam.body c.in-Lam.at c.in-Lam.is in
-    same-ok G c.found_in_abstraction.result shape (rw c.deref-in-Lam.ensures at (c.found_in_abstraction.ensures.ok c.in-Lam.field-0))
+found_in-returns-in-Lam-clause-ok = forms.found_in-returns-in-Lam-clause-ok
 
 pub found_in-returns-in-Lam-clause-large : goal.found_in-returns-in-Lam-clause-large
-found_in-returns-in-Lam-clause-large t c =
-    let G = scope_forms c.args.scope.now in
-    let shape = Lam-tree c.args.p.now c.in-Lam.field-0 c.in-Lam.types c.in-Lam.body c.in-Lam.at c.in-Lam.is in
-    λ e. large-of G shape (rw c.deref-in-Lam.ensures at (c.found_in_abstraction.ensures.large c.in-Lam.field-0 e))
+found_in-returns-in-Lam-clause-large = forms.found_in-returns-in-Lam-clause-large
 
 pub found_in-returns-in-App-clause-ok : goal.found_in-returns-in-App-clause-ok
-found_in-returns-in-App-clause-ok t c =
-    let G = scope_forms c.args.scope.now in
-    let shape = App-tree c.args.p.now c.in-App.procedure c.in-App.argument c.in-App.at c.in-App.is in
-    same-ok G c.found_in_application.result shape (rw (c.deref-in-App.ensures, c.deref-in-App-2.ensures) at c.found_in_application.ensures.ok)
+found_in-returns-in-App-clause-ok = forms.found_in-returns-in-App-clause-ok
 
 pub found_in-returns-in-App-clause-large : goal.found_in-returns-in-App-clause-large
-found_in-returns-in-App-clause-large t c =
-    let G = scope_forms c.args.scope.now in
-    let shape = App-tree c.args.p.now c.in-App.procedure c.in-App.argument c.in-App.at c.in-App.is in
-    λ e. large-of G shape (rw (c.deref-in-App.ensures, c.deref-in-App-2.ensures) at (c.found_in_application.ensures.large e))
+found_in-returns-in-App-clause-large = forms.found_in-returns-in-App-clause-large
 
 pub found_in-returns-in-Field-clause-ok : goal.found_in-returns-in-Field-clause-ok
-found_in-returns-in-Field-clause-ok t c =
-    let G = scope_forms c.args.scope.now in
-    let shape = Field-tree c.args.p.now c.in-Field.name c.in-Field.part c.in-Field.at c.in-Field.is in
-    same-ok G c.found_in_field.result shape (rw c.deref-in-Field.ensures at c.found_in_field.ensures.ok)
+found_in-returns-in-Field-clause-ok = forms.found_in-returns-in-Field-clause-ok
 
 pub found_in-returns-in-Field-clause-large : goal.found_in-returns-in-Field-clause-large
-found_in-returns-in-Field-clause-large t c =
-    let G = scope_forms c.args.scope.now in
-    let shape = Field-tree c.args.p.now c.in-Field.name c.in-Field.part c.in-Field.at c.in-Field.is in
-    λ e. large-of G shape (rw c.deref-in-Field.ensures at (c.found_in_field.ensures.large e))
+found_in-returns-in-Field-clause-large = forms.found_in-returns-in-Field-clause-large
 
 pub found_in-returns-in-Sel-clause-ok : goal.found_in-returns-in-Sel-clause-ok
-found_in-returns-in-Sel-clause-ok t c =
-    let G = scope_forms c.args.scope.now in
-    let shape = Sel-tree c.args.p.now c.in-Sel.part c.in-Sel.name c.in-Sel.at c.in-Sel.is in
-    same-ok G c.found_in_selection.result shape (rw c.deref-in-Sel.ensures at c.found_in_selection.ensures.ok)
+found_in-returns-in-Sel-clause-ok = forms.found_in-returns-in-Sel-clause-ok
 
 pub found_in-returns-in-Sel-clause-large : goal.found_in-returns-in-Sel-clause-large
-found_in-returns-in-Sel-clause-large t c =
-    let G = scope_forms c.args.scope.now in
-    let shape = Sel-tree c.args.p.now c.in-Sel.part c.in-Sel.name c.in-Sel.at c.in-Sel.is in
-    λ e. large-of G shape (rw c.deref-in-Sel.ensures at (c.found_in_selection.ensures.large e))
+found_in-returns-in-Sel-clause-large = forms.found_in-returns-in-Sel-clause-large
 
 pub found_in-returns-in-Merge-clause-ok : goal.found_in-returns-in-Merge-clause-ok
-found_in-returns-in-Merge-clause-ok t c =
-    let G = scope_forms c.args.scope.now in
-    let shape = Merge-tree c.args.p.now c.in-Merge.left c.in-Merge.right c.in-Merge.at c.in-Merge.is in
-    same-ok G c.found_in_merge.result shape (rw (c.deref-in-Merge.ensures, c.deref-in-Merge-2.ensures) at c.found_in_merge.ensures.ok)
+found_in-returns-in-Merge-clause-ok = forms.found_in-returns-in-Merge-clause-ok
 
 pub found_in-returns-in-Merge-clause-large : goal.found_in-returns-in-Merge-clause-large
-found_in-returns-in-Merge-clause-large t c =
-    let G = scope_forms c.args.scope.now in
-    let shape = Merge-tree c.args.p.now c.in-Merge.left c.in-Merge.right c.in-Merge.at c.in-Merge.is in
-    λ e. large-of G shape (rw (c.deref-in-Merge.ensures, c.deref-in-Merge-2.ensures) at (c.found_in_merge.ensures.large e))
+found_in-returns-in-Merge-clause-large = forms.found_in-returns-in-Merge-clause-large
 
 pub found_in-returns-in-LetIn-clause-ok : goal.found_in-returns-in-LetIn-clause-ok
-found_in-returns-in-LetIn-clause-ok t c =
-    let G = scope_forms c.args.scope.now in
-    let shape = LetIn-tree c.args.p.now c.in-LetIn.field-0 c.in-LetIn.defined c.in-LetIn.body c.in-LetIn.at c.in-LetIn.is in
-    same-ok G c.found_in_definition.result shape (rw (c.deref-in-LetIn.ensures, c.deref-in-LetIn-2.ensures) at
-    (c.found_in_definition.ensures.ok c.in-LetIn.field-0))
+found_in-returns-in-LetIn-clause-ok = forms.found_in-returns-in-LetIn-clause-ok
 
 pub found_in-returns-in-LetIn-clause-large : goal.found_in-returns-in-LetIn-clause-large
-found_in-returns-in-LetIn-clause-large t c =
-    let G = scope_forms c.args.scope.now in
-    let shape = LetIn-tree c.args.p.now c.in-LetIn.field-0 c.in-LetIn.defined c.in-LetIn.body c.in-LetIn.at c.in-LetIn.is in
-    λ e. large-of G shape (rw (c.deref-in-LetIn.ensures, c.deref-in-LetIn-2.ensures) at (c.found_in_definition.ensures.large c.in-LetIn.field-0 e))
+found_in-returns-in-LetIn-clause-large = forms.found_in-returns-in-LetIn-clause-large
 
 pub found_in-returns-in-Rec-clause-ok : goal.found_in-returns-in-Rec-clause-ok
-found_in-returns-in-Rec-clause-ok t c =
-    let G = scope_forms c.args.scope.now in
-    let shape = Rec-tree c.args.p.now c.in-Rec.field-0 c.in-Rec.ty c.in-Rec.body c.in-Rec.at c.in-Rec.is in
-    same-ok G c.found_in_recursion.result shape (rw c.deref-in-Rec.ensures at (c.found_in_recursion.ensures.ok c.in-Rec.field-0))
+found_in-returns-in-Rec-clause-ok = forms.found_in-returns-in-Rec-clause-ok
 
 pub found_in-returns-in-Rec-clause-large : goal.found_in-returns-in-Rec-clause-large
-found_in-returns-in-Rec-clause-large t c =
-    let G = scope_forms c.args.scope.now in
-    let shape = Rec-tree c.args.p.now c.in-Rec.field-0 c.in-Rec.ty c.in-Rec.body c.in-Rec.at c.in-Rec.is in
-    λ e. large-of G shape (rw c.deref-in-Rec.ensures at (c.found_in_recursion.ensures.large c.in-Rec.field-0 e))
+found_in-returns-in-Rec-clause-large = forms.found_in-returns-in-Rec-clause-large
 
 pub found_in-returns-in-Skip-clause-ok : goal.found_in-returns-in-Skip-clause-ok
-found_in-returns-in-Skip-clause-ok t c =
-    let G = scope_forms c.args.scope.now in
-    let shape = Skip-tree c.args.p.now c.in-Skip.at c.in-Skip.is in
-    ok-of c.axiom-in-Skip.result shape (λ r. skip-found G c.in-Skip.at r) c.axiom-in-Skip.ensures.made c.axiom-in-Skip.ensures.derived
+found_in-returns-in-Skip-clause-ok = forms.found_in-returns-in-Skip-clause-ok
 
 pub found_in-returns-in-Skip-clause-large : goal.found_in-returns-in-Skip-clause-large
-found_in-returns-in-Skip-clause-large t c =
-    let G = scope_forms c.args.scope.now in
-    let shape = Skip-tree c.args.p.now c.in-Skip.at c.in-Skip.is in
-    λ e. large-of G shape (none-refused G (skip c.in-Skip.at) refl (λ m. refl) (c.axiom-in-Skip.ensures.large e))
+found_in-returns-in-Skip-clause-large = forms.found_in-returns-in-Skip-clause-large
 
 pub found_in-returns-in-Seq-clause-ok : goal.found_in-returns-in-Seq-clause-ok
-found_in-returns-in-Seq-clause-ok t c =
-    let G = scope_forms c.args.scope.now in
-    let shape = Seq-tree c.args.p.now c.in-Seq.first c.in-Seq.second c.in-Seq.at c.in-Seq.is in
-    same-ok G c.found_in_sequence.result shape (rw (c.deref-in-Seq.ensures, c.deref-in-Seq-2.ensures) at c.found_in_sequence.ensures.ok)
+found_in-returns-in-Seq-clause-ok = forms.found_in-returns-in-Seq-clause-ok
 
 pub found_in-returns-in-Seq-clause-large : goal.found_in-returns-in-Seq-clause-large
-found_in-returns-in-Seq-clause-large t c =
-    let G = scope_forms c.args.scope.now in
-    let shape = Seq-tree c.args.p.now c.in-Seq.first c.in-Seq.second c.in-Seq.at c.in-Seq.is in
-    λ e. large-of G shape (rw (c.deref-in-Seq.ensures, c.deref-in-Seq-2.ensures) at (c.found_in_sequence.ensures.large e))
+found_in-returns-in-Seq-clause-large = forms.found_in-returns-in-Seq-clause-large
 
 pub found_in-returns-in-Assign-clause-ok : goal.found_in-returns-in-Assign-clause-ok
-found_in-returns-in-Assign-clause-ok t c =
-    let G = scope_forms c.args.scope.now in
-    let shape = Assign-tree c.args.p.now c.in-Assign.acceptor c.in-Assign.value c.in-Assign.at c.in-Assign.is in
-    same-ok G c.found_in_assignment.result shape (rw (c.deref-in-Assign.ensures, c.deref-in-Assign-2.ensures) at c.found_in_assignment.ensures.ok)
+found_in-returns-in-Assign-clause-ok = forms.found_in-returns-in-Assign-clause-ok
 
 pub found_in-returns-in-Assign-clause-large : goal.found_in-returns-in-Assign-clause-large
-found_in-returns-in-Assign-clause-large t c =
-    let G = scope_forms c.args.scope.now in
-    let shape = Assign-tree c.args.p.now c.in-Assign.acceptor c.in-Assign.value c.in-Assign.at c.in-Assign.is in
-    λ e. large-of G shape (rw (c.deref-in-Assign.ensures, c.deref-in-Assign-2.ensures) at (c.found_in_assignment.ensures.large e))
+found_in-returns-in-Assign-clause-large = forms.found_in-returns-in-Assign-clause-large
 
 pub found_in-returns-in-WhileDo-clause-ok : goal.found_in-returns-in-WhileDo-clause-ok
-found_in-returns-in-WhileDo-clause-ok t c =
-    let G = scope_forms c.args.scope.now in
-    let shape = WhileDo-tree c.args.p.now c.in-WhileDo.test c.in-WhileDo.body c.in-WhileDo.at c.in-WhileDo.is in
-    same-ok G c.found_in_loop.result shape (rw (c.deref-in-WhileDo.ensures, c.deref-in-WhileDo-2.ensures) at c.found_in_loop.ensures.ok)
+found_in-returns-in-WhileDo-clause-ok = forms.found_in-returns-in-WhileDo-clause-ok
 
 pub found_in-returns-in-WhileDo-clause-large : goal.found_in-returns-in-WhileDo-clause-large
-found_in-returns-in-WhileDo-clause-large t c =
-    let G = scope_forms c.args.scope.now in
-    let shape = WhileDo-tree c.args.p.now c.in-WhileDo.test c.in-WhileDo.body c.in-WhileDo.at c.in-WhileDo.is in
-    λ e. large-of G shape (rw (c.deref-in-WhileDo.ensures, c.deref-in-WhileDo-2.ensures) at (c.found_in_loop.ensures.large e))
+found_in-returns-in-WhileDo-clause-large = forms.found_in-returns-in-WhileDo-clause-large
 
 pub found_in-returns-in-Forever-clause-ok : goal.found_in-returns-in-Forever-clause-ok
-found_in-returns-in-Forever-clause-ok t c =
-    let G = scope_forms c.args.scope.now in
-    let shape = Forever-tree c.args.p.now c.in-Forever.body c.in-Forever.at c.in-Forever.is in
-    same-ok G c.found_in_endless_loop.result shape (rw c.deref-in-Forever.ensures at c.found_in_endless_loop.ensures.ok)
+found_in-returns-in-Forever-clause-ok = forms.found_in-returns-in-Forever-clause-ok
 
 pub found_in-returns-in-Forever-clause-large : goal.found_in-returns-in-Forever-clause-large
-found_in-returns-in-Forever-clause-large t c =
-    let G = scope_forms c.args.scope.now in
-    let shape = Forever-tree c.args.p.now c.in-Forever.body c.in-Forever.at c.in-Forever.is in
-    λ e. large-of G shape (rw c.deref-in-Forever.ensures at (c.found_in_endless_loop.ensures.large e))
+found_in-returns-in-Forever-clause-large = forms.found_in-returns-in-Forever-clause-large
 
 pub found_in-returns-in-New-clause-ok : goal.found_in-returns-in-New-clause-ok
-found_in-returns-in-New-clause-ok t c =
-    let G = scope_forms c.args.scope.now in
-    let shape = New-tree c.args.p.now c.in-New.field-0 c.in-New.ty c.in-New.first c.in-New.body c.in-New.at c.in-New.is in
-    same-ok G c.found_in_cell.result shape (rw (c.deref-in-New.ensures, c.deref-in-New-2.ensures) at (c.found_in_cell.ensures.ok c.in-New.field-0))
+found_in-returns-in-New-clause-ok = forms.found_in-returns-in-New-clause-ok
 
 pub found_in-returns-in-New-clause-large : goal.found_in-returns-in-New-clause-large
-found_in-returns-in-New-clause-large t c =
-    let G = scope_forms c.args.scope.now in
-    let shape = New-tree c.args.p.now c.in-New.field-0 c.in-New.ty c.in-New.first c.in-New.body c.in-New.at c.in-New.is in
-    λ e. large-of G shape (rw (c.deref-in-New.ensures, c.deref-in-New-2.ensures) at (c.found_in_cell.ensures.large c.in-New.field-0 e))
+found_in-returns-in-New-clause-large = forms.found_in-returns-in-New-clause-large
 
 pub found_in-returns-in-Escape-clause-ok : goal.found_in-returns-in-Escape-clause-ok
-found_in-returns-in-Escape-clause-ok t c =
-    let G = scope_forms c.args.scope.now in
-    let shape = Escape-tree c.args.p.now c.in-Escape.field-0 c.in-Escape.body c.in-Escape.at c.in-Escape.is in
-    same-ok G c.found_in_escape.result shape (rw c.deref-in-Escape.ensures at (c.found_in_escape.ensures.ok c.in-Escape.field-0))
+found_in-returns-in-Escape-clause-ok = forms.found_in-returns-in-Escape-clause-ok
 
 pub found_in-returns-in-Escape-clause-large : goal.found_in-returns-in-Escape-clause-large
-found_in-returns-in-Escape-clause-large t c =
-    let G = scope_forms c.args.scope.now in
-    let shape = Escape-tree c.args.p.now c.in-Escape.field-0 c.in-Escape.body c.in-Escape.at c.in-Escape.is in
-    λ e. large-of G shape (rw c.deref-in-Escape.ensures at (c.found_in_escape.ensures.large c.in-Escape.field-0 e))
+found_in-returns-in-Escape-clause-large = forms.found_in-returns-in-Escape-clause-large
 
 pub found_in-returns-in-Accept-clause-ok : goal.found_in-returns-in-Accept-clause-ok
-found_in-returns-in-Accept-clause-ok t c =
-    let G = scope_forms c.args.scope.now in
-    let shape = Accept-tree c.args.p.now c.in-Accept.field-0 c.in-Accept.ty c.in-Accept.body c.in-Accept.at c.in-Accept.is in
-    same-ok G c.found_in_acceptor.result shape (rw c.deref-in-Accept.ensures at (c.found_in_acceptor.ensures.ok c.in-Accept.field-0))
+found_in-returns-in-Accept-clause-ok = forms.found_in-returns-in-Accept-clause-ok
 
 pub found_in-returns-in-Accept-clause-large : goal.found_in-returns-in-Accept-clause-large
-found_in-returns-in-Accept-clause-large t c =
-    let G = scope_forms c.args.scope.now in
-    let shape = Accept-tree c.args.p.now c.in-Accept.field-0 c.in-Accept.ty c.in-Accept.body c.in-Accept.at c.in-Accept.is in
-    λ e. large-of G shape (rw c.deref-in-Accept.ensures at (c.found_in_acceptor.ensures.large c.in-Accept.field-0 e))
+found_in-returns-in-Accept-clause-large = forms.found_in-returns-in-Accept-clause-large
 
 pub found_in-returns-in-Put-clause-ok : goal.found_in-returns-in-Put-clause-ok
-found_in-returns-in-Put-clause-ok t c =
-    let G = scope_forms c.args.scope.now in
-    let shape = Put-tree c.args.p.now c.in-Put.kind c.in-Put.part c.in-Put.at c.in-Put.is in
-    same-ok G c.found_in_output.result shape (rw c.deref-in-Put.ensures at c.found_in_output.ensures.ok)
+found_in-returns-in-Put-clause-ok = forms.found_in-returns-in-Put-clause-ok
 
 pub found_in-returns-in-Put-clause-large : goal.found_in-returns-in-Put-clause-large
-found_in-returns-in-Put-clause-large t c =
-    let G = scope_forms c.args.scope.now in
-    let shape = Put-tree c.args.p.now c.in-Put.kind c.in-Put.part c.in-Put.at c.in-Put.is in
-    λ e. large-of G shape (rw c.deref-in-Put.ensures at (c.found_in_output.ensures.large e))
+found_in-returns-in-Put-clause-large = forms.found_in-returns-in-Put-clause-large
 
 pub found_in-returns-in-Read-clause-ok : goal.found_in-returns-in-Read-clause-ok
-found_in-returns-in-Read-clause-ok t c =
-    let G = scope_forms c.args.scope.now in
-    let shape = Read-tree c.args.p.now c.in-Read.part c.in-Read.at c.in-Read.is in
-    same-ok G c.found_in_input.result shape (rw c.deref-in-Read.ensures at c.found_in_input.ensures.ok)
+found_in-returns-in-Read-clause-ok = forms.found_in-returns-in-Read-clause-ok
 
 pub found_in-returns-in-Read-clause-large : goal.found_in-returns-in-Read-clause-large
-found_in-returns-in-Read-clause-large t c =
-    let G = scope_forms c.args.scope.now in
-    let shape = Read-tree c.args.p.now c.in-Read.part c.in-Read.at c.in-Read.is in
-    λ e. large-of G shape (rw c.deref-in-Read.ensures at (c.found_in_input.ensures.large e))
+found_in-returns-in-Read-clause-large = forms.found_in-returns-in-Read-clause-large
 
 pub found_in-returns-in-Mark-clause-ok : goal.found_in-returns-in-Mark-clause-ok
-found_in-returns-in-Mark-clause-ok t c =
-    let G = scope_forms c.args.scope.now in
-    let shape = Mark-tree c.args.p.now c.in-Mark.field-0 c.in-Mark.at c.in-Mark.is in
-    let h = mark-found G c.in-Mark.field-0 c.in-Mark.at c.none.result c.none.ensures.made c.none.ensures.derived in
-    subst (λ q. IsFound G q c.none.result) (sym shape) h
+found_in-returns-in-Mark-clause-ok = forms.found_in-returns-in-Mark-clause-ok
 
 pub found_in_unary-returns-in_err-part-clause-large : goal.found_in_unary-returns-in_err-part-clause-large
 found_in_unary-returns-in_err-part-clause-large t c =
@@ -742,306 +597,97 @@ found_in_recursion-returns-clause-large t c =
     (rw (h.paths, c.in_ok-form.ensures.ok) at (c.recursion.ensures.large e))
 
 pub found_in_sequence-returns-in_err-first-clause-large : goal.found_in_sequence-returns-in_err-first-clause-large
-found_in_sequence-returns-in_err-first-clause-large t c =
-    let G = scope_forms c.args.scope.now in
-    let p = reads c.args.first.now in
-    let q = reads c.args.second.now in
-    let err = err_from_is_err_and c.from_residual.result c.from_residual.ensures.1 in
-    rw (err.1, err.2) (λ e. first-part G p (seq p q c.args.at)
-    (λ m. visits (m + 1 + sizes.nodes p) G q) (λ m. refl) (c.in_err-first.ensures.large e))
+found_in_sequence-returns-in_err-first-clause-large = commands.found_in_sequence-returns-in_err-first-clause-large
 
 pub found_in_sequence-returns-in_err-second-clause-large : goal.found_in_sequence-returns-in_err-second-clause-large
-found_in_sequence-returns-in_err-second-clause-large t c =
-    let G = scope_forms c.args.scope.now in
-    let p = reads c.args.first.now in
-    let q = reads c.args.second.now in
-    let err = err_from_is_err_and c.from_residual-in_err-second.result c.from_residual-in_err-second.ensures.1 in
-    rw (err.1, err.2) (λ e. second-part G G p q (seq p q c.args.at) (λ m. refl)
-    (c.in_err-second.ensures.large e))
+found_in_sequence-returns-in_err-second-clause-large = commands.found_in_sequence-returns-in_err-second-clause-large
 
 pub found_in_sequence-returns-clause-ok : goal.found_in_sequence-returns-clause-ok
-found_in_sequence-returns-clause-ok t c =
-    let G = scope_forms c.args.scope.now in
-    let p = reads c.args.first.now in
-    let q = reads c.args.second.now in
-    let f = c.in_ok-first.first in
-    let g = c.in_ok-second.second in
-    let hf = c.in_ok-first.ensures.ok in
-    let hg = c.in_ok-second.ensures.ok in
-    ok-of c.command.result refl (λ r. seq-found G p q c.args.at f g r hf hg)
-    c.command.ensures.made c.command.ensures.derived
+found_in_sequence-returns-clause-ok = commands.found_in_sequence-returns-clause-ok
 
 pub found_in_sequence-returns-clause-large : goal.found_in_sequence-returns-clause-large
-found_in_sequence-returns-clause-large t c =
-    let G = scope_forms c.args.scope.now in
-    let p = reads c.args.first.now in
-    let q = reads c.args.second.now in
-    let f = c.in_ok-first.first in
-    let g = c.in_ok-second.second in
-    let hf = c.in_ok-first.ensures.ok in
-    let hg = c.in_ok-second.ensures.ok in
-    λ e. two-refused G G p q (seq p q c.args.at) f g hf hg refl (λ m. refl)
-    (subst (λ P. IsRefused P (f.total + g.total))
-    (sym (command-same (has (least_type G p) Comm) (least_type G q)))
-    (rw (hf.paths, hg.paths) at (c.command.ensures.large e)))
+found_in_sequence-returns-clause-large = commands.found_in_sequence-returns-clause-large
 
 pub found_in_assignment-returns-in_err-acceptor-clause-large : goal.found_in_assignment-returns-in_err-acceptor-clause-large
-found_in_assignment-returns-in_err-acceptor-clause-large t c =
-    let G = scope_forms c.args.scope.now in
-    let p = reads c.args.acceptor.now in
-    let q = reads c.args.value.now in
-    let err = err_from_is_err_and c.from_residual.result c.from_residual.ensures.1 in
-    rw (err.1, err.2) (λ e. first-part G p (assign p q c.args.at)
-    (λ m. visits (m + 1 + sizes.nodes p) G q) (λ m. refl) (c.in_err-acceptor.ensures.large e))
+found_in_assignment-returns-in_err-acceptor-clause-large = commands.found_in_assignment-returns-in_err-acceptor-clause-large
 
 pub found_in_assignment-returns-in_err-value-clause-large : goal.found_in_assignment-returns-in_err-value-clause-large
-found_in_assignment-returns-in_err-value-clause-large t c =
-    let G = scope_forms c.args.scope.now in
-    let p = reads c.args.acceptor.now in
-    let q = reads c.args.value.now in
-    let err = err_from_is_err_and c.from_residual-in_err-value.result c.from_residual-in_err-value.ensures.1 in
-    rw (err.1, err.2) (λ e. second-part G G p q (assign p q c.args.at) (λ m. refl)
-    (c.in_err-value.ensures.large e))
+found_in_assignment-returns-in_err-value-clause-large = commands.found_in_assignment-returns-in_err-value-clause-large
 
 pub found_in_assignment-returns-clause-ok : goal.found_in_assignment-returns-clause-ok
-found_in_assignment-returns-clause-ok t c =
-    let G = scope_forms c.args.scope.now in
-    let p = reads c.args.acceptor.now in
-    let q = reads c.args.value.now in
-    let f = c.in_ok-acceptor.acceptor in
-    let g = c.in_ok-value.value in
-    let hf = c.in_ok-acceptor.ensures.ok in
-    let hg = c.in_ok-value.ensures.ok in
-    ok-of c.assignment.result refl (λ r. assign-found G p q c.args.at f g r hf hg)
-    c.assignment.ensures.made c.assignment.ensures.derived
+found_in_assignment-returns-clause-ok = commands.found_in_assignment-returns-clause-ok
 
 pub found_in_assignment-returns-clause-large : goal.found_in_assignment-returns-clause-large
-found_in_assignment-returns-clause-large t c =
-    let G = scope_forms c.args.scope.now in
-    let p = reads c.args.acceptor.now in
-    let q = reads c.args.value.now in
-    let f = c.in_ok-acceptor.acceptor in
-    let g = c.in_ok-value.value in
-    let hf = c.in_ok-acceptor.ensures.ok in
-    let hg = c.in_ok-value.ensures.ok in
-    λ e. two-refused G G p q (assign p q c.args.at) f g hf hg refl (λ m. refl)
-    (rw (hf.paths, hg.paths) at (c.assignment.ensures.large e))
+found_in_assignment-returns-clause-large = commands.found_in_assignment-returns-clause-large
 
 pub found_in_loop-returns-in_err-test-clause-large : goal.found_in_loop-returns-in_err-test-clause-large
-found_in_loop-returns-in_err-test-clause-large t c =
-    let G = scope_forms c.args.scope.now in
-    let p = reads c.args.test.now in
-    let q = reads c.args.body.now in
-    let err = err_from_is_err_and c.from_residual.result c.from_residual.ensures.1 in
-    rw (err.1, err.2) (λ e. first-part G p (while_do p q c.args.at)
-    (λ m. visits (m + 1 + sizes.nodes p) G q) (λ m. refl) (c.in_err-test.ensures.large e))
+found_in_loop-returns-in_err-test-clause-large = commands.found_in_loop-returns-in_err-test-clause-large
 
 pub found_in_loop-returns-in_err-body-clause-large : goal.found_in_loop-returns-in_err-body-clause-large
-found_in_loop-returns-in_err-body-clause-large t c =
-    let G = scope_forms c.args.scope.now in
-    let p = reads c.args.test.now in
-    let q = reads c.args.body.now in
-    let err = err_from_is_err_and c.from_residual-in_err-body.result c.from_residual-in_err-body.ensures.1 in
-    rw (err.1, err.2) (λ e. second-part G G p q (while_do p q c.args.at) (λ m. refl)
-    (c.in_err-body.ensures.large e))
+found_in_loop-returns-in_err-body-clause-large = commands.found_in_loop-returns-in_err-body-clause-large
 
 pub found_in_loop-returns-clause-ok : goal.found_in_loop-returns-clause-ok
-found_in_loop-returns-clause-ok t c =
-    let G = scope_forms c.args.scope.now in
-    let p = reads c.args.test.now in
-    let q = reads c.args.body.now in
-    let f = c.in_ok-test.test in
-    let g = c.in_ok-body.body in
-    let hf = c.in_ok-test.ensures.ok in
-    let hg = c.in_ok-body.ensures.ok in
-    ok-of c.with_two.result refl (λ r. while-found G p q c.args.at f g r hf hg)
-    c.with_two.ensures.made c.with_two.ensures.derived
+found_in_loop-returns-clause-ok = commands.found_in_loop-returns-clause-ok
 
 pub found_in_loop-returns-clause-large : goal.found_in_loop-returns-clause-large
-found_in_loop-returns-clause-large t c =
-    let G = scope_forms c.args.scope.now in
-    let p = reads c.args.test.now in
-    let q = reads c.args.body.now in
-    let f = c.in_ok-test.test in
-    let g = c.in_ok-body.body in
-    let hf = c.in_ok-test.ensures.ok in
-    let hg = c.in_ok-body.ensures.ok in
-    λ e. two-refused G G p q (while_do p q c.args.at) f g hf hg refl (λ m. refl)
-    (rw (hf.paths, hg.paths) at (c.with_two.ensures.large e))
+found_in_loop-returns-clause-large = commands.found_in_loop-returns-clause-large
 
 pub found_in_endless_loop-returns-in_err-body-clause-large : goal.found_in_endless_loop-returns-in_err-body-clause-large
-found_in_endless_loop-returns-in_err-body-clause-large t c =
-    let G = scope_forms c.args.scope.now in
-    let p = reads c.args.body.now in
-    let err = err_from_is_err_and c.from_residual.result c.from_residual.ensures.1 in
-    rw (err.1, err.2) (λ e. only-part G G p (forever p c.args.at) (λ m. refl)
-    (c.in_err-body.ensures.large e))
+found_in_endless_loop-returns-in_err-body-clause-large = commands.found_in_endless_loop-returns-in_err-body-clause-large
 
 pub found_in_endless_loop-returns-clause-ok : goal.found_in_endless_loop-returns-clause-ok
-found_in_endless_loop-returns-clause-ok t c =
-    let G = scope_forms c.args.scope.now in
-    let p = reads c.args.body.now in
-    let part = c.in_ok-body.body in
-    let h = c.in_ok-body.ensures.ok in
-    ok-of c.with_one.result refl (λ r. forever-found G p c.args.at part r h)
-    c.with_one.ensures.made c.with_one.ensures.derived
+found_in_endless_loop-returns-clause-ok = commands.found_in_endless_loop-returns-clause-ok
 
 pub found_in_endless_loop-returns-clause-large : goal.found_in_endless_loop-returns-clause-large
-found_in_endless_loop-returns-clause-large t c =
-    let G = scope_forms c.args.scope.now in
-    let p = reads c.args.body.now in
-    let part = c.in_ok-body.body in
-    let h = c.in_ok-body.ensures.ok in
-    λ e. one-refused G G p (forever p c.args.at) part h refl (λ m. refl)
-    (rw h.paths at (c.with_one.ensures.large e))
+found_in_endless_loop-returns-clause-large = commands.found_in_endless_loop-returns-clause-large
 
 pub found_in_cell-returns-in_err-first-clause-large : goal.found_in_cell-returns-in_err-first-clause-large
-found_in_cell-returns-in_err-first-clause-large t c =
-    let G = scope_forms c.args.scope.now in
-    let p = reads c.args.first.now in
-    let q = reads c.args.body.now in
-    let err = err_from_is_err_and c.from_residual.result c.from_residual.ensures.1 in
-    rw (err.1, err.2) (λ d e. first-part G p (new d c.args.ty p q c.args.at)
-    (λ m. visits (m + 1 + sizes.nodes p) (paths (cell_type c.args.ty) ∷ G) q) (λ m. refl) (c.in_err-first.ensures.large e))
+found_in_cell-returns-in_err-first-clause-large = commands.found_in_cell-returns-in_err-first-clause-large
 
 pub found_in_cell-returns-in_err-body-clause-large : goal.found_in_cell-returns-in_err-body-clause-large
-found_in_cell-returns-in_err-body-clause-large t c =
-    let G = scope_forms c.args.scope.now in
-    let p = reads c.args.first.now in
-    let q = reads c.args.body.now in
-    let err = err_from_is_err_and c.from_residual-in_err-body.result c.from_residual-in_err-body.ensures.1 in
-    rw (err.1, err.2) (λ d e. second-part G (paths (cell_type c.args.ty) ∷ G) p q (new d c.args.ty p q c.args.at) (λ m. refl)
-    (rw (scope-under, c.in_ok-cell.ensures) at (c.in_err-body.ensures.large e)))
+found_in_cell-returns-in_err-body-clause-large = commands.found_in_cell-returns-in_err-body-clause-large
 
 pub found_in_cell-returns-clause-ok : goal.found_in_cell-returns-clause-ok
-found_in_cell-returns-clause-ok t c =
-    let G = scope_forms c.args.scope.now in
-    let p = reads c.args.first.now in
-    let q = reads c.args.body.now in
-    let f = c.in_ok-first.first in
-    let g = c.in_ok-body.body in
-    let hf = c.in_ok-first.ensures.ok in
-    let hg = rw (scope-under, c.in_ok-cell.ensures) at c.in_ok-body.ensures.ok in
-    λ d. ok-of c.command.result refl (λ r. new-found G d c.args.ty p q c.args.at f g r hf hg)
-    (rw c.data_atom.ensures at c.command.ensures.made) (rw c.data_atom.ensures at c.command.ensures.derived)
+found_in_cell-returns-clause-ok = commands.found_in_cell-returns-clause-ok
 
 pub found_in_cell-returns-clause-large : goal.found_in_cell-returns-clause-large
-found_in_cell-returns-clause-large t c =
-    let G = scope_forms c.args.scope.now in
-    let p = reads c.args.first.now in
-    let q = reads c.args.body.now in
-    let f = c.in_ok-first.first in
-    let g = c.in_ok-body.body in
-    let hf = c.in_ok-first.ensures.ok in
-    let hg = rw (scope-under, c.in_ok-cell.ensures) at c.in_ok-body.ensures.ok in
-    λ d e. two-refused G (paths (cell_type c.args.ty) ∷ G) p q (new d c.args.ty p q c.args.at) f g hf hg refl (λ m. refl)
-    (subst (λ P. IsRefused P (f.total + g.total))
-    (sym (command-same (has (least_type G p) (data_atom c.args.ty)) (least_type (paths (cell_type c.args.ty) ∷ G) q)))
-    (rw (c.data_atom.ensures, hf.paths, hg.paths) at (c.command.ensures.large e)))
+found_in_cell-returns-clause-large = commands.found_in_cell-returns-clause-large
 
 pub found_in_escape-returns-in_err-body-clause-large : goal.found_in_escape-returns-in_err-body-clause-large
-found_in_escape-returns-in_err-body-clause-large t c =
-    let G = scope_forms c.args.scope.now in
-    let p = reads c.args.body.now in
-    let err = err_from_is_err_and c.from_residual-in_err-body.result c.from_residual-in_err-body.ensures.1 in
-    rw (err.1, err.2) (λ d e. only-part G (one_end Compl ∷ G) p (escape d p c.args.at) (λ m. refl)
-    (rw (scope-under, c.in_ok-end.ensures) at (c.in_err-body.ensures.large e)))
+found_in_escape-returns-in_err-body-clause-large = commands.found_in_escape-returns-in_err-body-clause-large
 
 pub found_in_escape-returns-clause-ok : goal.found_in_escape-returns-clause-ok
-found_in_escape-returns-clause-ok t c =
-    let G = scope_forms c.args.scope.now in
-    let p = reads c.args.body.now in
-    let part = c.in_ok-body.body in
-    let h = rw (scope-under, c.in_ok-end.ensures) at c.in_ok-body.ensures.ok in
-    λ d. ok-of c.with_one.result refl (λ r. escape-found G d p c.args.at part r h)
-    c.with_one.ensures.made c.with_one.ensures.derived
+found_in_escape-returns-clause-ok = commands.found_in_escape-returns-clause-ok
 
 pub found_in_escape-returns-clause-large : goal.found_in_escape-returns-clause-large
-found_in_escape-returns-clause-large t c =
-    let G = scope_forms c.args.scope.now in
-    let p = reads c.args.body.now in
-    let part = c.in_ok-body.body in
-    let h = rw (scope-under, c.in_ok-end.ensures) at c.in_ok-body.ensures.ok in
-    λ d e. one-refused G (one_end Compl ∷ G) p (escape d p c.args.at) part h refl (λ m. refl)
-    (rw h.paths at (c.with_one.ensures.large e))
+found_in_escape-returns-clause-large = commands.found_in_escape-returns-clause-large
 
 pub found_in_acceptor-returns-in_err-body-clause-large : goal.found_in_acceptor-returns-in_err-body-clause-large
-found_in_acceptor-returns-in_err-body-clause-large t c =
-    let G = scope_forms c.args.scope.now in
-    let p = reads c.args.body.now in
-    let err = err_from_is_err_and c.from_residual-in_err-body.result c.from_residual-in_err-body.ensures.1 in
-    rw (err.1, err.2) (λ d e. only-part G (one_end (data_atom c.args.ty) ∷ G) p (accept d c.args.ty p c.args.at) (λ m. refl)
-    (rw (scope-under, c.in_ok-value.ensures, c.data_atom.ensures) at (c.in_err-body.ensures.large e)))
+found_in_acceptor-returns-in_err-body-clause-large = commands.found_in_acceptor-returns-in_err-body-clause-large
 
 pub found_in_acceptor-returns-clause-ok : goal.found_in_acceptor-returns-clause-ok
-found_in_acceptor-returns-clause-ok t c =
-    let G = scope_forms c.args.scope.now in
-    let p = reads c.args.body.now in
-    let part = c.in_ok-body.body in
-    let h = rw (scope-under, c.in_ok-value.ensures, c.data_atom.ensures) at c.in_ok-body.ensures.ok in
-    λ d. ok-of c.with_one.result refl (λ r. accept-found G d c.args.ty p c.args.at part r h)
-    (rw c.acceptor_atom.ensures at c.with_one.ensures.made) c.with_one.ensures.derived
+found_in_acceptor-returns-clause-ok = commands.found_in_acceptor-returns-clause-ok
 
 pub found_in_acceptor-returns-clause-large : goal.found_in_acceptor-returns-clause-large
-found_in_acceptor-returns-clause-large t c =
-    let G = scope_forms c.args.scope.now in
-    let p = reads c.args.body.now in
-    let part = c.in_ok-body.body in
-    let h = rw (scope-under, c.in_ok-value.ensures, c.data_atom.ensures) at c.in_ok-body.ensures.ok in
-    λ d e. one-refused G (one_end (data_atom c.args.ty) ∷ G) p (accept d c.args.ty p c.args.at) part h refl (λ m. refl)
-    (rw (c.acceptor_atom.ensures, h.paths) at (c.with_one.ensures.large e))
+found_in_acceptor-returns-clause-large = commands.found_in_acceptor-returns-clause-large
 
 pub found_in_output-returns-in_err-part-clause-large : goal.found_in_output-returns-in_err-part-clause-large
-found_in_output-returns-in_err-part-clause-large t c =
-    let G = scope_forms c.args.scope.now in
-    let p = reads c.args.part.now in
-    let err = err_from_is_err_and c.from_residual.result c.from_residual.ensures.1 in
-    rw (err.1, err.2) (λ e. only-part G G p (put c.args.kind p c.args.at) (λ m. refl)
-    (c.in_err-part.ensures.large e))
+found_in_output-returns-in_err-part-clause-large = commands.found_in_output-returns-in_err-part-clause-large
 
 pub found_in_output-returns-clause-ok : goal.found_in_output-returns-clause-ok
-found_in_output-returns-clause-ok t c =
-    let G = scope_forms c.args.scope.now in
-    let p = reads c.args.part.now in
-    let part = c.in_ok-part.part in
-    let h = c.in_ok-part.ensures.ok in
-    ok-of c.with_one.result refl (λ r. put-found G c.args.kind p c.args.at part r h)
-    (rw c.put_atom.ensures at c.with_one.ensures.made) (rw c.put_atom.ensures at c.with_one.ensures.derived)
+found_in_output-returns-clause-ok = commands.found_in_output-returns-clause-ok
 
 pub found_in_output-returns-clause-large : goal.found_in_output-returns-clause-large
-found_in_output-returns-clause-large t c =
-    let G = scope_forms c.args.scope.now in
-    let p = reads c.args.part.now in
-    let part = c.in_ok-part.part in
-    let h = c.in_ok-part.ensures.ok in
-    λ e. one-refused G G p (put c.args.kind p c.args.at) part h refl (λ m. refl)
-    (rw (c.put_atom.ensures, h.paths) at (c.with_one.ensures.large e))
+found_in_output-returns-clause-large = commands.found_in_output-returns-clause-large
 
 pub found_in_input-returns-in_err-part-clause-large : goal.found_in_input-returns-in_err-part-clause-large
-found_in_input-returns-in_err-part-clause-large t c =
-    let G = scope_forms c.args.scope.now in
-    let p = reads c.args.part.now in
-    let err = err_from_is_err_and c.from_residual.result c.from_residual.ensures.1 in
-    rw (err.1, err.2) (λ e. only-part G G p (read p c.args.at) (λ m. refl)
-    (c.in_err-part.ensures.large e))
+found_in_input-returns-in_err-part-clause-large = commands.found_in_input-returns-in_err-part-clause-large
 
 pub found_in_input-returns-clause-ok : goal.found_in_input-returns-clause-ok
-found_in_input-returns-clause-ok t c =
-    let G = scope_forms c.args.scope.now in
-    let p = reads c.args.part.now in
-    let part = c.in_ok-part.part in
-    let h = c.in_ok-part.ensures.ok in
-    ok-of c.with_one.result refl (λ r. read-found G p c.args.at part r h)
-    c.with_one.ensures.made c.with_one.ensures.derived
+found_in_input-returns-clause-ok = commands.found_in_input-returns-clause-ok
 
 pub found_in_input-returns-clause-large : goal.found_in_input-returns-clause-large
-found_in_input-returns-clause-large t c =
-    let G = scope_forms c.args.scope.now in
-    let p = reads c.args.part.now in
-    let part = c.in_ok-part.part in
-    let h = c.in_ok-part.ensures.ok in
-    λ e. one-refused G G p (read p c.args.at) part h refl (λ m. refl)
-    (rw h.paths at (c.with_one.ensures.large e))
+found_in_input-returns-clause-large = commands.found_in_input-returns-clause-large
 
 pub found_in_each-loop-part-init : goal.found_in_each-loop-part-init
 found_in_each-loop-part-init t c = subst (AreFound (scope_forms c.args.scope.now) no_trees) (sym c.new-made.ensures.items) no_parts
