@@ -4,7 +4,6 @@ use Rattle.std.specs.Prelude.{Err, IsErrOf}
 use Rattle.fy_types.specs.declared.types.Atom.TheVariants.{Comm}
 use Rattle.fy_types.specs.Types.{atom}
 use Rattle.fy_phrase.specs.Tree.{Tree}
-use Rattle.fy_phrase.specs.Sizes.{nesting}
 use Rattle.fy_derive.specs.Derivations.{nodes, most_nodes, most_nesting}
 use Rattle.fy_derive.specs.Derivations as derivations
 use Rattle.fy_derive.specs.Typing.{HasType}
@@ -17,6 +16,7 @@ use Rattle.fy_least.specs.Counts.{PassLimits}
 use Rattle.fy_least.specs.Derived.{deepest_type, most_type_nesting}
 use Rattle.fy_least.specs.Refused.{of_least}
 use Rattle.fy_least.specs.Finding.{KeepsCoreLimits, IsFinding}
+use Rattle.fy_least.specs.Layers.{subsumed, IsLayered, one_sub}
 use Rattle.fy_least.specs.Limits.{most_together, KeepTypeLimits}
 use Rattle.fy_least.specs.Visited.{IsFound, has_atom, as_atom}
 use Rattle.fy_least.proofs.BelowLemmas.{below-has}
@@ -41,6 +41,9 @@ found-shallow p f h l = omega (arith, h.shallow, l.shallow)
 
 pub found-types : (p : Tree) (f : Found) → IsFound [] p f → KeepsCoreLimits p → deepest_type (as_atom Comm f) ≤ most_type_nesting
 found-types p f h l = omega (arith, h.types, l.written)
+
+pub found-layered : (p : Tree) (f : Found) → IsFound [] p f → IsLayered subsumed (as_atom Comm f)
+found-layered p f h = one_sub h.layered
 
 pub found-refused : {T : Type 0} (p : Tree) (x : LeastError) →
     (IsErrOf {T = T} (Err x) least.TypeTooLarge → (m : ℕ) → PassLimits (visits m [] p)) → IsFinding p (Err (of_least x))

@@ -34,12 +34,14 @@ use Rattle.fy_least.specs.declared.found.Found.{Found}
 use Rattle.fy_least.specs.Blame.{if_empty, blame_of}
 use Rattle.fy_least.specs.Counts.{no_forms, and_form}
 use Rattle.fy_least.specs.Derived.{rule_of, rule_of_both, derived_if, ConcludesBelow, deepest_type, most_made_nesting}
+use Rattle.fy_least.specs.Layers.{met, IsLayered}
 use Rattle.fy_least.specs.Written.{deepest_written}
 use Rattle.fy_least.specs.Forms.{variable_rule, IsApplied, IsPicked, IsDefined, IsMerged, is_recursive, IsChosen}
 use Rattle.fy_least.specs.Visited.{IsFound, IsMade, blame_at, has_atom, derivation_of, as_atom}
 use Rattle.fy_least.proofs.BelowLemmas.{more-below, test-below}
 use Rattle.fy_least.proofs.FoundLemmas.{made-nesting, taken, taken-atom, none-found, one-found, two-found, made-found, blame-same, passed-derived, none-derived}
 use Rattle.fy_least.proofs.CountLemmas.{within-append, nodes-append}
+use Rattle.fy_least.proofs.LayerLemmas.{ns-layered, none-layered, bare-layered, one-layered, two-layered, defined-layered, three-layered, merge-layered, if-layered}
 
 -- a variable
 known : (G : List PlainPaths) (k : ℕ) (H : List PlainType) → forms_of H ≡ G → option_map paths (slice_get H k) ≡ slice_get G k
@@ -59,8 +61,12 @@ pub var-found : (G : List PlainPaths) (k : ℕ) (at : Place) (f : Found) → IsM
     derivation_of f ≡ variable_rule (slice_get G k) → IsFound G (var k at) f
 var-found G k at f made e =
     none-found G (var k at) at f (variable_rule (slice_get G k)) made refl refl refl (λ m. refl) e (derived (slice_get G k) refl)
-    (few (slice_get G k)) (shallow (slice_get G k)) refl (plain (slice_get G k))
+    (few (slice_get G k)) (shallow (slice_get G k)) refl (plain (slice_get G k)) (layers (slice_get G k))
   where
+    layers : (o : Option PlainPaths) → IsLayered met (variable_rule o)
+    layers None = ns-layered
+    layers (Some P) = none-layered
+
     plain : (o : Option PlainPaths) → deepest_type (variable_rule o) ≡ 0
     plain None = refl
     plain (Some P) = refl
@@ -131,6 +137,7 @@ app-found G p q at f g r hf hg made x =
       made-nesting (plain_paths g.paths) x.0 x.2 (subst IsWithinLimits (sym hg.paths) hg.kept),
       made-nesting (once (rests_of_call (plain_paths g.paths) (plain_paths f.paths))) x.1 x.3 made.within,
     ))
+    (two-layered (arrow x.0 x.1) x.0 (derivation_of f) (derivation_of g) hf.layered hg.layered)
   where
     test : least_type G (app p q at) ≡ once (rests_of_call (plain_paths g.paths) (plain_paths f.paths))
     test =
@@ -162,7 +169,7 @@ field-found G i p at part f h made e =
       field_type i x.0,
       one-premise H (field i p at) p nothing (derivation_of part) x.0 (field_type i x.0) n refl x.1 refl,
       picked-below i x.2,
-    )) (omega arith) (omega arith) (omega (arith, h.types))
+    )) (omega arith) (omega arith) (omega (arith, h.types)) (bare-layered (derivation_of part) h.layered)
 
 pick-below : (i : ℕ) (p : PlainPath) (P : PlainPaths) → ArePathsBelow (and_path p P) (picked i (rest_of_field i p))
 pick-below i (end a) P = none_left
@@ -194,6 +201,7 @@ sel-found G i p at part f h made x =
       subst (λ P. ArePathsBelow (paths x.0) P) same (ArePathsBelow-refl (paths x.0)),
     )) (omega arith) (omega arith)
     (omega (arith, h.types, made-nesting (rests_of_field i (plain_paths part.paths)) x.0 x.1 made.within))
+    (one-layered (field_type i x.0) (derivation_of part) h.layered)
   where
     same : paths x.0 ≡ rests_of_field i (least_type G p)
     same = x.1.0 ∙ ap (rests_of_field i) h.paths
@@ -219,6 +227,7 @@ let-found G d p q at f g r hf hg made x =
       y.2,
     )) (omega arith) (omega arith)
     (omega (arith, hf.types, hg.types, made-nesting (plain_paths f.paths) x.0 x.1 (subst IsWithinLimits (sym hf.paths) hf.kept)))
+    (defined-layered x.0 (derivation_of f) (derivation_of g) hf.layered hg.layered)
   where
     inner : IsFound (least_type G p ∷ G) q g
     inner = subst (λ P. IsFound (P ∷ G) q g) hf.paths hg
@@ -246,6 +255,7 @@ rec-found G d T p at P part f same within h made e =
       subst (λ X. ArePathsBelow (paths T) (once X)) (sym same) (below-once (paths T)),
     )))
     (few (is_recursive part P)) (shallow (is_recursive part P)) (omega (arith, types (is_recursive part P), h.types))
+    (if-layered (is_recursive part P) (rule_of (sub T (derivation_of part))) (one-layered T (derivation_of part) h.layered))
   where
     types : (b : Bool) → deepest_type (derived_if b (rule_of (sub T (derivation_of part)))) ≤ max (type_nesting T) (deepest_type (derivation_of part))
     types true = omega arith
@@ -324,7 +334,12 @@ merge-found G p q at f g r hf hg made choice =
     (ap (λ P. merge_of (kind_of q) P (plain_paths g.paths)) hf.paths ∙ ap (merge_of (kind_of q) (least_type G p)) hg.paths) made)
     refl refl refl (λ m. refl) refl refl
     (derived (kind_of q) refl choice) (few (kind_of q) choice) (shallow (kind_of q) choice) (types (kind_of q) choice)
+    (layers (kind_of q) choice)
   where
+    layers : (o : Option Kind) → IsMerged o f g (derivation_of r) → IsLayered met (derivation_of r)
+    layers None e = subst (IsLayered met) (sym e) ns-layered
+    layers (Some k) x = subst (IsLayered met) (sym x.2) (merge-layered x.0 (derivation_of f) (derivation_of g) hf.layered hg.layered)
+
     types : (o : Option Kind) → IsMerged o f g (derivation_of r) → deepest_type (derivation_of r)
         ≤ max (max (deepest_written p) (deepest_written q)) most_made_nesting
     types None e = omega (arith, ap deepest_type e)
@@ -394,8 +409,15 @@ cond-found G b p q at c f g r hc hf hg made choice =
       length-append (visits (m + 1 + sizes.nodes b) G p) (visits (m + 1 + sizes.nodes b + sizes.nodes p) G q),
       few choice,
     ))
-    (omega (arith, hc.shallow, hf.shallow, hg.shallow, shallow choice)) (types choice)
+    (omega (arith, hc.shallow, hf.shallow, hg.shallow, shallow choice)) (types choice) (layers choice)
   where
+    layers : IsChosen c f g (derivation_of r) → IsLayered met (derivation_of r)
+    layers (inl x) = subst (IsLayered met) (sym x.1) ns-layered
+    layers (inr y) =
+        let x = y.1 in
+        subst (IsLayered met) (sym x.2)
+        (three-layered (atom Truth) x.0 x.0 (derivation_of c) (derivation_of f) (derivation_of g) hc.layered hf.layered hg.layered)
+
     types : IsChosen c f g (derivation_of r) → deepest_type (derivation_of r)
         ≤ max (max (deepest_written b) (max (deepest_written p) (deepest_written q))) most_made_nesting
     types (inl x) = omega (arith, ap deepest_type x.1)

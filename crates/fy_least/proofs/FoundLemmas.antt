@@ -21,6 +21,7 @@ use Rattle.fy_derive.specs.Least.{forms_of, one_end, if_passed, has, least_type,
 use Rattle.fy_derive.proofs.CompleteLemmas.{one-premise, two-premises, when}
 use Rattle.fy_least.specs.declared.found.Found.{Found}
 use Rattle.fy_least.specs.Blame.{if_empty, blame_of}
+use Rattle.fy_least.specs.Layers.{met, IsLayered}
 use Rattle.fy_least.specs.Limits.{earlier_joins, written_in}
 use Rattle.fy_least.specs.Counts.{nodes_of_visits, AreWithin, no_forms, AreVisitsWithin, no_visits}
 use Rattle.fy_least.specs.Derived.{rule_of, rule_of_both, derived_if, ConcludesBelow, deepest_type, most_made_nesting}
@@ -29,6 +30,7 @@ use Rattle.fy_least.specs.Visited.{IsFound, IsMade, blame_at, has_atom, derivati
 use Rattle.fy_least.specs.Rules.{have_atoms}
 use Rattle.fy_least.proofs.BelowLemmas.{has-below, below-test}
 use Rattle.fy_least.proofs.CountLemmas.{within-append, nodes-append, visit-nodes, visit-within}
+use Rattle.fy_least.proofs.LayerLemmas.{one-layered, two-layered, if-layered}
 
 -- a derivation that is subsumed to a type above the least type
 sub-judged : (H : List PlainType) (p : Tree) (d : PlainDerivation) (A B : PlainType) (n : ℕ) → judged d (n + 1) H p ≡ concludes A →
@@ -68,8 +70,8 @@ pub made-found : (G : List PlainPaths) (q : Tree) (at : Place) (parts : ℕ) (f 
     ((m : ℕ) → visits m G q ≡ visit m G q ∷ vs m) → ((m : ℕ) → AreVisitsWithin (vs m)) → ((m : ℕ) → parts ≡ nodes_of_visits (vs m)) →
     ConcludesBelow G q (derivation_of f) → ((m : ℕ) → nodes (derivation_of f) + 3 ≤ 4 * suc (length (vs m))) →
     derivations.nesting (derivation_of f) + 1 ≤ 3 * nesting q → deepest_type (derivation_of f) ≤ max (deepest_written q) most_made_nesting →
-    IsFound G q f
-made-found G q at parts f vs made blame early written split within total derived few shallow types = record {
+    IsLayered met (derivation_of f) → IsFound G q f
+made-found G q at parts f vs made blame early written split within total derived few shallow types layered = record {
   paths = made.paths;
   blame = made.blame ∙ blame;
   within = λ m. subst AreVisitsWithin (sym (split m)) (visit-within m G q (vs m) early written made.within (within m));
@@ -82,6 +84,7 @@ made-found G q at parts f vs made blame early written split within total derived
   shallow = shallow;
   kept = made.within;
   types = types;
+  layered = layered;
 }
 
 pub blame-same : (G : List PlainPaths) (p : Tree) (f : Found) (at : Place) → IsFound G p f →
@@ -92,11 +95,11 @@ blame-same G p f at h = ap (λ P. if_empty P f.blame at) h.paths ∙ ap (λ x. i
 pub none-found : (G : List PlainPaths) (q : Tree) (at : Place) (f : Found) (d : PlainDerivation) →
     IsMade (least_type G q) at 0 f → at ≡ blame_of G q → earlier_joins G q ≡ [] → written_in q ≡ [] →
     ((m : ℕ) → visits m G q ≡ visit m G q ∷ []) → derivation_of f ≡ d → ConcludesBelow G q d → nodes d ≡ 1 →
-    derivations.nesting d ≡ 1 → nesting q ≡ 1 → deepest_type d ≡ 0 → IsFound G q f
-none-found G q at f d made blame early written split e derived few shallow deep plain =
+    derivations.nesting d ≡ 1 → nesting q ≡ 1 → deepest_type d ≡ 0 → IsLayered met d → IsFound G q f
+none-found G q at f d made blame early written split e derived few shallow deep plain layered =
     made-found G q at 0 f (λ m. []) made blame early (subst AreWithin (sym written) no_forms) split (λ m. no_visits) (λ m. refl)
     (subst (ConcludesBelow G q) (sym e) derived) (λ m. omega (arith, ap nodes e, few)) (omega (arith, ap derivations.nesting e, shallow, deep))
-    (omega (arith, ap deepest_type e, plain))
+    (omega (arith, ap deepest_type e, plain)) (subst (IsLayered met) (sym e) layered)
 
 -- a form of one part, whose derivation has at most two nodes more
 pub one-found : (G G' : List PlainPaths) (p q : Tree) (at : Place) (part f : Found) (d : PlainDerivation) → IsFound G' p part →
@@ -104,12 +107,12 @@ pub one-found : (G G' : List PlainPaths) (p q : Tree) (at : Place) (part f : Fou
     earlier_joins G q ≡ [] → AreWithin (written_in q) → ((m : ℕ) → visits m G q ≡ visit m G q ∷ visits (m + 1) G' p) →
     nesting q ≡ 1 + nesting p → derivation_of f ≡ d → ConcludesBelow G q d →
     nodes d ≤ 2 + nodes (derivation_of part) → derivations.nesting d ≤ 2 + derivations.nesting (derivation_of part) →
-    deepest_type d ≤ max (deepest_written q) most_made_nesting → IsFound G q f
-one-found G G' p q at part f d h made blame early written split deep e derived few shallow types =
+    deepest_type d ≤ max (deepest_written q) most_made_nesting → IsLayered met d → IsFound G q f
+one-found G G' p q at part f d h made blame early written split deep e derived few shallow types layered =
     made-found G q (blame_at part at) part.total f (λ m. visits (m + 1) G' p) made (blame-same G' p part at h ∙ sym blame) early written split
     (λ m. h.within (m + 1)) (λ m. h.total (m + 1)) (subst (ConcludesBelow G q) (sym e) derived)
     (λ m. omega (arith, h.few (m + 1), ap nodes e, few)) (omega (arith, h.shallow, deep, ap derivations.nesting e, shallow))
-    (subst (λ d. deepest_type d ≤ max (deepest_written q) most_made_nesting) (sym e) types)
+    (subst (λ d. deepest_type d ≤ max (deepest_written q) most_made_nesting) (sym e) types) (subst (IsLayered met) (sym e) layered)
 
 -- a form of two parts, whose derivation has at most four nodes more
 pub two-found : (G G' : List PlainPaths) (p q t : Tree) (at : Place) (f g r : Found) (d : PlainDerivation) (k : ℕ → ℕ) → IsFound G p f →
@@ -120,8 +123,8 @@ pub two-found : (G G' : List PlainPaths) (p q t : Tree) (at : Place) (f g r : Fo
     nesting t ≡ 1 + max (nesting p) (nesting q) → derivation_of r ≡ d → ConcludesBelow G t d →
     nodes d ≤ 4 + nodes (derivation_of f) + nodes (derivation_of g) →
     derivations.nesting d ≤ 3 + max (derivations.nesting (derivation_of f)) (derivations.nesting (derivation_of g)) →
-    deepest_type d ≤ max (deepest_written t) most_made_nesting → IsFound G t r
-two-found G G' p q t at f g r d k hf hg made blame early written split deep e derived few shallow types =
+    deepest_type d ≤ max (deepest_written t) most_made_nesting → IsLayered met d → IsFound G t r
+two-found G G' p q t at f g r d k hf hg made blame early written split deep e derived few shallow types layered =
     made-found G t (blame_at f (blame_at g at)) (f.total + g.total) r (λ m. visits (m + 1) G p ++ visits (k m) G' q) made
     (blame-same G p f (blame_at g at) hf ∙ (ap (if_empty (least_type G p) (blame_of G p)) (blame-same G' q g at hg) ∙ sym blame))
     early (subst AreWithin (sym written) no_forms) split
@@ -130,7 +133,7 @@ two-found G G' p q t at f g r d k hf hg made blame early written split deep e de
     (subst (ConcludesBelow G t) (sym e) derived)
     (λ m. omega (arith, hf.few (m + 1), hg.few (k m), length-append (visits (m + 1) G p) (visits (k m) G' q), ap nodes e, few))
     (omega (arith, hf.shallow, hg.shallow, deep, ap derivations.nesting e, shallow))
-    (subst (λ d. deepest_type d ≤ max (deepest_written t) most_made_nesting) (sym e) types)
+    (subst (λ d. deepest_type d ≤ max (deepest_written t) most_made_nesting) (sym e) types) (subst (IsLayered met) (sym e) layered)
 
 -- a rule whose one premise is an atom
 pub atom-found : (G G' : List PlainPaths) (p q : Tree) (b : Binder) (w g : Atom) (at : Place) (part f : Found) → IsFound G' p part →
@@ -151,6 +154,7 @@ atom-found G G' p q b w g at part f h least blame early written split deep spell
       ArePathsBelow-refl (one_end g),
     )))
     (few-of (has_atom part w)) (shallow-of (has_atom part w)) (omega (arith, types-of (has_atom part w), h.types, spelled))
+    (if-layered (has_atom part w) (rule_of (as_atom w part)) (one-layered (atom w) (derivation_of part) h.layered))
   where
     types-of : (c : Bool) → deepest_type (derived_if c (rule_of (as_atom w part))) ≤ max 1 (deepest_type (derivation_of part))
     types-of true = omega arith
@@ -200,6 +204,8 @@ atoms-found G G' p q t c w v a at f g r k hf hg least blame early written split 
       ArePathsBelow-refl (one_end a),
     )))
     (few-of (have_atoms f g w v)) (shallow-of (have_atoms f g w v)) (omega (arith, types-of (have_atoms f g w v), hf.types, hg.types, spelled))
+    (if-layered (have_atoms f g w v) (rule_of_both (as_atom w f) (as_atom v g))
+    (two-layered (atom w) (atom v) (derivation_of f) (derivation_of g) hf.layered hg.layered))
   where
     types-of : (b : Bool) → deepest_type (derived_if b (rule_of_both (as_atom w f) (as_atom v g)))
         ≤ max 1 (max (deepest_type (derivation_of f)) (deepest_type (derivation_of g)))

@@ -25,12 +25,14 @@ use Rattle.fy_least.specs.Blame.{blame_of}
 use Rattle.fy_least.specs.Limits.{forms}
 use Rattle.fy_least.specs.Counts.{nodes_of_visits, AreWithin, no_forms, and_form, AreVisitsWithin, no_visits}
 use Rattle.fy_least.specs.Derived.{ConcludesBelow, deepest_type, deepest_of_all, most_made_nesting}
+use Rattle.fy_least.specs.Layers.{met, ruled, IsLayered, one_sub, an_alt, AreLayered, no_layers, and_layers}
 use Rattle.fy_least.specs.Written.{deepest_written}
 use Rattle.fy_least.specs.Many.{AreFoundUnder, no_alternatives, and_alternative, total_of, blame_at_first, called_bodies, AreOnce, AreAlternatives, no_more, and_more, meet_of_all, IsAbstracted}
 use Rattle.fy_least.specs.Visited.{IsFound, IsMade, derivation_of}
 use Rattle.fy_least.proofs.DistinctLemmas.{once-distinct, distinct-least}
 use Rattle.fy_least.proofs.FoundLemmas.{made-nesting, taken, none-derived, made-found, blame-same}
 use Rattle.fy_least.proofs.CountLemmas.{within-append, nodes-append}
+use Rattle.fy_least.proofs.LayerLemmas.{meet-layered}
 
 -- the paths, the limits, the nodes and the blame under all alternatives
 pub bodies-same : {G : List PlainPaths} {b : Tree} {As : PlainTypes} {fs : List Found} → AreFoundUnder G b As fs →
@@ -76,6 +78,11 @@ under-types : {G : List PlainPaths} {b : Tree} {As : PlainTypes} {fs : List Foun
 under-types no_alternatives no_more = omega arith
 under-types (and_alternative {f = f} w h r) (and_more B e s) =
     omega (arith, h.types, made-nesting (plain_paths f.paths) B e (subst IsWithinLimits (sym h.paths) h.kept), under-types r s)
+
+under-layered : {G : List PlainPaths} {b : Tree} {As : PlainTypes} {fs : List Found} {i : ℕ} {ds : PlainDerivations} → AreFoundUnder G b As fs →
+    AreAlternatives i fs ds → AreLayered ruled ds
+under-layered no_alternatives no_more = no_layers
+under-layered (and_alternative w h r) (and_more B e s) = and_layers (an_alt (one_sub h.layered)) (under-layered r s)
 
 meet-types : (ds : PlainDerivations) → deepest_type (meet_of_all ds) ≤ deepest_of_all ds
 meet-types no_derivations = omega arith
@@ -188,3 +195,4 @@ lam-found G d As b at fs r hs made x =
     (λ m. omega (arith, under-few hs x.1 (m + 1), meet-few x.0, ap nodes x.2))
     (omega (arith, under-shallow hs x.1, meet-shallow x.0, ap derivations.nesting x.2))
     (omega (arith, under-types hs x.1, meet-types x.0, ap deepest_type x.2))
+    (subst (IsLayered met) (sym x.2) (meet-layered x.0 (under-layered hs x.1)))

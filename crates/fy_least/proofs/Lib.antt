@@ -14,6 +14,7 @@ pub mod FormFound
 pub mod FoundLemmas
 pub mod JoinLemmas
 pub mod LamFound
+pub mod LayerLemmas
 pub mod LeastLemmas
 pub mod MadeLemmas
 pub mod ManyFound

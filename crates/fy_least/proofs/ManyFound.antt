@@ -24,6 +24,8 @@ use Rattle.fy_derive.proofs.CompleteLemmas.{when}
 use Rattle.fy_derive.proofs.JudgeLemmas.{rule_judged}
 use Rattle.fy_derive.proofs.RuleLemmas.{same_type-refl}
 use Rattle.fy_derive.proofs.SoundLemmas.{append-none, append-push}
+use Rattle.fy_least.specs.Layers.{subsumed, met, IsLayered, one_sub, no_meet, a_rule, AreLayered, no_layers, and_layers}
+use Rattle.fy_least.proofs.LayerLemmas.{ns-layered}
 use Rattle.fy_least.specs.declared.found.Found.{Found}
 use Rattle.fy_least.specs.Blame.{if_empty, blame_of, blame_among}
 use Rattle.fy_least.specs.Limits.{earlier_joins, joins_before_last}
@@ -118,6 +120,10 @@ all_same-copies : (ps : Trees) (A : PlainType) → all_same A (copies ps A) ≡ 
 all_same-copies no_trees A = refl
 all_same-copies (and_tree p ps) A = and_from _ _ (same_type-refl A) (all_same-copies ps A)
 
+parts-layered : {G : List PlainPaths} {ps : Trees} {fs : List Found} → AreFound G ps fs → (A : PlainType) → AreLayered subsumed (all_at A fs)
+parts-layered no_parts A = no_layers
+parts-layered (and_part h r) A = and_layers (one_sub h.layered) (parts-layered r A)
+
 parts-count : {G : List PlainPaths} {ps : Trees} {fs : List Found} → AreFound G ps fs → (A : PlainType) → count (all_at A fs) ≡ length (of_parts ps)
 parts-count no_parts A = refl
 parts-count (and_part h r) A = omega (arith, parts-count r A)
@@ -204,8 +210,15 @@ case-found G e ps at c r fs hc hs made choice = record {
   shallow = omega (arith, hc.shallow, shallow-of fs hs choice);
   kept = last-within (earlier_joins G (case e ps at)) (least_type G (case e ps at)) (subst AreWithin (counted G e ps at c fs hc hs) made.within);
   types = omega (arith, hc.types, types-of fs hs made.within choice);
+  layered = layers fs hs choice;
 }
   where
+    layers : (gs : List Found) → AreFound G ps gs → IsCased c gs (derivation_of r) → IsLayered met (derivation_of r)
+    layers [] h x = subst (IsLayered met) (sym x) ns-layered
+    layers (g ∷ gs) h (inl x) = subst (IsLayered met) (sym x.1) ns-layered
+    layers (g ∷ gs) h (inr x) =
+        subst (IsLayered met) (sym x.3) (no_meet (a_rule (and_layers (one_sub hc.layered) (parts-layered h x.1))))
+
     derived : (ps : Trees) (fs : List Found) → AreFound G ps fs → IsCased c fs (derivation_of r) → ConcludesBelow G (case e ps at) (derivation_of r)
     derived no_trees [] no_parts x = subst (ConcludesBelow G (case e no_trees at)) (sym x)
         (none-derived G (case e no_trees at) (none-passed (has (least_type G e) Int)))

@@ -6,7 +6,7 @@ use Rattle.fy_base.specs.declared.data.Datum.{Datum}
 use Rattle.fy_base.specs.declared.data.UnOp.{UnOp}
 use Rattle.fy_base.specs.declared.data.BinOp.{BinOp}
 use Rattle.fy_base.specs.declared.data.PutKind.{PutKind}
-use Rattle.fy_types.specs.declared.types.Atom.TheVariants.{Int, Bool as Truth, Comm, Compl, IntAcc}
+use Rattle.fy_types.specs.declared.types.Atom.TheVariants.{Bool as Truth, Comm, Compl, IntAcc}
 use Rattle.fy_types.specs.Types.{atom}
 use Rattle.fy_types.specs.Paths.{PlainPaths, no_paths, paths}
 use Rattle.fy_types.specs.PathOrder.{ArePathsBelow}
@@ -28,9 +28,11 @@ use Rattle.fy_derive.specs.Least.{one_end, if_passed, has, some_data, has_operan
 use Rattle.fy_derive.proofs.CompleteLemmas.{no-premise, same_atom, when, operator-fits, assignment-fits, command-concludes}
 use Rattle.fy_least.specs.declared.found.Found.{Found}
 use Rattle.fy_least.specs.Derived.{rule_of, rule_of_both, derived_if, ConcludesBelow, deepest_type, most_made_nesting}
+use Rattle.fy_least.specs.Layers.{met, IsLayered}
 use Rattle.fy_least.specs.Written.{deepest_written}
 use Rattle.fy_least.specs.Rules.{have_atoms, end_of_command, serves_operator, serves_assignment, IsOperated, IsAssigned}
 use Rattle.fy_least.specs.Visited.{IsFound, IsMade, blame_at, has_atom, derivation_of, as_atom}
+use Rattle.fy_least.proofs.LayerLemmas.{ns-layered, none-layered, two-layered}
 use Rattle.fy_least.proofs.FoundLemmas.{none-found, two-found, atom-found, atoms-found, atoms-derived, none-derived}
 
 -- a rule without premises
@@ -39,18 +41,18 @@ pub lit-found : (G : List PlainPaths) (v : Datum) (at : Place) (f : Found) → I
 lit-found G v at f made e =
     none-found G (lit v at) at f (rule no_derivations) made refl refl refl (λ m. refl) e
     (λ H i n. (atom (datum_atom v), no-premise H (lit v at) (atom (datum_atom v)) n refl refl, ArePathsBelow-refl (one_end (datum_atom v)))) refl refl
-    refl refl
+    refl refl none-layered
 
 pub skip-found : (G : List PlainPaths) (at : Place) (f : Found) → IsMade (one_end Comm) at 0 f →
     derivation_of f ≡ rule no_derivations → IsFound G (skip at) f
 skip-found G at f made e =
     none-found G (skip at) at f (rule no_derivations) made refl refl refl (λ m. refl) e
-    (λ H i n. (atom Comm, no-premise H (skip at) (atom Comm) n refl refl, ArePathsBelow-refl (one_end Comm))) refl refl refl refl
+    (λ H i n. (atom Comm, no-premise H (skip at) (atom Comm) n refl refl, ArePathsBelow-refl (one_end Comm))) refl refl refl refl none-layered
 
 pub mark-found : (G : List PlainPaths) (k : MarkKind) (at : Place) (f : Found) → IsMade no_paths at 0 f → derivation_of f ≡ by_ns →
     IsFound G (mark k at) f
 mark-found G k at f made e =
-    none-found G (mark k at) at f by_ns made refl refl refl (λ m. refl) e (none-derived G (mark k at) refl) refl refl refl refl
+    none-found G (mark k at) at f by_ns made refl refl refl (λ m. refl) e (none-derived G (mark k at) refl) refl refl refl refl ns-layered
 
 -- rules of one premise
 pub unary-found : (G : List PlainPaths) (op : UnOp) (p : Tree) (at : Place) (part f : Found) → IsFound G p part →
@@ -157,7 +159,7 @@ pub binary-found : (G : List PlainPaths) (op : BinOp) (p q : Tree) (at : Place) 
 binary-found G op p q at f g r hf hg made choice =
     two-found G G p q (binary op p q at) at f g r (derivation_of r) (λ m. m + 1 + sizes.nodes p) hf hg
     (subst (λ P. IsMade P (blame_at f (blame_at g at)) (f.total + g.total) r) (sym test) made) refl refl refl (λ m. refl) refl refl
-    (derived choice) (few choice) (shallow choice) (types choice)
+    (derived choice) (few choice) (shallow choice) (types choice) (layers choice)
   where
     test : least_type G (binary op p q at) ≡ if_passed (serves_operator op f g) (one_end (binary_atom op))
     test =
@@ -184,6 +186,11 @@ binary-found G op p q at f g r hf hg made choice =
               (sym (test ∙ ap (λ b. if_passed b (one_end (binary_atom op))) (serves D x.1))) (ArePathsBelow-refl (one_end (binary_atom op))),
         ))
 
+    layers : IsOperated op f g (derivation_of r) → IsLayered met (derivation_of r)
+    layers (inl x) = subst (IsLayered met) (sym x.1) ns-layered
+    layers (inr x) = subst (IsLayered met) (sym x.2)
+        (two-layered (atom (data_atom x.0)) (atom (data_atom x.0)) (derivation_of f) (derivation_of g) hf.layered hg.layered)
+
     types : IsOperated op f g (derivation_of r) → deepest_type (derivation_of r)
         ≤ max (max (deepest_written p) (deepest_written q)) most_made_nesting
     types (inl x) = omega (arith, ap deepest_type x.1)
@@ -204,7 +211,7 @@ pub assign-found : (G : List PlainPaths) (p q : Tree) (at : Place) (f g r : Foun
 assign-found G p q at f g r hf hg made choice =
     two-found G G p q (assign p q at) at f g r (derivation_of r) (λ m. m + 1 + sizes.nodes p) hf hg
     (subst (λ P. IsMade P (blame_at f (blame_at g at)) (f.total + g.total) r) (sym test) made) refl refl refl (λ m. refl) refl refl
-    (derived choice) (few choice) (shallow choice) (types choice)
+    (derived choice) (few choice) (shallow choice) (types choice) (layers choice)
   where
     test : least_type G (assign p q at) ≡ if_passed (serves_assignment f g) (one_end Comm)
     test =
@@ -229,6 +236,11 @@ assign-found G p q at f g r hf hg made choice =
           subst (λ P. ArePathsBelow (one_end Comm) P)
               (sym (test ∙ ap (λ b. if_passed b (one_end Comm)) (serves D x.1))) (ArePathsBelow-refl (one_end Comm)),
         ))
+
+    layers : IsAssigned f g (derivation_of r) → IsLayered met (derivation_of r)
+    layers (inl x) = subst (IsLayered met) (sym x.1) ns-layered
+    layers (inr x) = subst (IsLayered met) (sym x.2)
+        (two-layered (atom (acceptor_atom x.0)) (atom (data_atom x.0)) (derivation_of f) (derivation_of g) hf.layered hg.layered)
 
     types : IsAssigned f g (derivation_of r) → deepest_type (derivation_of r)
         ≤ max (max (deepest_written p) (deepest_written q)) most_made_nesting

@@ -5,6 +5,7 @@ pub mod Derived
 pub mod Finding
 pub mod Forms
 pub mod Laws
+pub mod Layers
 pub mod Limits
 pub mod Made
 pub mod Many

@@ -14,6 +14,7 @@ use Rattle.fy_derive.specs.Reading.{plain_derivation}
 use Rattle.fy_derive.specs.Least.{has, least_type, visits}
 use Rattle.fy_least.specs.declared.found.Found.{Found}
 use Rattle.fy_least.specs.Blame.{if_empty, blame_of}
+use Rattle.fy_least.specs.Layers.{met, IsLayered}
 use Rattle.fy_least.specs.Limits.{most_together}
 use Rattle.fy_least.specs.Counts.{nodes_of_visits, AreVisitsWithin}
 use Rattle.fy_least.specs.Derived.{ConcludesBelow, deepest_type, most_made_nesting}
@@ -32,6 +33,7 @@ pub record IsFound (G : List PlainPaths) (p : Tree) (f : Found) : Type 0 where
   pub shallow : derivations.nesting (plain_derivation f.derivation) + 1 ≤ 3 * nesting p
   pub kept : IsWithinLimits (least_type G p)
   pub types : deepest_type (plain_derivation f.derivation) ≤ max (deepest_written p) most_made_nesting
+  pub layered : IsLayered met (plain_derivation f.derivation)
 
 -- a visit that has the paths and the blame, and whose parts have so many nodes in their least types
 pub record IsMade (P : PlainPaths) (at : Place) (parts : ℕ) (f : Found) : Type 0 where

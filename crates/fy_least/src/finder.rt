@@ -5,6 +5,7 @@ ghost use Rattle.fy_derive.specs.Reading.{plain_derivation};
 ghost use Rattle.fy_phrase.specs.Reads.{reads};
 ghost use Rattle.fy_least.specs.Derived.{KeepsLimits};
 ghost use Rattle.fy_least.specs.Finding.{IsFinding, KeepsCoreLimits};
+ghost use Rattle.fy_least.specs.Layers.{subsumed, IsLayered};
 
 use crate::demands::has;
 use crate::error::FindError;
@@ -20,7 +21,8 @@ use std::alloc::Global;
 ///
 /// Where the phrase nests at most 512, has at most 65,536 visits, an abstraction's body visited once
 /// for each alternative, and the types of its recursions nest at most 1,024, the derivation has at
-/// most 262,144 nodes, nests at most 2,048, and each type in it nests at most 1,024.
+/// most 262,144 nodes, nests at most 2,048, and each type in it nests at most 1,024. Above each rule
+/// in it stands at most one meet, and above that at most one subsumption.
 ///
 /// # Errors
 ///
@@ -33,6 +35,7 @@ pub fn find(alloc: Global, p: &Phrase) -> Result<Derivation, FindError>
     ensures found { IsFinding (reads p.now) result }
     ensures limits { IfOk result
         (λ d. KeepsCoreLimits (reads p.now) → KeepsLimits (plain_derivation d)) }
+    ensures layered { IfOk result (λ d. IsLayered subsumed (plain_derivation d)) }
 {
     let found = found_in(alloc, p, &Scope::Outermost)?;
     if has(&found.paths, Atom::Comm) {

@@ -1,4 +1,4 @@
-use Rattle.std.proofs.Common.{◌+◌, ◌||◌, true, map, drop, sym, ap, ◌∙◌}
+use Rattle.std.proofs.Common.{◌+◌, ◌||◌, map, drop, sym, ap, ◌∙◌}
 use Rattle.fy_types.specs.Paths.{end}
 use Rattle.fy_types.specs.Reading.{plain_path, paths_from}
 use Rattle.fy_types.proofs.Steps.{drop_item, drop_end}

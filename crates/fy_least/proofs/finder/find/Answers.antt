@@ -4,8 +4,9 @@ use Rattle.fy_phrase.specs.Reads.{reads}
 use Rattle.fy_derive.specs.Derivations.{nodes, nesting, most_nodes, most_nesting}
 use Rattle.fy_derive.specs.Judging.{conclusion_of, refusal}
 use Rattle.fy_least.specs.Derived.{deepest_type, most_type_nesting}
+use Rattle.fy_least.specs.Layers.{subsumed, IsLayered}
 use Rattle.fy_least.proofs.ArmLemmas.{scope-outermost}
-use Rattle.fy_least.proofs.FindLemmas.{found-kept, found-accepted, found-untyped, found-refused, found-few, found-shallow, found-types}
+use Rattle.fy_least.proofs.FindLemmas.{found-kept, found-accepted, found-untyped, found-refused, found-few, found-shallow, found-types, found-layered}
 use Rattle.fy_least.proofs.finder.find.Goals as goal
 
 pub returns-in_err-found-clause-found : goal.returns-in_err-found-clause-found
@@ -32,6 +33,11 @@ returns-in_ok-to_atom-clause-limits c =
       shallow = subst (λ d. nesting d ≤ most_nesting) (sym c.in_ok-to_atom.ensures) (found-shallow p f h l);
       types = subst (λ d. deepest_type d ≤ most_type_nesting) (sym c.in_ok-to_atom.ensures) (found-types p f h l);
     }
+
+pub returns-in_ok-to_atom-clause-layered : goal.returns-in_ok-to_atom-clause-layered
+returns-in_ok-to_atom-clause-layered c =
+    let h = rw scope-outermost at c.in_ok-found.ensures.ok in
+    subst (IsLayered subsumed) (sym c.in_ok-to_atom.ensures) (found-layered (reads c.args.p.now) c.in_ok-found.found h)
 
 pub returns-else-has-clause-found : goal.returns-else-has-clause-found
 returns-else-has-clause-found c =
