@@ -17,3 +17,5 @@ pub mod Safety
 pub mod Shapes
 pub mod Least
 pub mod Print
+pub mod Limits
+pub mod Printable

@@ -5,3 +5,5 @@ pub mod Closing
 pub mod Contexts
 pub mod Copy
 pub mod Bounds
+pub mod CoreLimits
+pub mod PhraseNames

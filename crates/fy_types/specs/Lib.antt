@@ -14,3 +14,4 @@ pub mod Names
 pub mod Nested
 pub mod Words
 pub mod Print
+pub mod Fields

@@ -1,8 +1,21 @@
--- How deep a type nests, and a type that is made of a path form.
-use Rattle.std.specs.Prelude.{ℕ, ◌+◌, ◌*◌, ◌≤◌, ◌≡◌, max}
+-- How large a type is and how deep it nests, and a type that is made of a path form.
+use Rattle.std.specs.Prelude.{ℕ, suc, ◌+◌, ◌*◌, ◌≤◌, ◌≡◌, max}
 use Rattle.fy_types.specs.Types.{PlainType, PlainTypes, ns, atom, arrow, field, meet, no_types, and_type}
 use Rattle.fy_types.specs.Paths.{PlainPaths, paths}
 use Rattle.fy_types.specs.Limits.{all_nesting}
+
+abbrev mutual
+  -- the number of nodes
+  pub type_nodes : PlainType → ℕ
+  type_nodes ns = 1
+  type_nodes (atom a) = 1
+  type_nodes (arrow A B) = suc (type_nodes A + type_nodes B)
+  type_nodes (field i A) = suc (type_nodes A)
+  type_nodes (meet As) = suc (types_nodes As)
+
+  pub types_nodes : PlainTypes → ℕ
+  types_nodes no_types = 0
+  types_nodes (and_type A As) = type_nodes A + types_nodes As
 
 abbrev mutual
   -- the greatest number of nodes of a type on one path
