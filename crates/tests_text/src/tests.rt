@@ -1,0 +1,5 @@
+mod expand;
+mod grammar;
+mod lexer;
+mod made;
+mod syntax;

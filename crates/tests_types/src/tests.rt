@@ -1,0 +1,7 @@
+mod copy;
+mod derive;
+mod made;
+mod phrase;
+mod programs;
+mod read;
+mod types;

@@ -1,0 +1,32 @@
+//! What several tests make.
+
+use fy_base::{OutOfMemory, Place};
+use fy_phrase::Phrase;
+use std::alloc::Global;
+
+pub const AT: Place = Place { line: 1, col: 1 };
+
+pub fn boxed(alloc: Global, p: Phrase) -> Result<Box<Phrase>, OutOfMemory> {
+    Ok(Box::new(alloc, p)?)
+}
+
+// A definition, and the phrase that it stands before.
+pub fn under(alloc: Global, definition: Phrase, body: Phrase) -> Result<Phrase, OutOfMemory> {
+    Ok(Phrase::LetIn(0, boxed(alloc, definition)?, boxed(alloc, body)?, AT))
+}
+
+// A beginning, a piece so many times, and an end.
+pub fn repeated(
+    alloc: Global,
+    begin: &[u8],
+    piece: &[u8],
+    times: u32,
+    end: &[u8],
+) -> Result<Vec<u8>, OutOfMemory> {
+    let mut text = Vec::from_slice(alloc, begin)?;
+    for _ in 0..times {
+        text.extend_from_slice(piece)?;
+    }
+    text.extend_from_slice(end)?;
+    Ok(text)
+}

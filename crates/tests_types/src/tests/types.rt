@@ -1,0 +1,172 @@
+use fy_types::{
+    Atom, Names, Ty, TyList, TypeError, copy_paths, copy_ty, is_below, is_subtype, join, meet,
+    paths_of, print_ty, same_ty, ty_of,
+};
+use std::alloc::Global;
+use std::test::Fail;
+
+fn atom(atom: Atom) -> Ty {
+    Ty::Atom(atom)
+}
+
+fn arrow(alloc: Global, domain: Ty, rest: Ty) -> Result<Ty, Fail> {
+    Ok(Ty::Arrow(Box::new(alloc, domain)?, Box::new(alloc, rest)?))
+}
+
+fn both(alloc: Global, a: Ty, b: Ty) -> Result<Ty, Fail> {
+    let mut all = TyList::new(alloc);
+    all.push(a)?;
+    all.push(b)?;
+    Ok(Ty::Meet(all))
+}
+
+fn intvar(alloc: Global) -> Result<Ty, Fail> {
+    both(alloc, atom(Atom::Int), atom(Atom::IntAcc))
+}
+
+// The meet of so many members, the last one `last` and the others `first`.
+fn many(alloc: Global, count: usize, first: Atom, last: Atom) -> Result<Ty, Fail> {
+    let mut all = TyList::new(alloc);
+    for _ in 1..count {
+        all.push(atom(first))?;
+    }
+    all.push(atom(last))?;
+    Ok(Ty::Meet(all))
+}
+
+fn fields(alloc: Global, count: usize) -> Result<Ty, Fail> {
+    let mut ty = atom(Atom::Int);
+    for _ in 0..count {
+        ty = Ty::Field(7, Box::new(alloc, ty)?);
+    }
+    Ok(ty)
+}
+
+// The answers of both tests of subtyping.
+fn answers(alloc: Global, low: &Ty, high: &Ty) -> Result<(bool, bool), Fail> {
+    let p = paths_of(alloc, low)?;
+    let q = paths_of(alloc, high)?;
+    Ok((is_subtype(&p, &q), is_below(alloc, low, high)?))
+}
+
+#[test]
+fn answers_questions_of_subtyping(rt: HostRuntime) -> Result<(), Fail> {
+    let alloc = rt.alloc();
+    let int_to_int_and_int_to_bool = both(
+        alloc,
+        arrow(alloc, atom(Atom::Int), atom(Atom::Int))?,
+        arrow(alloc, atom(Atom::Int), atom(Atom::Bool))?,
+    )?;
+    let int_and_bool = both(alloc, atom(Atom::Int), atom(Atom::Bool))?;
+    let table = [
+        (
+            arrow(alloc, atom(Atom::Int), atom(Atom::Comm))?,
+            arrow(alloc, intvar(alloc)?, atom(Atom::Comm))?,
+            true,
+        ),
+        (
+            arrow(alloc, intvar(alloc)?, atom(Atom::Comm))?,
+            arrow(alloc, atom(Atom::Int), atom(Atom::Comm))?,
+            false,
+        ),
+        (
+            int_to_int_and_int_to_bool,
+            arrow(alloc, atom(Atom::Int), int_and_bool)?,
+            true,
+        ),
+        (Ty::Ns, arrow(alloc, atom(Atom::Int), Ty::Ns)?, true),
+        (Ty::Ns, arrow(alloc, Ty::Ns, atom(Atom::Int))?, false),
+        (
+            arrow(alloc, atom(Atom::Int), atom(Atom::Compl))?,
+            arrow(alloc, atom(Atom::Int), atom(Atom::Comm))?,
+            true,
+        ),
+    ];
+    for (low, high, answer) in &table {
+        assert!(rt; answers(alloc, low, high)? == (*answer, *answer));
+    }
+    Ok(())
+}
+
+#[test]
+fn joins_and_meets(rt: HostRuntime) -> Result<(), Fail> {
+    let alloc = rt.alloc();
+    let a = paths_of(alloc, &arrow(alloc, atom(Atom::Int), atom(Atom::Comm))?)?;
+    let b = paths_of(alloc, &arrow(alloc, atom(Atom::Bool), atom(Atom::Compl))?)?;
+    let joined = ty_of(alloc, &copy_paths(alloc, &join(alloc, &a, &b)?)?)?;
+    let domain = both(alloc, atom(Atom::Int), atom(Atom::Bool))?;
+    assert!(rt; same_ty(&joined, &arrow(alloc, domain, atom(Atom::Comm))?));
+    let a = paths_of(alloc, &both(alloc, atom(Atom::Int), atom(Atom::Bool))?)?;
+    let b = paths_of(alloc, &both(alloc, atom(Atom::Bool), atom(Atom::Char))?)?;
+    let met = meet(alloc, &a, &b)?;
+    let is_expected = match met.as_slice() {
+        [first, second, third] => {
+            first.end == Atom::Int
+                && second.end == Atom::Bool
+                && third.end == Atom::Char
+                && first.elems.len() == 0
+                && second.elems.len() == 0
+                && third.elems.len() == 0
+        }
+        _ => false,
+    };
+    assert!(rt; is_expected);
+    Ok(())
+}
+
+#[test]
+fn keeps_the_limits_of_path_forms(rt: HostRuntime) -> Result<(), Fail> {
+    let alloc = rt.alloc();
+    let most = many(alloc, 4096, Atom::Int, Atom::Int)?;
+    let more = many(alloc, 4097, Atom::Int, Atom::Int)?;
+    assert!(rt; paths_of(alloc, &most)?.len() == 4096);
+    assert!(rt; matches!(paths_of(alloc, &more), Err(TypeError::TypeTooLarge)));
+    assert!(rt; paths_of(alloc, &arrow(alloc, more, Ty::Ns)?)?.len() == 0);
+    assert!(rt; paths_of(alloc, &fields(alloc, 479)?)?.len() == 1);
+    assert!(rt;
+        matches!(
+            paths_of(alloc, &fields(alloc, 480)?),
+            Err(TypeError::TypeTooLarge)
+        )
+    );
+    Ok(())
+}
+
+#[test]
+fn prints_a_sequence_type(rt: HostRuntime) -> Result<(), Fail> {
+    let alloc = rt.alloc();
+    let names = Names::new(alloc)?;
+    let ints = arrow(alloc, atom(Atom::Int), atom(Atom::Int))?;
+    let intseq = both(alloc, ints, Ty::Field(0, Box::new(alloc, atom(Atom::Int))?))?;
+    let text = print_ty(alloc, &names, &copy_ty(alloc, &intseq)?)?;
+    assert!(rt; text.as_slice() == b"(int -> int) & (len : int)".as_slice());
+    let nameless = Ty::Field(13, Box::new(alloc, Ty::Ns)?);
+    assert!(rt; print_ty(alloc, &names, &nameless)?.as_slice() == b" : ns".as_slice());
+    Ok(())
+}
+
+#[test]
+fn numbers_texts_in_order(rt: HostRuntime) -> Result<(), Fail> {
+    let mut names = Names::new(rt.alloc())?;
+    assert_eq!(rt; names.number(b"intvarseq")?, 12);
+    assert_eq!(rt; names.number(b"x")?, 13);
+    assert_eq!(rt; names.number(b"putint")?, 1);
+    assert_eq!(rt; names.number(b"x")?, 13);
+    assert_eq!(rt; names.text(0), Some(b"len".as_slice()));
+    assert_eq!(rt; names.text(13), Some(b"x".as_slice()));
+    assert_eq!(rt; names.text(14), None);
+    Ok(())
+}
+
+// Types whose path forms are past the limits are compared all the same.
+#[test]
+fn compares_types_past_the_limits(rt: HostRuntime) -> Result<(), Fail> {
+    let alloc = rt.alloc();
+    let ints = many(alloc, 4097, Atom::Int, Atom::Int)?;
+    let with_a_bool = many(alloc, 4097, Atom::Int, Atom::Bool)?;
+    assert!(rt; is_below(alloc, &with_a_bool, &ints)?);
+    assert!(rt; !is_below(alloc, &ints, &with_a_bool)?);
+    assert!(rt; is_below(alloc, &fields(alloc, 480)?, &fields(alloc, 480)?)?);
+    assert!(rt; !is_below(alloc, &fields(alloc, 480)?, &fields(alloc, 481)?)?);
+    Ok(())
+}
