@@ -1,3 +1,4 @@
 pub mod Outside
 pub mod Arithmetic
+pub mod Places
 pub mod Memory

@@ -1,11 +1,16 @@
 -- What a call learns of the outside and does to it: sources, sinks and files, and their counts of faults.
-use Rattle.std.specs.Prelude.{◌≡◌, ℕ, ◌+◌, ◌-◌, ◌^◌, ◌<◌, ◌≤◌, min, Bool, IsTrue, List, [], ◌++◌, length, Some, OnErr}
+use Rattle.std.specs.Prelude.{◌≡◌, ℕ, ◌+◌, ◌-◌, ◌^◌, ◌<◌, ◌≤◌, min, Bool, IsTrue, List, [], ◌++◌, length, Some, OnOk, OnErr}
 use Rattle.std.specs.Option.{option_map, ForSome}
 use Rattle.std.specs.declared.option.Option.{Option}
 use Rattle.std.specs.declared.result.Result.{Result}
+use Rattle.std.specs.declared.result.Result.TheVariants.{Ok, Err}
 use Rattle.std.specs.Ordering.{nat_cmp}
 use Rattle.std.specs.Cmp.Lexicographic.{slice_cmp}
 use Rattle.std.specs.FinMap.{FinMap, get, insert, remove}
+use Rattle.fy_base.specs.declared.outside.FetchError.{FetchError}
+use Rattle.fy_base.specs.declared.outside.FetchError.TheVariants as unfetched
+use Rattle.fy_base.specs.declared.outside.KeepError.{KeepError}
+use Rattle.fy_base.specs.declared.outside.KeepError.TheVariants as unkept
 
 -- a text: its bytes in order
 abbrev pub Bytes : Type 0
@@ -19,10 +24,11 @@ Folder = FinMap (slice_cmp nat_cmp) Bytes
 abbrev pub Rose : ℕ → ℕ → Type 0
 Rose before now = min (before + 1) (2 ^ 64 - 1) ≤ now
 
--- a count of faults doesn't fall, and it rose where the call failed
+-- a count of faults doesn't fall, it rose where the call failed, and it stands still where it didn't
 pub record HasCause {T E : Type 0} (before now : ℕ) (result : Result T E) : Type 0 where
   pub later : before ≤ now
   pub failed : OnErr result (Rose before now)
+  pub quiet : OnOk result (now ≡ before)
 
 -- a source gave these bytes: what was left, where it is told, is these and then what is left now
 abbrev pub Gave : Option Bytes → Option Bytes → Bytes → Type 0
@@ -79,3 +85,21 @@ OthersStay before now name = option_map (λ folder. remove folder name) now ≡ 
 -- no name's count of faults falls
 abbrev pub NoneFalls : (Bytes → ℕ) → (Bytes → ℕ) → Type 0
 NoneFalls before now = (name : Bytes) → before name ≤ now name
+
+-- this holds unless the file was missing or could not be read
+abbrev pub UnlessFetchFails : {T : Type 0} → Result T FetchError → Type 0 → Type 0
+UnlessFetchFails (Ok content) P = P
+UnlessFetchFails (Err unfetched.Missing) P = Unit {0}
+UnlessFetchFails (Err unfetched.Failed) P = Unit {0}
+UnlessFetchFails (Err unfetched.TooLong) P = P
+UnlessFetchFails (Err unfetched.OutOfMemory) P = P
+
+-- this holds unless the file could not be written
+abbrev pub UnlessKeepFails : {T : Type 0} → Result T KeepError → Type 0 → Type 0
+UnlessKeepFails (Ok done) P = P
+UnlessKeepFails (Err unkept.Failed) P = Unit {0}
+UnlessKeepFails (Err unkept.OutOfMemory) P = P
+
+-- every name's count of faults stands still
+abbrev pub NoneMoves : (Bytes → ℕ) → (Bytes → ℕ) → Type 0
+NoneMoves before now = now ≡ before

@@ -1,10 +1,15 @@
 //! Data, operators, places, and how runs end.
 
-/// A place in a source text. Both numbers count from 1: a line ends at byte 10, and a column counts bytes.
+ghost use Rattle.std.specs.Prelude.{◌≤◌};
+
+/// A place in a source text. Line and column count from 1, as the ghost fields keep: a line ends at
+/// byte 10, and a column counts bytes.
 #[derive(Clone, Copy, PartialEq, Eq, Debug)]
 pub struct Place {
     pub line: u32,
     pub col: u32,
+    pub ghost line_from_one: { 1 ≤ line },
+    pub ghost col_from_one: { 1 ≤ col },
 }
 
 /// Why a program faults.

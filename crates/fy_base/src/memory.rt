@@ -2,8 +2,8 @@
 
 ghost use Rattle.std.specs.Prelude.{◌≡◌, ℕ, ◌<◌, ◌≤◌, ◌+◌, ◌↔◌, IsTrue, IsErr, min, List, [], ◌++◌, length, take, drop, Some, false, OnOk, OnErr, IfOk, IsErrOf, vec_capacity, vec_len};
 ghost use Rattle.std.specs.Option.{option_copied, option_map};
-ghost use Rattle.fy_base.specs.Outside.{Bytes, Gave, IsAtEnd, Gained, GainedPart, HasCause, Kept};
-ghost use Rattle.fy_base.specs.Memory.{folder_of, pair_of, is_to_fail, faults_of, misses_of};
+ghost use Rattle.fy_base.specs.Outside.{Bytes, Gave, IsAtEnd, Gained, GainedPart, HasCause, Tells, IsLong, Kept, OthersStay, Rose, NoneFalls, NoneMoves, UnlessFetchFails, UnlessKeepFails};
+ghost use Rattle.fy_base.specs.Memory.{folder_of, pair_of, is_to_fail, faults_of, misses_of, next_count, CountsCall, OneMoreFault, FetchesAsTold, KeepsAsTold};
 ghost use Rattle.std.specs.FinMap.{get, insert};
 
 use crate::error::OutOfMemory;
@@ -28,8 +28,7 @@ impl Calls {
     // Whether the next call is to fail. It counts as made.
     fn next_fails(&mut self) -> bool
         ensures fails { result ≡ is_to_fail self.old.failing.items self.old.made }
-        ensures failing { self.new.failing.items ≡ self.old.failing.items }
-        ensures made { self.new.made ≡ min (self.old.made + 1) u64.MAX }
+        ensures counted { CountsCall self.old self.new }
     {
         let call = self.made;
         self.made = call.saturating_add(1);
@@ -111,6 +110,8 @@ impl Source for MemorySource {
         ensures none { OnErr result (⟦<SteadySource as Source>⟧.left self.new.steady ≡ ⟦<SteadySource as Source>⟧.left self.old.steady) }
         ensures cause { HasCause self.old.faults self.new.faults result }
         ensures exactly { IsErr result ↔ IsTrue (is_to_fail self.old.calls.failing.items self.old.calls.made) }
+        ensures counted { CountsCall self.old.calls self.new.calls }
+        ensures fault { OnErr result (self.new.faults ≡ next_count self.old.faults) }
     {
         if self.calls.next_fails() {
             self.faults = self.faults.saturating_add(1);
@@ -165,6 +166,8 @@ impl Sink for SteadySink {
         ensures nothing { OnErr result (self.new.bytes.items ≡ self.old.bytes.items) }
         ensures cause { HasCause self.old.faults self.new.faults result }
         ensures exactly { IsErr result ↔ (self.old.room < vec_len self.old.bytes + length piece.now) }
+        ensures room { self.new.room ≡ self.old.room }
+        ensures fault { OnErr result (self.new.faults ≡ next_count self.old.faults) }
     {
         if piece.len() <= self.room - self.bytes.len()
             && self.bytes.extend_from_slice(piece).is_ok()
@@ -220,6 +223,10 @@ impl Sink for MemorySink {
         ensures cause { HasCause self.old.faults self.new.faults result }
         ensures as_told { IsTrue (is_to_fail self.old.calls.failing.items self.old.calls.made) → IsErr result }
         ensures otherwise { IsErr result → is_to_fail self.old.calls.failing.items self.old.calls.made ≡ false → self.old.steady.room < vec_len self.old.steady.bytes + length piece.now }
+        ensures full { self.old.steady.room < vec_len self.old.steady.bytes + length piece.now → IsErr result }
+        ensures counted { CountsCall self.old.calls self.new.calls }
+        ensures room { self.new.steady.room ≡ self.old.steady.room }
+        ensures fault { OnErr result (self.new.faults ≡ next_count self.old.faults) }
     {
         if !self.calls.next_fails() && self.steady.put(piece).is_ok() {
             return Ok(());
@@ -291,6 +298,7 @@ fn add_entry(
 fn count_fault(alloc: Global, faults: &mut Vec<Fault>, name: &str) -> Result<(), OutOfMemory>
     ensures risen { OnOk result (faults_of faults.new.items name.now ≡ faults_of faults.old.items name.now + 1) }
     ensures others { (other : Bytes) → faults_of faults.old.items other ≤ faults_of faults.new.items other }
+    ensures exactly { OnOk result (OneMoreFault (faults_of faults.old.items) (faults_of faults.new.items) name.now) }
     ensures err { OnErr result (faults.new.items ≡ faults.old.items) }
 {
     let name = String::from_str(alloc, name)?;
@@ -299,11 +307,7 @@ fn count_fault(alloc: Global, faults: &mut Vec<Fault>, name: &str) -> Result<(),
 }
 
 fn fetched(alloc: Global, content: &[u8], limit: usize) -> Result<Vec<u8>, FetchError>
-    ensures bytes { IfOk result (λ bytes. bytes.items ≡ content.now) }
-    ensures within { IfOk result (λ bytes. length bytes.items ≤ limit) }
-    ensures long { IsErrOf result FetchError.TooLong → limit < length content.now }
-    ensures missing { IsErrOf result FetchError.Missing → ⊥ }
-    ensures failed { IsErrOf result FetchError.Failed → ⊥ }
+    ensures { FetchesAsTold false (Some content.now) limit result }
 {
     if content.len() > limit {
         return Err(FetchError::TooLong);
@@ -343,6 +347,7 @@ impl MemoryFiles {
     pub fn hold(&mut self, alloc: Global, name: &str, bytes: &[u8]) -> Result<(), OutOfMemory>
         ensures ok { OnOk result (Kept (⟦<MemoryFiles as Files>⟧.held self.old) (⟦<MemoryFiles as Files>⟧.held self.new) name.now bytes.now) }
         ensures err { OnErr result (⟦<MemoryFiles as Files>⟧.held self.new ≡ ⟦<MemoryFiles as Files>⟧.held self.old) }
+        ensures rest { self.new ≡ record self.old { entries = self.new.entries } }
     {
         add_entry(alloc, &mut self.entries, name, bytes)
     }
@@ -362,7 +367,23 @@ impl Files for MemoryFiles {
 
     ghost keep_faults = { λ s name. faults_of s.keep_faults.items name };
 
-    fn fetch(&mut self, alloc: Global, name: &str, limit: usize) -> Result<Vec<u8>, FetchError> {
+    fn fetch(&mut self, alloc: Global, name: &str, limit: usize) -> Result<Vec<u8>, FetchError>
+        ensures content { IfOk result (λ bytes. Tells (⟦<MemoryFiles as Files>⟧.held self.old) name.now (Some bytes.items)) }
+        ensures within { IfOk result (λ bytes. length bytes.items ≤ limit) }
+        ensures long { IsErrOf result FetchError.TooLong → IsLong (⟦<MemoryFiles as Files>⟧.held self.old) name.now limit }
+        ensures missing { IsErrOf result FetchError.Missing → Rose (⟦<MemoryFiles as Files>⟧.fetch_faults self.old name.now) (⟦<MemoryFiles as Files>⟧.fetch_faults self.new name.now) }
+        ensures failed { IsErrOf result FetchError.Failed → Rose (⟦<MemoryFiles as Files>⟧.fetch_faults self.old name.now) (⟦<MemoryFiles as Files>⟧.fetch_faults self.new name.now) }
+        ensures fetches { NoneFalls (⟦<MemoryFiles as Files>⟧.fetch_faults self.old) (⟦<MemoryFiles as Files>⟧.fetch_faults self.new) }
+        ensures keeps { NoneFalls (⟦<MemoryFiles as Files>⟧.keep_faults self.old) (⟦<MemoryFiles as Files>⟧.keep_faults self.new) }
+        ensures fetches_quiet { UnlessFetchFails result (NoneMoves (⟦<MemoryFiles as Files>⟧.fetch_faults self.old) (⟦<MemoryFiles as Files>⟧.fetch_faults self.new)) }
+        ensures keeps_quiet { UnlessFetchFails result (NoneMoves (⟦<MemoryFiles as Files>⟧.keep_faults self.old) (⟦<MemoryFiles as Files>⟧.keep_faults self.new)) }
+        ensures files { ⟦<MemoryFiles as Files>⟧.held self.new ≡ ⟦<MemoryFiles as Files>⟧.held self.old }
+        ensures as_told { FetchesAsTold (is_to_fail self.old.calls.failing.items self.old.calls.made) (get (folder_of self.old.entries.items) name.now) limit result }
+        ensures counted { CountsCall self.old.calls self.new.calls }
+        ensures missing_counted { IsErrOf result FetchError.Missing → OneMoreFault (⟦<MemoryFiles as Files>⟧.fetch_faults self.old) (⟦<MemoryFiles as Files>⟧.fetch_faults self.new) name.now }
+        ensures failed_counted { IsErrOf result FetchError.Failed → OneMoreFault (⟦<MemoryFiles as Files>⟧.fetch_faults self.old) (⟦<MemoryFiles as Files>⟧.fetch_faults self.new) name.now }
+        ensures rest { self.new ≡ record self.old { calls = self.new.calls; fetch_faults = self.new.fetch_faults } }
+    {
         let fails = self.calls.next_fails();
         let fault = match find(self.entries.as_slice(), name) {
             _ if fails => FetchError::Failed,
@@ -375,7 +396,21 @@ impl Files for MemoryFiles {
         }
     }
 
-    fn keep(&mut self, alloc: Global, name: &str, bytes: &[u8]) -> Result<(), KeepError> {
+    fn keep(&mut self, alloc: Global, name: &str, bytes: &[u8]) -> Result<(), KeepError>
+        ensures kept { OnOk result (Kept (⟦<MemoryFiles as Files>⟧.held self.old) (⟦<MemoryFiles as Files>⟧.held self.new) name.now bytes.now) }
+        ensures unknown { IsErrOf result KeepError.Failed → OthersStay (⟦<MemoryFiles as Files>⟧.held self.old) (⟦<MemoryFiles as Files>⟧.held self.new) name.now }
+        ensures failed { IsErrOf result KeepError.Failed → Rose (⟦<MemoryFiles as Files>⟧.keep_faults self.old name.now) (⟦<MemoryFiles as Files>⟧.keep_faults self.new name.now) }
+        ensures memory { IsErrOf result KeepError.OutOfMemory → ⟦<MemoryFiles as Files>⟧.held self.new ≡ ⟦<MemoryFiles as Files>⟧.held self.old }
+        ensures fetches { NoneFalls (⟦<MemoryFiles as Files>⟧.fetch_faults self.old) (⟦<MemoryFiles as Files>⟧.fetch_faults self.new) }
+        ensures keeps { NoneFalls (⟦<MemoryFiles as Files>⟧.keep_faults self.old) (⟦<MemoryFiles as Files>⟧.keep_faults self.new) }
+        ensures fetches_quiet { UnlessKeepFails result (NoneMoves (⟦<MemoryFiles as Files>⟧.fetch_faults self.old) (⟦<MemoryFiles as Files>⟧.fetch_faults self.new)) }
+        ensures keeps_quiet { UnlessKeepFails result (NoneMoves (⟦<MemoryFiles as Files>⟧.keep_faults self.old) (⟦<MemoryFiles as Files>⟧.keep_faults self.new)) }
+        ensures as_told { KeepsAsTold (is_to_fail self.old.calls.failing.items self.old.calls.made) result }
+        ensures stays { OnErr result (⟦<MemoryFiles as Files>⟧.held self.new ≡ ⟦<MemoryFiles as Files>⟧.held self.old) }
+        ensures counted { CountsCall self.old.calls self.new.calls }
+        ensures failed_counted { IsErrOf result KeepError.Failed → OneMoreFault (⟦<MemoryFiles as Files>⟧.keep_faults self.old) (⟦<MemoryFiles as Files>⟧.keep_faults self.new) name.now }
+        ensures rest { self.new ≡ record self.old { entries = self.new.entries; calls = self.new.calls; keep_faults = self.new.keep_faults } }
+    {
         if self.calls.next_fails() {
             return match count_fault(alloc, &mut self.keep_faults, name) {
                 Ok(()) => Err(KeepError::Failed),
@@ -417,8 +452,7 @@ impl SteadyFiles {
         requires { self.old.kept.items ≡ [] }
         ensures ok { OnOk result (Kept (⟦<SteadyFiles as Files>⟧.held self.old) (⟦<SteadyFiles as Files>⟧.held self.new) name.now bytes.now) }
         ensures err { OnErr result (⟦<SteadyFiles as Files>⟧.held self.new ≡ ⟦<SteadyFiles as Files>⟧.held self.old) }
-        ensures none_kept { self.new.kept.items ≡ [] }
-        ensures misses { self.new.misses ≡ self.old.misses }
+        ensures rest { self.new ≡ record self.old { made_with = self.new.made_with } }
     {
         add_entry(alloc, &mut self.made_with, name, bytes)
     }
@@ -438,7 +472,22 @@ impl Files for SteadyFiles {
 
     ghost keep_faults = { λ _ _. 0 };
 
-    fn fetch(&mut self, alloc: Global, name: &str, limit: usize) -> Result<Vec<u8>, FetchError> {
+    fn fetch(&mut self, alloc: Global, name: &str, limit: usize) -> Result<Vec<u8>, FetchError>
+        ensures content { IfOk result (λ bytes. Tells (⟦<SteadyFiles as Files>⟧.held self.old) name.now (Some bytes.items)) }
+        ensures within { IfOk result (λ bytes. length bytes.items ≤ limit) }
+        ensures long { IsErrOf result FetchError.TooLong → IsLong (⟦<SteadyFiles as Files>⟧.held self.old) name.now limit }
+        ensures missing { IsErrOf result FetchError.Missing → Rose (⟦<SteadyFiles as Files>⟧.fetch_faults self.old name.now) (⟦<SteadyFiles as Files>⟧.fetch_faults self.new name.now) }
+        ensures failed { IsErrOf result FetchError.Failed → Rose (⟦<SteadyFiles as Files>⟧.fetch_faults self.old name.now) (⟦<SteadyFiles as Files>⟧.fetch_faults self.new name.now) }
+        ensures fetches { NoneFalls (⟦<SteadyFiles as Files>⟧.fetch_faults self.old) (⟦<SteadyFiles as Files>⟧.fetch_faults self.new) }
+        ensures keeps { NoneFalls (⟦<SteadyFiles as Files>⟧.keep_faults self.old) (⟦<SteadyFiles as Files>⟧.keep_faults self.new) }
+        ensures fetches_quiet { UnlessFetchFails result (NoneMoves (⟦<SteadyFiles as Files>⟧.fetch_faults self.old) (⟦<SteadyFiles as Files>⟧.fetch_faults self.new)) }
+        ensures keeps_quiet { UnlessFetchFails result (NoneMoves (⟦<SteadyFiles as Files>⟧.keep_faults self.old) (⟦<SteadyFiles as Files>⟧.keep_faults self.new)) }
+        ensures files { ⟦<SteadyFiles as Files>⟧.held self.new ≡ ⟦<SteadyFiles as Files>⟧.held self.old }
+        ensures as_told { FetchesAsTold false (get (folder_of (self.old.kept.items ++ self.old.made_with.items)) name.now) limit result }
+        ensures miss { IsErrOf result FetchError.Missing → self.new.misses ≡ next_count self.old.misses }
+        ensures hit { UnlessFetchFails result (self.new.misses ≡ self.old.misses) }
+        ensures rest { self.new ≡ record self.old { misses = self.new.misses } }
+    {
         match find_in_both(self.kept.as_slice(), self.made_with.as_slice(), name) {
             Some(content) => fetched(alloc, content, limit),
             None => {
@@ -448,7 +497,18 @@ impl Files for SteadyFiles {
         }
     }
 
-    fn keep(&mut self, alloc: Global, name: &str, bytes: &[u8]) -> Result<(), KeepError> {
+    fn keep(&mut self, alloc: Global, name: &str, bytes: &[u8]) -> Result<(), KeepError>
+        ensures kept { OnOk result (Kept (⟦<SteadyFiles as Files>⟧.held self.old) (⟦<SteadyFiles as Files>⟧.held self.new) name.now bytes.now) }
+        ensures unknown { IsErrOf result KeepError.Failed → OthersStay (⟦<SteadyFiles as Files>⟧.held self.old) (⟦<SteadyFiles as Files>⟧.held self.new) name.now }
+        ensures failed { IsErrOf result KeepError.Failed → Rose (⟦<SteadyFiles as Files>⟧.keep_faults self.old name.now) (⟦<SteadyFiles as Files>⟧.keep_faults self.new name.now) }
+        ensures memory { IsErrOf result KeepError.OutOfMemory → ⟦<SteadyFiles as Files>⟧.held self.new ≡ ⟦<SteadyFiles as Files>⟧.held self.old }
+        ensures fetches { NoneFalls (⟦<SteadyFiles as Files>⟧.fetch_faults self.old) (⟦<SteadyFiles as Files>⟧.fetch_faults self.new) }
+        ensures keeps { NoneFalls (⟦<SteadyFiles as Files>⟧.keep_faults self.old) (⟦<SteadyFiles as Files>⟧.keep_faults self.new) }
+        ensures fetches_quiet { UnlessKeepFails result (NoneMoves (⟦<SteadyFiles as Files>⟧.fetch_faults self.old) (⟦<SteadyFiles as Files>⟧.fetch_faults self.new)) }
+        ensures keeps_quiet { UnlessKeepFails result (NoneMoves (⟦<SteadyFiles as Files>⟧.keep_faults self.old) (⟦<SteadyFiles as Files>⟧.keep_faults self.new)) }
+        ensures as_told { KeepsAsTold false result }
+        ensures rest { self.new ≡ record self.old { kept = self.new.kept } }
+    {
         let Ok(entry) = entry_of(alloc, name, bytes) else {
             return Err(KeepError::OutOfMemory);
         };

@@ -3,32 +3,41 @@
 ghost use Rattle.std.specs.Prelude.{◌≡◌, ℕ, ◌<◌, ◌≤◌, IsTrue, length, take, is_none, IfOk, OnOk, OnErr, IsErrOf, Some};
 ghost use Rattle.std.specs.Option.{option_to_list};
 ghost use Rattle.std.specs.declared.option.Option.{Option};
-ghost use Rattle.fy_base.specs.Outside.{Bytes, Folder, Rose, HasCause, Gave, IsAtEnd, Drew, Gained, GainedPart, Tells, IsLong, Kept, OthersStay, NoneFalls};
+ghost use Rattle.fy_base.specs.Outside.{Bytes, Folder, Rose, HasCause, Gave, IsAtEnd, Drew, Gained, GainedPart, Tells, IsLong, Kept, OthersStay, NoneFalls, NoneMoves, UnlessFetchFails, UnlessKeepFails};
 
 use std::alloc::Global;
+use thiserror::Error;
 
 /// A source or a sink failed.
-#[derive(Clone, Copy, PartialEq, Eq, Debug)]
+#[derive(Clone, Copy, PartialEq, Eq, Debug, Error)]
+#[error("the source or the sink failed")]
 pub struct Failed;
 
 /// Why a file wasn't fetched.
-#[derive(Clone, Copy, PartialEq, Eq, Debug)]
+#[derive(Clone, Copy, PartialEq, Eq, Debug, Error)]
 pub enum FetchError {
     /// There is no such file. The name's count of `fetch` rose.
+    #[error("there is no such file")]
     Missing,
     /// The file could not be read. The name's count of `fetch` rose.
+    #[error("the file could not be read")]
     Failed,
     /// The content is longer than the limit.
+    #[error("the file is too long")]
     TooLong,
+    /// Memory was wanting.
+    #[error("out of memory")]
     OutOfMemory,
 }
 
 /// Why a file wasn't kept.
-#[derive(Clone, Copy, PartialEq, Eq, Debug)]
+#[derive(Clone, Copy, PartialEq, Eq, Debug, Error)]
 pub enum KeepError {
     /// The file could not be written, and what it holds is unknown. The name's count of `keep` rose.
+    #[error("the file could not be written")]
     Failed,
-    /// All files are as before.
+    /// Memory was wanting. All files are as before.
+    #[error("out of memory")]
     OutOfMemory,
 }
 
@@ -45,7 +54,8 @@ pub trait Source {
     ///
     /// # Errors
     ///
-    /// `Failed` comes only where the count of faults rose. Then no byte was taken.
+    /// `Failed` comes only where the count of faults rose. Then no byte was taken. A call that
+    /// succeeds leaves the count.
     fn take(&mut self, room: &mut [u8]) -> Result<usize, Failed>
         ensures bound { IfOk result (λ n. n ≤ length room.new) }
         ensures taken { IfOk result (λ n. Gave (left self.old) (left self.new) (take n room.new)) }
@@ -59,7 +69,8 @@ pub trait Source {
 ///
 /// # Errors
 ///
-/// `Failed` comes only where the source's count of faults rose. Then no byte was taken.
+/// `Failed` comes only where the source's count of faults rose. Then no byte was taken. A call that
+/// succeeds leaves the count.
 pub fn next_byte<I: Source>(input: &mut I, over: &mut bool) -> Result<Option<u8>, Failed>
     requires { IsTrue over.old → IsAtEnd (I.left input.old) }
     ensures drew { IfOk result (λ byte. Drew (I.left input.old) (I.left input.new) over.old over.new (option_to_list byte)) }
@@ -94,6 +105,7 @@ pub trait Sink {
     /// # Errors
     ///
     /// `Failed` comes only where the count of faults rose. Then a prefix of the piece was appended.
+    /// A call that succeeds leaves the count.
     fn put(&mut self, piece: &[u8]) -> Result<(), Failed>
         ensures gained { OnOk result (Gained (held self.old) (held self.new) piece.now) }
         ensures part { OnErr result (GainedPart (held self.old) (held self.new) piece.now) }
@@ -114,7 +126,8 @@ pub trait Files {
     /// # Errors
     ///
     /// `Missing` and `Failed` come only where the `fetch` count of this name rose. `TooLong` comes
-    /// exactly where neither of them comes and the content is longer than `limit`.
+    /// exactly where neither of them comes and the content is longer than `limit`. Unless `Missing`
+    /// or `Failed` comes, all counts of all names stand still.
     fn fetch(&mut self, alloc: Global, name: &str, limit: usize) -> Result<Vec<u8>, FetchError>
         ensures content { IfOk result (λ bytes. Tells (held self.old) name.now (Some bytes.items)) }
         ensures within { IfOk result (λ bytes. length bytes.items ≤ limit) }
@@ -123,6 +136,8 @@ pub trait Files {
         ensures failed { IsErrOf result FetchError.Failed → Rose (fetch_faults self.old name.now) (fetch_faults self.new name.now) }
         ensures fetches { NoneFalls (fetch_faults self.old) (fetch_faults self.new) }
         ensures keeps { NoneFalls (keep_faults self.old) (keep_faults self.new) }
+        ensures fetches_quiet { UnlessFetchFails result (NoneMoves (fetch_faults self.old) (fetch_faults self.new)) }
+        ensures keeps_quiet { UnlessFetchFails result (NoneMoves (keep_faults self.old) (keep_faults self.new)) }
         ensures files { held self.new ≡ held self.old };
 
     /// Makes the named file hold the bytes; all others stay.
@@ -130,12 +145,15 @@ pub trait Files {
     /// # Errors
     ///
     /// `Failed` comes only where the `keep` count of this name rose; then the named file is unknown
-    /// and all others stay. After `OutOfMemory` all files stay.
+    /// and all others stay. After `OutOfMemory` all files stay. Unless `Failed` comes, all counts of
+    /// all names stand still.
     fn keep(&mut self, alloc: Global, name: &str, bytes: &[u8]) -> Result<(), KeepError>
         ensures kept { OnOk result (Kept (held self.old) (held self.new) name.now bytes.now) }
         ensures unknown { IsErrOf result KeepError.Failed → OthersStay (held self.old) (held self.new) name.now }
         ensures failed { IsErrOf result KeepError.Failed → Rose (keep_faults self.old name.now) (keep_faults self.new name.now) }
         ensures memory { IsErrOf result KeepError.OutOfMemory → held self.new ≡ held self.old }
         ensures fetches { NoneFalls (fetch_faults self.old) (fetch_faults self.new) }
-        ensures keeps { NoneFalls (keep_faults self.old) (keep_faults self.new) };
+        ensures keeps { NoneFalls (keep_faults self.old) (keep_faults self.new) }
+        ensures fetches_quiet { UnlessKeepFails result (NoneMoves (fetch_faults self.old) (fetch_faults self.new)) }
+        ensures keeps_quiet { UnlessKeepFails result (NoneMoves (keep_faults self.old) (keep_faults self.new)) };
 }
