@@ -12,6 +12,40 @@ pub struct Place {
     pub ghost col_from_one: { 1 ≤ col },
 }
 
+impl Place {
+    ghost use Rattle.std.specs.Prelude.{◌≡◌, ◌+◌, ◌<◌, ◌^◌};
+    ghost use Rattle.fy_base.specs.Places.{first_place, next_line, columns_on};
+
+    /// Where a text begins.
+    pub fn first() -> Place
+        ensures { result ≡ first_place }
+    {
+        Place { line: 1, col: 1 }
+    }
+
+    /// The beginning of the next line.
+    pub fn next_line(self) -> Place
+        requires { self.line + 1 < 2 ^ 32 }
+        ensures { result ≡ next_line self }
+    {
+        Place {
+            line: self.line + 1,
+            col: 1,
+        }
+    }
+
+    /// So many columns further in the same line.
+    pub fn columns_on(self, count: u32) -> Place
+        requires { self.col + count < 2 ^ 32 }
+        ensures { result ≡ columns_on count self }
+    {
+        Place {
+            line: self.line,
+            col: self.col + count,
+        }
+    }
+}
+
 /// Why a program faults.
 #[derive(Clone, Copy, PartialEq, Eq, Debug)]
 pub enum FaultKind {
