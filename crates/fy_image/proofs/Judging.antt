@@ -1,10 +1,10 @@
 -- Which field is refused first, step by step.
-use Rattle.std.proofs.Common.{◌≡◌, ◌≢◌, ◌⊎◌, ℕ, suc, ◌*◌, ◌^◌, ◌<◌, ◌≤◌, min, Bool, true, false, not, ◌&&◌, All, if◌then◌else◌, nat_eq, ltb, leb, List, [], ◌∷◌, ◌++◌, length, take, drop, length-append, sym, ap, ◌∙◌, refl, arith, subst, inl, inr, Some, None, Option}
+use Rattle.std.proofs.Common.{◌≡◌, ◌≢◌, ◌⊎◌, ℕ, suc, ◌+◌, ◌-◌, ◌*◌, ◌^◌, ◌<◌, ◌≤◌, min, Bool, true, false, not, ◌&&◌, All, if◌then◌else◌, nat_eq, ltb, leb, List, [], ◌∷◌, ◌++◌, length, take, drop, length-append, sym, ap, ◌∙◌, refl, arith, subst, inl, inr, Some, None, Option}
 use Rattle.fy_image.proofs.Lists.{places_long}
 use Rattle.std.proofs.lemmas.Bool.{le-ltb, ne_eqb}
 use Rattle.std.proofs.Math.Bool.{and-false, and_assoc}
 use Rattle.std.proofs.lemmas.List.Elements.{All-head, All-tail}
-use Rattle.std.proofs.lemmas.List.{take_min, length-take}
+use Rattle.std.proofs.lemmas.List.{append-nil, append_assoc, take_min, length-take, take-append-drop}
 use Rattle.std.proofs.Math.Seq.{take-append_seam, drop-append_seam}
 use Rattle.std.specs.declared.result.Result.{Result}
 use Rattle.std.specs.declared.result.Result.TheVariants.{Ok, Err}
@@ -14,7 +14,7 @@ use Rattle.fy_base.specs.declared.data.Place.{Place}
 use Rattle.fy_base.specs.Outside.{Bytes}
 use Rattle.fy_image.specs.Form.{PlaceFits, magic, word, place_bytes}
 use Rattle.fy_image.specs.Reading.{is_place, body_refusal}
-use Rattle.fy_image.specs.Refusals.{IsJudged, Field, place_list, or_else, number_of, number_at, numbers, version_refusal, version_1, range_refusal, zero_refusal, number_in, any_bytes, fields_1, first_refusal, magic_refusal, lists_1, IsCause}
+use Rattle.fy_image.specs.Refusals.{IsJudged, Field, place_list, or_else, number_of, number_at, numbers, version_refusal, version_1, range_refusal, number_in, any_bytes, fields_1, first_refusal, magic_refusal, lists_1, IsCause}
 use Rattle.fy_image.specs.declared.error.ImageError.{ImageError}
 use Rattle.fy_image.specs.declared.error.ImageError.TheVariants as errors
 
@@ -124,35 +124,72 @@ cut_judged error field bytes is short fields = let P : ImageError → Type 0 = �
 abbrev is_nonzero : ℕ → Bool
 is_nonzero n = not (nat_eq n 0)
 
-nonzero_more : (place : Place) (m : ℕ) (rest : Bytes) → PlaceFits place → list_all is_nonzero (numbers (suc (suc m)) (place_bytes place ++ rest)) ≡ (is_place place && list_all is_nonzero (numbers m rest))
-nonzero_more place m rest fits =
-    ap (λ n. is_nonzero n && (is_nonzero (number_of (word place.col)) && list_all is_nonzero (numbers m rest))) (number_back place.line fits.line)
-    ∙ ap (λ n. is_nonzero place.line && (is_nonzero n && list_all is_nonzero (numbers m rest))) (number_back place.col fits.col)
-    ∙ sym (and_assoc (is_nonzero place.line) (is_nonzero place.col) (list_all is_nonzero (numbers m rest)))
+nonzero_more : (line col m : ℕ) (rest : Bytes) → line < 2 ^ 32 → col < 2 ^ 32 → list_all is_nonzero (numbers (suc (suc m)) ((word line ++ word col) ++ rest)) ≡ (is_place line col && list_all is_nonzero (numbers m rest))
+nonzero_more line col m rest line_fits col_fits =
+    ap (λ n. is_nonzero n && (is_nonzero (number_of (word col)) && list_all is_nonzero (numbers m rest))) (number_back line line_fits)
+    ∙ ap (λ n. is_nonzero line && (is_nonzero n && list_all is_nonzero (numbers m rest))) (number_back col col_fits)
+    ∙ sym (and_assoc (is_nonzero line) (is_nonzero col) (list_all is_nonzero (numbers m rest)))
 
-nonzero_places : (places : List Place) → All PlaceFits places → list_all is_nonzero (numbers (2 * length places) (flat_map place_bytes places)) ≡ list_all is_place places
-nonzero_places [] fit = refl
-nonzero_places (place ∷ places) fit =
-    let two : 2 * suc (length places) ≡ suc (suc (2 * length places)) = omega arith in
-    ap (λ n. list_all is_nonzero (numbers n (flat_map place_bytes (place ∷ places)))) two
-    ∙ nonzero_more place (2 * length places) (flat_map place_bytes places) (All-head PlaceFits place places fit)
-    ∙ ap (λ b. is_place place && b) (nonzero_places places (All-tail PlaceFits place places fit))
+-- a place has a line and a column
+has_numbers : (place : Place) → is_place place.line place.col ≡ true
+has_numbers place =
+    let low = place.line_from_one in
+    let left = place.col_from_one in
+    let line : nat_eq place.line 0 ≡ false = ne_eqb place.line 0 (λ e. omega arith) in
+    let col : nat_eq place.col 0 ≡ false = ne_eqb place.col 0 (λ e. omega arith) in
+    rw (line, col) refl
 
-places_refusal : (count field : ℕ) (places : List Place) → All PlaceFits places → length places ≡ count → (place_list count field).refusal (flat_map place_bytes places) ≡ (if list_all is_place places then None else Some (errors.BadField field))
-places_refusal count field places fit same =
-    ap (λ n. zero_refusal field (numbers (2 * n) (flat_map place_bytes places))) (sym same) ∙ ap (λ b. if b then None else Some (errors.BadField field)) (nonzero_places places fit)
+-- numbers of which the first are those of places: what stands behind them decides
+nonzero_behind : (places : List Place) (m : ℕ) (rest : Bytes) → All PlaceFits places → list_all is_nonzero (numbers (2 * length places + m) (flat_map place_bytes places ++ rest)) ≡ list_all is_nonzero (numbers m rest)
+nonzero_behind [] m rest fit = ap (λ n. list_all is_nonzero (numbers n rest)) (let e : 2 * 0 + m ≡ m = omega arith in e)
+nonzero_behind (place ∷ places) m rest fit =
+    let two : 2 * suc (length places) + m ≡ suc (suc (2 * length places + m)) = omega arith in
+    let fits = All-head PlaceFits place places fit in
+    ap (λ n. list_all is_nonzero (numbers n (flat_map place_bytes (place ∷ places) ++ rest))) two
+    ∙ ap (λ b. list_all is_nonzero (numbers (suc (suc (2 * length places + m))) b)) (append_assoc (place_bytes place) (flat_map place_bytes places) rest)
+    ∙ nonzero_more place.line place.col (2 * length places + m) (flat_map place_bytes places ++ rest) fits.line fits.col
+    ∙ ap (λ b. b && list_all is_nonzero (numbers (2 * length places + m) (flat_map place_bytes places ++ rest))) (has_numbers place)
+    ∙ nonzero_behind places m rest (All-tail PlaceFits place places fit)
 
--- places that all have a line and a column
-pub places_good : (count field : ℕ) (places : List Place) (fields : List Field) (rest : Bytes) → All PlaceFits places → length places ≡ count → list_all is_place places ≡ true
+-- places
+pub places_good : (count field : ℕ) (places : List Place) (fields : List Field) (rest : Bytes) → All PlaceFits places → length places ≡ count
     → first_refusal (place_list count field ∷ fields) (flat_map place_bytes places ++ rest) ≡ first_refusal fields rest
-places_good count field places fields rest fit same all =
-    passed (place_list count field) fields (flat_map place_bytes places) rest (places_long places count same) (places_refusal count field places fit same ∙ ap (λ b. if b then None else Some (errors.BadField field)) all)
+places_good count field places fields rest fit same =
+    let all : list_all is_nonzero (numbers (2 * count) (flat_map place_bytes places)) ≡ true =
+    ap (λ n. list_all is_nonzero (numbers n (flat_map place_bytes places))) (let e : 2 * count ≡ 2 * length places + 0 = omega arith in e)
+    ∙ ap (λ b. list_all is_nonzero (numbers (2 * length places + 0) b)) (sym (append-nil (flat_map place_bytes places)))
+    ∙ nonzero_behind places 0 [] fit in
+    passed (place_list count field) fields (flat_map place_bytes places) rest (places_long places count same) (ap (λ b. if b then None else Some (errors.BadField field)) all)
 
--- places of which one doesn't
-pub places_bad : (count field : ℕ) (places : List Place) (fields : List Field) (rest : Bytes) → All PlaceFits places → length places ≡ count → list_all is_place places ≡ false
-    → first_refusal (place_list count field ∷ fields) (flat_map place_bytes places ++ rest) ≡ Some (errors.BadField field)
-places_bad count field places fields rest fit same some =
-    refused (place_list count field) fields (flat_map place_bytes places) rest (errors.BadField field) (places_long places count same) (places_refusal count field places fit same ∙ ap (λ b. if b then None else Some (errors.BadField field)) some)
+-- two numbers of which one is 0, behind places: the bytes that the list has of what follows them
+zero_behind : (places : List Place) (line col m : ℕ) (rest : Bytes) → All PlaceFits places → line < 2 ^ 32 → col < 2 ^ 32 → is_place line col ≡ false
+    → list_all is_nonzero (numbers (2 * length places + suc (suc m)) (flat_map place_bytes places ++ ((word line ++ word col) ++ rest))) ≡ false
+zero_behind places line col m rest fit line_fits col_fits bad =
+    nonzero_behind places (suc (suc m)) ((word line ++ word col) ++ rest) fit
+    ∙ nonzero_more line col m rest line_fits col_fits
+    ∙ ap (λ b. b && list_all is_nonzero (numbers m rest)) bad
+
+-- bytes of which none is wanting, where two numbers behind places are no place
+pub places_bad : (count field : ℕ) (places : List Place) (line col : ℕ) (fields : List Field) (rest : Bytes) → All PlaceFits places → line < 2 ^ 32 → col < 2 ^ 32 → is_place line col ≡ false
+    → length places < count → 8 * count ≤ length (flat_map place_bytes places ++ ((word line ++ word col) ++ rest))
+    → first_refusal (place_list count field ∷ fields) (flat_map place_bytes places ++ ((word line ++ word col) ++ rest)) ≡ Some (errors.BadField field)
+places_bad count field places line col fields rest fit line_fits col_fits bad few there =
+    let k = length places in
+    let m : ℕ = 8 * (count - (k + 1)) in
+    let own : Bytes = flat_map place_bytes places ++ ((word line ++ word col) ++ take m rest) in
+    let placed = places_long places k refl in
+    let enough : m ≤ length rest = omega (arith, length-append (flat_map place_bytes places) ((word line ++ word col) ++ rest), length-append (word line ++ word col) rest) in
+    let taken : length (take m rest) ≡ m = length-take m rest ∙ omega arith in
+    let long : length own ≡ 8 * count = omega (arith, length-append (flat_map place_bytes places) ((word line ++ word col) ++ take m rest), length-append (word line ++ word col) (take m rest)) in
+    let whole_is : flat_map place_bytes places ++ ((word line ++ word col) ++ rest) ≡ own ++ drop m rest =
+    ap (λ b. flat_map place_bytes places ++ ((word line ++ word col) ++ b)) (sym (take-append-drop m rest))
+    ∙ ap (λ b. flat_map place_bytes places ++ b) (sym (append_assoc (word line ++ word col) (take m rest) (drop m rest)))
+    ∙ sym (append_assoc (flat_map place_bytes places) ((word line ++ word col) ++ take m rest) (drop m rest)) in
+    let two : 2 * count ≡ 2 * k + suc (suc (2 * (count - (k + 1)))) = omega arith in
+    let some : list_all is_nonzero (numbers (2 * count) own) ≡ false =
+    ap (λ n. list_all is_nonzero (numbers n own)) two ∙ zero_behind places line col (2 * (count - (k + 1))) (take m rest) fit line_fits col_fits bad in
+    ap (λ b. first_refusal (place_list count field ∷ fields) b) whole_is
+    ∙ refused (place_list count field) fields own (drop m rest) (errors.BadField field) long (ap (λ b. if b then None else Some (errors.BadField field)) some)
 
 -- an error of what is the same refusal
 pub cause_along : (error : ImageError) (a b : Option ImageError) → a ≡ b → IsCause error b → IsCause error a

@@ -4,7 +4,6 @@ use Rattle.std.specs.List.{flat_map}
 use Rattle.std.proofs.lemmas.Bool.{le-ltb}
 use Rattle.std.proofs.lemmas.List.{append-nil}
 use Rattle.fy_base.specs.Outside.{Bytes}
-use Rattle.fy_image.specs.Ranges.{IsPlace}
 use Rattle.fy_image.specs.Form.{magic, word, double, place_bytes, body_of, spelling_of, PlaceFits, FitsFields}
 use Rattle.fy_image.specs.Reading.{body_refusal, header_bytes, HeaderFits}
 use Rattle.fy_image.specs.Refusals.{or_else, number_at, version_1, fields_1, first_refusal, magic_refusal, refusal_of}
@@ -35,8 +34,8 @@ body_read header image r0 r1 r2 r3 r4 e0 e1 e2 e3 e4 s c t n =
 
 -- an image of what was read fits its fields
 pub image_fits : (header : Header) (image : Image) → HeaderFits header → header.stack_words ≡ image.stack_words → length image.code ≡ header.code_words → length image.table ≡ header.table_words → length image.places ≡ header.places
-    → All (λ k. k < 2 ^ 32) image.code → All (λ k. k < 2 ^ 64) image.table → All PlaceFits image.places → All IsPlace image.places → FitsFields image
-image_fits header image fits s c t n code table places are = record {
+    → All (λ k. k < 2 ^ 32) image.code → All (λ k. k < 2 ^ 64) image.table → All PlaceFits image.places → FitsFields image
+image_fits header image fits s c t n code table places = record {
   ranges = record {
     stack_least = omega (arith, fits.stack_least);
     stack_most = omega (arith, fits.stack_most);
@@ -44,7 +43,6 @@ image_fits header image fits s c t n code table places are = record {
     code_most = omega (arith, fits.code_most);
     table_most = omega (arith, fits.table_most);
     places_most = omega (arith, fits.places_most);
-    places_are = are;
   };
   code = code;
   table = table;

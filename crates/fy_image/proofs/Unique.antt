@@ -1,10 +1,10 @@
 -- Bytes are those of at most one image, and aren't refused then.
-use Rattle.std.proofs.Common.{◌≡◌, ℕ, ◌*◌, ◌^◌, ◌<◌, ◌≤◌, true, false, ltb, eqb, List, [], ◌∷◌, ◌++◌, length, length-append, All, take, drop, append_assoc, sym, ap, ◌∙◌, refl, arith, subst, None, Option}
-use Rattle.std.specs.List.{flat_map, list_all}
+use Rattle.std.proofs.Common.{◌≡◌, ℕ, ◌*◌, ◌^◌, ◌<◌, ◌≤◌, false, ltb, List, [], ◌∷◌, ◌++◌, length, length-append, All, take, drop, append_assoc, sym, ap, ◌∙◌, refl, arith, subst, None, Option}
+use Rattle.std.specs.List.{flat_map}
 use Rattle.std.specs.Prelude.{MatchResult}
 use Rattle.std.specs.declared.result.Result.{Result}
 use Rattle.std.specs.declared.result.Result.TheVariants.{Ok, Err}
-use Rattle.std.proofs.lemmas.Bool.{le-ltb, ne_eqb}
+use Rattle.std.proofs.lemmas.Bool.{le-ltb}
 use Rattle.std.proofs.lemmas.List.{append-nil}
 use Rattle.std.proofs.lemmas.List.Elements.{All-head, All-tail}
 use Rattle.std.proofs.lemmas.Nat.{from_le_bytes-to_le_bytes_8}
@@ -12,9 +12,9 @@ use Rattle.std.specs.Int.{w64, from_le_bytes}
 use Rattle.std.proofs.Math.Seq.{take-append_seam, drop-append_seam}
 use Rattle.fy_base.specs.Outside.{Bytes}
 use Rattle.fy_base.specs.declared.data.Place.{Place}
-use Rattle.fy_image.specs.Ranges.{IsPlace}
+use Rattle.fy_base.proofs.PlaceLemmas.{place-equal}
 use Rattle.fy_image.specs.Form.{magic, word, double, place_bytes, body_of, spelling_of, PlaceFits, FitsFields, IsImageBytes}
-use Rattle.fy_image.specs.Reading.{is_place, body_refusal}
+use Rattle.fy_image.specs.Reading.{body_refusal}
 use Rattle.fy_image.specs.Refusals.{IsCause, IsJudged, place_list, number_of, number_at, first_refusal, magic_refusal, refusal_of}
 use Rattle.fy_image.specs.declared.image.Image.{Image}
 use Rattle.fy_image.specs.declared.error.ImageError.{ImageError}
@@ -34,7 +34,7 @@ place_same : (x y : Place) → PlaceFits x → PlaceFits y → place_bytes x ≡
 place_same x y fx fy same =
     let line = word_same x.line y.line fx.line fy.line (ap (λ b. take 4 b) same) in
     let col = word_same x.col y.col fx.col fy.col (ap (λ b. drop 4 b) same) in
-    λ t. record { line = line t; col = col t }
+    place-equal x y line col
 
 front_same : (a b c d : Bytes) (size : ℕ) → length a ≡ size → length b ≡ size → a ++ c ≡ b ++ d → (a ≡ b) × (c ≡ d)
 front_same a b c d size la lb same = (
@@ -98,14 +98,6 @@ image_same a b bytes ia ib =
     let same = sym ia.spelled ∙ ib.spelled in
     body_same a b ia.fits ib.fits (ap (λ x. drop 12 x) same)
 
-all_places : (places : List Place) → All IsPlace places → list_all is_place places ≡ true
-all_places [] are = refl
-all_places (place ∷ places) are =
-    let here = All-head IsPlace place places are in
-    let line : eqb place.line 0 ≡ false = ne_eqb place.line 0 (λ e. omega (arith, here.line)) in
-    let col : eqb place.col 0 ≡ false = ne_eqb place.col 0 (λ e. omega (arith, here.col)) in
-    rw (line, col) (all_places places (All-tail IsPlace place places are))
-
 -- the bytes of an image behind the version aren't refused
 body_accepted : (image : Image) → FitsFields image → body_refusal (body_of image) ≡ None
 unfolding body_of
@@ -125,7 +117,7 @@ body_accepted image fits =
     ∙ any_good (4 * c) _ (flat_map word image.code) _ (words_long image.code c refl)
     ∙ any_good (8 * t) _ (flat_map double image.table) _ (doubles_long image.table t refl)
     ∙ ap (λ b. first_refusal (place_list n 6 ∷ []) b) (sym (append-nil (flat_map place_bytes image.places)))
-    ∙ places_good n 6 image.places [] [] fits.places refl (all_places image.places ranges.places_are)
+    ∙ places_good n 6 image.places [] [] fits.places refl
     ∙ end_good [] refl
 
 -- an image isn't too large

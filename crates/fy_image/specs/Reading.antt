@@ -1,10 +1,9 @@
 -- Reading field by field: what each part of the reader tells of the first refusal.
-use Rattle.std.specs.Prelude.{◌≡◌, ◌≤◌, ◌&&◌, Bool, not, nat_eq, List, ◌∷◌, ◌++◌}
+use Rattle.std.specs.Prelude.{◌≡◌, ℕ, ◌≤◌, ◌&&◌, Bool, not, nat_eq, List, ◌∷◌, ◌++◌}
 use Rattle.std.specs.declared.option.Option.{Option}
 use Rattle.std.specs.declared.result.Result.{Result}
 use Rattle.std.specs.declared.result.Result.TheVariants.{Ok, Err}
 use Rattle.fy_base.specs.Outside.{Bytes}
-use Rattle.fy_base.specs.declared.data.Place.{Place}
 use Rattle.fy_image.specs.Form.{word}
 use Rattle.fy_image.specs.Refusals.{Field, IsCause, fields_1, first_refusal, lists_1, number_at}
 use Rattle.fy_image.specs.declared.error.ImageError.{ImageError}
@@ -15,9 +14,9 @@ abbrev pub Judges : {T : Type 0} → Result T ImageError → Field → Bytes →
 Judges (Ok value) field before now = (fields : List Field) → first_refusal (field ∷ fields) before ≡ first_refusal fields now
 Judges (Err error) field before now = (fields : List Field) → IsCause error (first_refusal (field ∷ fields) before)
 
--- whether a place has a line and a column
-abbrev pub is_place : Place → Bool
-is_place place = not (nat_eq place.line 0) && not (nat_eq place.col 0)
+-- whether a line and a column both count from 1
+abbrev pub is_place : ℕ → ℕ → Bool
+is_place line col = not (nat_eq line 0) && not (nat_eq col 0)
 
 -- the first refusal behind the version; the counts stand at the offsets 4, 8 and 12 there
 unfoldable pub body_refusal : Bytes → Option ImageError

@@ -1,8 +1,7 @@
 //! Bytes that are taken field by field.
 
-ghost use Rattle.std.specs.Prelude.{◌≡◌, ◌*◌, ◌%◌, ◌^◌, [], ◌++◌, All, ◌<◌, ◌≤◌, length, List, IfOk, IfErr, OnOk, MatchResult, None, Some};
-ghost use Rattle.std.specs.List.{flat_map, list_all};
-ghost use Rattle.fy_image.specs.Ranges.{IsPlace};
+ghost use Rattle.std.specs.Prelude.{◌≡◌, ◌*◌, ◌%◌, ◌^◌, [], ◌++◌, All, ◌<◌, ◌≤◌, length, List, IfOk, IfErr, OnOk, MatchOption, MatchResult, None, Some, false};
+ghost use Rattle.std.specs.List.{flat_map};
 ghost use Rattle.fy_base.specs.Outside.{Bytes};
 ghost use Rattle.fy_image.specs.Form.{PlaceFits, magic, word, double, place_bytes};
 ghost use Rattle.fy_image.specs.Reading.{Judges, is_place};
@@ -89,15 +88,15 @@ impl<'a> Fields<'a> {
         Ok(double_of(self.take(8)?))
     }
 
-    /// Takes a place: its line, then its column.
-    fn place(&mut self) -> Result<Place, ImageError>
-        ensures taken { IfOk result (λ place. self.old ≡ place_bytes place ++ self.new) }
-        ensures fits { IfOk result (λ place. PlaceFits place) }
+    /// Takes two numbers of four bytes.
+    fn two_numbers(&mut self) -> Result<(u32, u32), ImageError>
+        ensures taken { IfOk result (λ two. self.old ≡ (word two.0 ++ word two.1) ++ self.new) }
+        ensures fit { IfOk result (λ two. (two.0 < 2 ^ 32) × (two.1 < 2 ^ 32)) }
         ensures cut { IfErr result (λ e. (e ≡ errors.Truncated) × (length self.old < 8)) }
     {
-        let line = self.number()?;
-        let col = self.number()?;
-        Ok(Place { line, col })
+        let first = self.number()?;
+        let second = self.number()?;
+        Ok((first, second))
     }
 
     /// Takes a number of four bytes, which has to be in a range.
@@ -142,20 +141,24 @@ impl<'a> Fields<'a> {
         Ok(doubles)
     }
 
-    /// Takes so many places.
+    /// Takes so many places, each its line and then its column. Where bytes are wanting for them no
+    /// place is judged.
     pub fn places(&mut self, alloc: Global, count: u32, field: u8) -> Result<PlaceList, ImageError>
         ensures taken { IfOk result (λ places. self.old ≡ flat_map place_bytes places ++ self.new) }
         ensures count { IfOk result (λ places. length places ≡ count) }
         ensures fit { IfOk result (λ places. All PlaceFits places) }
-        ensures are { IfOk result (λ places. All IsPlace places) }
         ensures judged { Judges result (place_list count field) self.old self.new }
     {
+        if self.rest.len() < 8 * count as usize {
+            return Err(ImageError::Truncated);
+        }
         let mut places = PlaceList::new(alloc);
         for _ in 0..count {
-            places.push(self.place()?)?;
-        }
-        if !are_places(places.as_slice()) {
-            return Err(ImageError::BadField(field));
+            let (line, col) = self.two_numbers()?;
+            match place_in(line, col) {
+                Some(place) => places.push(place)?,
+                None => return Err(ImageError::BadField(field)),
+            }
         }
         Ok(places)
     }
@@ -185,9 +188,12 @@ fn double_of(bytes: &[u8]) -> u64
     u64::from_le_bytes(eight)
 }
 
-// Whether no line and no column is 0.
-fn are_places(places: &[Place]) -> bool
-    ensures { result ≡ list_all is_place places.now }
+// The place in a line and a column, unless one of them is 0.
+fn place_in(line: u32, col: u32) -> Option<Place>
+    ensures { MatchOption result (is_place line col ≡ false) (λ place. (place.line ≡ line) × (place.col ≡ col)) }
 {
-    places.iter().all(|place| place.line != 0 && place.col != 0)
+    if line == 0 || col == 0 {
+        return None;
+    }
+    Some(Place { line, col })
 }

@@ -8,6 +8,6 @@ returns-clause-found c =
     let w = c.in_ok-code.ensures in
     let t = c.in_ok-table.ensures in
     let n = c.in_ok-places.ensures in (
-      image_fits c.in_ok-header.header _ h.ranges refl w.count t.count n.count w.fit t.fit n.fit n.are,
+      image_fits c.in_ok-header.header _ h.ranges refl w.count t.count n.count w.fit t.fit n.fit,
       body_read c.in_ok-header.header _ _ _ _ _ _ h.taken w.taken t.taken n.taken c.in_ok-end.ensures.done refl w.count t.count n.count,
     )

@@ -1,4 +1,4 @@
-use Rattle.std.proofs.Common.{◌≡◌, ◌++◌, length, All}
+use Rattle.std.proofs.Common.{◌≡◌, ◌≤◌, ◌*◌, ◌++◌, length, All}
 use Rattle.std.specs.List.{flat_map}
 use Rattle.fy_image.specs.Form.{place_bytes, PlaceFits}
 use Rattle.fy_image.proofs.fields.Fields.places.Given as goal
@@ -8,4 +8,5 @@ invariant-loop l = record {
   taken : l.initial.self ≡ flat_map place_bytes l.places ++ l.self;
   count : length l.places ≡ l.counter;
   fit : All PlaceFits l.places;
+  there : 8 * l.count ≤ length l.initial.self;
 }
