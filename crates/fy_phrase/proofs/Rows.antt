@@ -1,7 +1,8 @@
 -- Worked runs.
-use Rattle.std.proofs.Common.{◌≡◌, ℕ, [], refl, pos}
+use Rattle.std.proofs.Common.{◌≡◌, ℕ, ◌-◌, [], refl, pos}
 use Rattle.std.specs.Fmt.{decimal}
 use Rattle.fy_base.specs.declared.data.Place.{Place}
+use Rattle.fy_base.specs.Places.{columns_on, first_place}
 use Rattle.fy_base.specs.declared.data.Datum.TheVariants as datum
 use Rattle.fy_base.specs.declared.data.BinOp.TheVariants.{Add}
 use Rattle.fy_base.specs.declared.data.PutKind.TheVariants as kind
@@ -13,7 +14,7 @@ use Rattle.fy_phrase.specs.Tree.{Tree, lit, binary, skip, put, var, lam, app, le
 use Rattle.fy_phrase.specs.Copy.{going, ended, faulted, after_more, copy_after, peak_load}
 
 at_column : ℕ → Place
-at_column col = record { line = 1; col = col }
+at_column col = columns_on (col - 1) first_place
 
 -- `putint(1+2)`, without what stands around a whole program
 abbrev one_and_two : Tree
