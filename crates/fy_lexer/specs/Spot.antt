@@ -2,10 +2,11 @@
 use Rattle.std.specs.Prelude.{◌≡◌, ℕ, ◌+◌, ◌==◌, if◌then◌else◌, [], ◌∷◌, ◌++◌}
 use Rattle.fy_base.specs.Outside.{Bytes}
 use Rattle.fy_base.specs.declared.data.Place.{Place}
+use Rattle.fy_base.specs.Places.{next_line, columns_on}
 
 -- the place of the byte behind one that stands at a place: a line ends at byte 10, and a column counts bytes
 abbrev pub past_byte : Place → ℕ → Place
-past_byte at b = if b == 10 then record { line = at.line + 1; col = 1 } else record { line = at.line; col = at.col + 1 }
+past_byte at b = if b == 10 then next_line at else columns_on 1 at
 
 -- the place behind bytes that begin at a place
 abbrev pub past : Place → Bytes → Place

@@ -1,6 +1,7 @@
 -- The tokens of a text, and its first fault.
 use Rattle.std.specs.Prelude.{◌≡◌, ℕ, ◌+◌, ◌-◌, ◌^◌, ◌≤◌, IsTrue, not, ◌==◌, pos, ◌≤ℤ◌, List, [], ◌∷◌, ◌++◌, length, ◌⊎◌}
 use Rattle.fy_base.specs.Outside.{Bytes}
+use Rattle.fy_base.specs.Places.{first_place}
 use Rattle.fy_types.specs.Names.{with_name}
 use Rattle.fy_lexer.specs.declared.error.LexError.{LexError}
 use Rattle.fy_lexer.specs.declared.error.LexError.TheVariants.{BadByte, Unclosed, NumberTooLarge, TooManyTokens, OutOfMemory}
@@ -55,7 +56,7 @@ pub data Steps : Reading → Reading → Type 0 where
 
 -- the beginning of a text
 abbrev pub start_of : List Bytes → Bytes → Reading
-start_of names text = record { spot = record { rest = text; place = record { line = 1; col = 1 } }; names = names; tokens = [] }
+start_of names text = record { spot = record { rest = text; place = first_place }; names = names; tokens = [] }
 
 -- these are the tokens of the text, which is pieces end to end; the end comes last, just past the last byte
 pub record IsTokensOf (names : List Bytes) (text : Bytes) (tokens : List Token) (after : List Bytes) : Type 0 where

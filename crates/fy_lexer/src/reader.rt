@@ -2,6 +2,7 @@
 
 ghost use Rattle.std.specs.Prelude.{◌≡◌, ◌<◌, ◌+◌, ◌^◌, length, MatchOption, slice_get, IsTrue};
 ghost use Rattle.std.specs.List.{list_all, prefix_len};
+ghost use Rattle.fy_base.specs.Places.{first_place};
 ghost use Rattle.fy_types.specs.Words.{is_digit, is_letter, is_name_byte};
 ghost use Rattle.fy_lexer.specs.Pieces.{is_blank};
 ghost use Rattle.fy_lexer.specs.Reading.{passes};
@@ -68,7 +69,7 @@ pub(crate) struct Reader<'a> {
 }
 
 impl<'a> Model for Reader<'a> {
-    ghost use Rattle.std.specs.Prelude.{ℕ, ◌<◌, ◌≤◌, ◌+◌, ◌^◌, length};
+    ghost use Rattle.std.specs.Prelude.{ℕ, ◌<◌, ◌+◌, ◌^◌, length};
     ghost use Rattle.fy_lexer.specs.Spot.{Spot};
 
     ghost Value = { Spot };
@@ -76,20 +77,18 @@ impl<'a> Model for Reader<'a> {
     ghost view = { λ reader. record { rest = reader.rest.now; place = reader.place } };
 
     // A step that makes the line or the column greater leaves one byte fewer.
-    ghost invariant = { λ reader.
-        (reader.place.line + reader.place.col + length reader.rest.now < 2 ^ 32)
-        × (1 ≤ reader.place.col) };
+    ghost invariant = { λ reader. reader.place.line + reader.place.col + length reader.rest.now < 2 ^ 32 };
 }
 
 impl<'a> Reader<'a> {
     /// A reader at the beginning of a text.
     pub fn new(text: &'a [u8]) -> Reader<'a>
         requires { length text.now < 2 ^ 31 }
-        ensures { result ≡ record { rest = text.now; place = record { line = 1; col = 1 } } }
+        ensures { result ≡ record { rest = text.now; place = first_place } }
     {
         Reader {
             rest: text,
-            place: Place { line: 1, col: 1 },
+            place: Place::first(),
         }
     }
 
@@ -113,12 +112,11 @@ impl<'a> Reader<'a> {
     {
         let byte = *self.rest.first()?;
         self.rest = &self.rest[1..];
-        if byte == b'\n' {
-            self.place.line += 1;
-            self.place.col = 1;
+        self.place = if byte == b'\n' {
+            self.place.next_line()
         } else {
-            self.place.col += 1;
-        }
+            self.place.columns_on(1)
+        };
         Some(byte)
     }
 

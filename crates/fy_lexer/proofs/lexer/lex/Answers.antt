@@ -1,7 +1,10 @@
 use Rattle.std.proofs.Common.{◌≡◌, length, refl, sym, ap, subst, ◌∙◌, arith, [], ◌∷◌, ◌++◌}
+use Rattle.std.proofs.lemmas.Result.{err_from_is_err_and}
+use Rattle.fy_lexer.specs.declared.error.LexError.TheVariants.{OutOfMemory}
 use Rattle.fy_lexer.specs.declared.token.TokenKind.TheVariants.{End}
 use Rattle.fy_lexer.specs.Reading.{reading_of}
-use Rattle.fy_lexer.specs.Tokens.{AreWithin, IsWithin, Steps, none, start_of}
+use Rattle.fy_lexer.specs.Tokens.{AreWithin, IsFaultOf, IsWithin, Steps, none, start_of}
+use Rattle.fy_lexer.proofs.ReadingLemmas.{IfErr-handed}
 use Rattle.fy_lexer.proofs.NamesLemmas.{HasAdded-none, HasAdded-then}
 use Rattle.fy_lexer.proofs.StepLemmas.{Steps-push, AreWithin-end, none_left}
 use Rattle.fy_lexer.proofs.lexer.lex.Goals as goal
@@ -36,3 +39,17 @@ returns-clause-ok c =
 
 pub returns-clause-within : goal.returns-clause-within
 returns-clause-within c = subst AreWithin (sym c.in_ok-push.ensures.items) (AreWithin-end c.loop-byte.tokens.items _ c.loop-byte.invariant.1 refl)
+
+pub returns-in_err-step-clause-err : goal.returns-in_err-step-clause-err
+returns-in_err-step-clause-err c =
+    let p = err_from_is_err_and c.from_residual.result c.from_residual.ensures.1 in
+    let l = c.loop-byte in
+    IfErr-handed _ c.from_residual.result p.0 _ p.1 p.2
+    (record { here = reading_of l.reader l.names l.tokens.items; steps = l.invariant.0; within = l.invariant.1; fault = c.in_err-step.ensures.err })
+
+pub returns-in_err-push-clause-err : goal.returns-in_err-push-clause-err
+returns-in_err-push-clause-err c =
+    let p = err_from_is_err_and c.from_residual-in_err-push.result c.from_residual-in_err-push.ensures.1 in
+    let l = c.loop-byte in
+    IfErr-handed (IsFaultOf c.args.names.now c.args.text.now) c.from_residual-in_err-push.result p.0 OutOfMemory p.1 p.2
+    (record { here = reading_of l.reader l.names l.tokens.items; steps = l.invariant.0; within = l.invariant.1; fault = tt })
