@@ -1,4 +1,5 @@
 pub mod Trees
+pub mod TreeNames
 pub mod Reading
 pub mod Signs
 pub mod Spells
