@@ -5,6 +5,7 @@ pub mod ClassLemmas
 pub mod LiteralLemmas
 pub mod WordLemmas
 pub mod NamesLemmas
+pub mod IdentifierLemmas
 pub mod StepLemmas
 pub mod SameLemmas
 pub mod UniqueLemmas

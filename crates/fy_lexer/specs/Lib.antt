@@ -2,4 +2,5 @@ pub mod Spellings
 pub mod Spot
 pub mod Pieces
 pub mod Tokens
+pub mod Identifiers
 pub mod Reading

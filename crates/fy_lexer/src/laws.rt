@@ -4,6 +4,7 @@ ghost use Rattle.std.specs.Prelude.{◌≡◌, ◌≢◌, List};
 ghost use Rattle.fy_base.specs.Outside.{Bytes};
 ghost use Rattle.fy_lexer.specs.declared.error.LexError.{LexError};
 ghost use Rattle.fy_lexer.specs.declared.token.Token.{Token};
+ghost use Rattle.fy_lexer.specs.Identifiers.{IdentifiersAreNamed};
 ghost use Rattle.fy_lexer.specs.Tokens.{AreWithin, IsFaultOf, IsTokensOf};
 
 /// A text has at most one list of tokens, at most one first fault, and within the limits not both.
@@ -17,4 +18,10 @@ pub fn tokens_are_unique()
     ensures apart { (names : List Bytes) (text : Bytes) (tokens : List Token) (after : List Bytes) (error : LexError)
         → error ≢ LexError.OutOfMemory → IsTokensOf names text tokens after → AreWithin tokens
         → ¬ IsFaultOf names text error }
+{}
+
+/// The predefined names are identifiers. Where the names before a text are, so are those behind it, and
+/// each identifier among its tokens has its number among these. It does nothing: its contract is the law.
+pub fn identifiers_are_named()
+    ensures { IdentifiersAreNamed }
 {}

@@ -9,6 +9,6 @@ mod reader;
 mod token;
 
 pub use error::LexError;
-pub use laws::tokens_are_unique;
+pub use laws::{identifiers_are_named, tokens_are_unique};
 pub use lexer::lex;
 pub use token::{Keyword, Symbol, Token, TokenKind};
