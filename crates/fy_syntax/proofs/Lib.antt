@@ -4,6 +4,7 @@ pub mod TypesComplete
 pub mod Fronts
 pub mod Complete
 pub mod Unique
+pub mod NameLemmas
 pub mod RangeLemmas
 pub mod KindTexts
 pub mod WrittenLemmas

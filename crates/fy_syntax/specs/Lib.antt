@@ -3,6 +3,7 @@ pub mod TreeNames
 pub mod Reading
 pub mod Signs
 pub mod Spells
+pub mod NameLaws
 pub mod Nesting
 pub mod Reader
 pub mod Print
