@@ -14,4 +14,5 @@ pub mod KeepLemmas
 pub mod CommonLemmas
 pub mod NameLemmas
 pub mod NestLemmas
+pub mod FieldLemmas
 pub mod PrintLemmas

@@ -1,10 +1,10 @@
 -- How deep types nest that are made of path forms.
-use Rattle.std.proofs.Common.{ℕ, ◌+◌, ◌<◌, ◌≡◌, max, List, [], ◌∷◌, ◌++◌, length, map, take, drop, get_or, refl, sym, ap, ◌∙◌, arith}
+use Rattle.std.proofs.Common.{ℕ, ◌+◌, ◌<◌, ◌≡◌, max, List, [], ◌∷◌, ◌++◌, length, map, take, get_or, refl, sym, ap, ◌∙◌, arith}
 use Rattle.std.proofs.lemmas.List.{map-append, take_more}
 use Rattle.fy_types.specs.declared.types.Ty.{Ty}
 use Rattle.fy_types.specs.declared.paths.Path.{Path}
 use Rattle.fy_types.specs.Types.{PlainType}
-use Rattle.fy_types.specs.Paths.{PlainPath, PlainPaths, no_paths, and_path}
+use Rattle.fy_types.specs.Paths.{PlainPath, no_paths, and_path}
 use Rattle.fy_types.specs.Reading.{PlainElem, a_call, a_field, front, all_front, plain_type, types_from, plain_path, paths_from}
 use Rattle.fy_types.specs.Limits.{nesting, all_nesting}
 use Rattle.fy_types.specs.Keeping.{elem_nesting}

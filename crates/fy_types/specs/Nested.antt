@@ -3,6 +3,7 @@ use Rattle.std.specs.Prelude.{ℕ, suc, ◌+◌, ◌*◌, ◌≤◌, ◌≡◌, 
 use Rattle.fy_types.specs.Types.{PlainType, PlainTypes, ns, atom, arrow, field, meet, no_types, and_type}
 use Rattle.fy_types.specs.Paths.{PlainPaths, paths}
 use Rattle.fy_types.specs.Limits.{all_nesting}
+use Rattle.fy_types.specs.Fields.{HasFullMeets, fields_in, fields_in_form}
 
 abbrev mutual
   -- the number of nodes
@@ -30,6 +31,7 @@ abbrev mutual
   types_nesting no_types = 0
   types_nesting (and_type A As) = max (type_nesting A) (types_nesting As)
 
--- a type with the paths, which nests at most twice as deep as they do and one more
+-- a type with the paths, which nests at most twice as deep as they do and one more, with full meets and with their fields
 abbrev pub IsTypeOf : PlainPaths → PlainType → Type 0
-IsTypeOf P A = (paths A ≡ P) × (type_nesting A ≤ 2 * all_nesting P + 1)
+IsTypeOf P A =
+    (paths A ≡ P) × (type_nesting A ≤ 2 * all_nesting P + 1) × HasFullMeets A × (fields_in A ≡ fields_in_form P)

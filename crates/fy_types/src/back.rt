@@ -1,6 +1,16 @@
 //! The type of a path form.
 
-ghost use Rattle.std.specs.Prelude.{◌≡◌, ◌+◌, ◌*◌, ◌≤◌, max, IfOk, map};
+ghost use Rattle.std.specs.Prelude.{◌≡◌, ◌+◌, ◌*◌, ◌≤◌, ◌++◌, max, IfOk, length, map};
+ghost use Rattle.fy_types.specs.Fields.{
+  AreSome,
+  HasFullMeets,
+  HaveFullMeets,
+  fields_in,
+  fields_in_all,
+  fields_in_elem,
+  fields_in_form,
+  fields_in_path,
+};
 ghost use Rattle.fy_types.specs.Keeping.{elem_nesting};
 ghost use Rattle.fy_types.specs.Limits.{all_nesting, nesting as nesting_of};
 ghost use Rattle.fy_types.specs.Nested.{type_nesting, types_nesting};
@@ -12,11 +22,14 @@ use crate::types::{Ty, TyList};
 use fy_base::OutOfMemory;
 use std::alloc::Global;
 
-/// A type with these paths, in this order.
+/// A type with these paths, in this order. It has a meet only where there are two members or more,
+/// and exactly the fields of the paths, in their order.
 #[cycle(back)]
 pub fn ty_of(alloc: Global, form: &Paths) -> Result<Ty, OutOfMemory>
     ensures made { IfOk result (λ ty. paths (plain_type ty) ≡ plain_paths form.now) }
     ensures nesting { IfOk result (λ ty. type_nesting (plain_type ty) ≤ 2 * all_nesting (plain_paths form.now) + 1) }
+    ensures full { IfOk result (λ ty. HasFullMeets (plain_type ty)) }
+    ensures fields { IfOk result (λ ty. fields_in (plain_type ty) ≡ fields_in_form (plain_paths form.now)) }
 {
     let list = form.as_slice();
     match list {
@@ -32,6 +45,10 @@ fn types_of(alloc: Global, list: &[Path]) -> Result<TyList, OutOfMemory>
         (λ all. types_nesting (plain_types all) ≤ 2 * all_nesting (paths_from (map plain_path list.now))) }
     ensures made { IfOk result
         (λ all. all_paths (plain_types all) ≡ paths_from (map plain_path list.now)) }
+    ensures full { IfOk result (λ all. HaveFullMeets (plain_types all)) }
+    ensures some { IfOk result (λ all. 2 ≤ length list.now → AreSome (plain_types all)) }
+    ensures fields { IfOk result
+        (λ all. fields_in_all (plain_types all) ≡ fields_in_form (paths_from (map plain_path list.now))) }
 {
     let mut all = TyList::new(alloc);
     for path in list {
@@ -44,6 +61,8 @@ fn types_of(alloc: Global, list: &[Path]) -> Result<TyList, OutOfMemory>
 fn ty_of_path(alloc: Global, path: &Path) -> Result<Ty, OutOfMemory>
     ensures nesting { IfOk result (λ ty. type_nesting (plain_type ty) ≤ 2 * nesting_of (plain_path path.now)) }
     ensures made { IfOk result (λ ty. paths (plain_type ty) ≡ and_path (plain_path path.now) no_paths) }
+    ensures full { IfOk result (λ ty. HasFullMeets (plain_type ty)) }
+    ensures fields { IfOk result (λ ty. fields_in (plain_type ty) ≡ fields_in_path (plain_path path.now)) }
 {
     let elems = path.elems.as_slice();
     let mut ty = Ty::Atom(path.end);
@@ -59,6 +78,9 @@ fn ty_behind(alloc: Global, elem: &PathElem, rest: Ty) -> Result<Ty, OutOfMemory
         (λ ty. type_nesting (plain_type ty) ≤ max (2 * elem_nesting (plain_elem elem.now) + 1) (type_nesting (plain_type rest)) + 1) }
     ensures made { IfOk result
         (λ ty. paths (plain_type ty) ≡ all_front (plain_elem elem.now) (paths (plain_type rest))) }
+    ensures full { IfOk result (λ ty. HasFullMeets (plain_type rest) → HasFullMeets (plain_type ty)) }
+    ensures fields { IfOk result
+        (λ ty. fields_in (plain_type ty) ≡ fields_in_elem (plain_elem elem.now) ++ fields_in (plain_type rest)) }
 {
     match elem {
         PathElem::Call(domain) => Ok(Ty::Arrow(

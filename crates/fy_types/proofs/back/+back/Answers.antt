@@ -1,5 +1,5 @@
-use Rattle.std.proofs.Common.{◌++◌, [], ◌∷◌, map, take, sym, ap, ◌∙◌, arith}
-use Rattle.std.proofs.lemmas.List.{map-append, take_more, take_all}
+use Rattle.std.proofs.Common.{◌++◌, [], ◌∷◌, length, map, take, sym, ap, ◌∙◌, subst, arith}
+use Rattle.std.proofs.lemmas.List.{length-append, map-append, take_more, take_all}
 use Rattle.fy_types.specs.Limits.{all_nesting}
 use Rattle.fy_types.specs.Nested.{types_nesting}
 use Rattle.fy_types.specs.Paths.{and_path, no_paths, append, paths, all_paths}
@@ -8,6 +8,8 @@ use Rattle.fy_types.proofs.Laws.{append-none}
 use Rattle.fy_types.proofs.ReadLemmas.{plain_types-at}
 use Rattle.fy_types.proofs.Making.{all_paths-append, made-push}
 use Rattle.fy_types.proofs.NestLemmas.{types-more, paths-more}
+use Rattle.fy_types.specs.Fields.{AreSome, fields_in, HaveFullMeets, fields_in_all, fields_in_form}
+use Rattle.fy_types.proofs.FieldLemmas.{full-more, fields-more, form-more, some-types}
 use Rattle.fy_types.proofs.back.+back.Goals as goal
 
 pub types_of-loop-path-preserved : goal.types_of-loop-path-preserved
@@ -33,6 +35,13 @@ types_of-loop-path-preserved t c =
         c.in_ok-ty_of_path.ensures.nesting,
         c.loop-path.invariant.nesting,
       );
+      full = full-more old (types_in c.push.new.self) item c.in_ok-push.ensures.ok c.loop-path.invariant.full c.in_ok-ty_of_path.ensures.full;
+      count = omega (arith, ap length c.in_ok-push.ensures.ok, length-append old (item ∷ []), c.loop-path.invariant.count);
+      fields =
+          fields-more old (types_in c.push.new.self) item c.in_ok-push.ensures.ok
+          ∙ (ap (λ l. l ++ fields_in (plain_type item)) c.loop-path.invariant.fields
+          ∙ (ap (λ l. fields_in_form (paths_from (map plain_path (take c.loop-path.path-index c.args.list.now))) ++ l) c.in_ok-ty_of_path.ensures.fields
+          ∙ sym (form-more c.args.list.now c.loop-path.path-index c.path-item.result c.loop-path-test.true c.path-item.is)));
     }
 
 pub types_of-returns-clause-made : goal.types_of-returns-clause-made
@@ -48,3 +57,17 @@ types_of-returns-clause-nesting t c = omega (
   c.loop-path.invariant.nesting,
   ap (λ ys. all_nesting (paths_from (map plain_path ys))) (take_all c.loop-path.path-index c.args.list.now c.loop-path-test.false),
 )
+
+pub types_of-returns-clause-full : goal.types_of-returns-clause-full
+types_of-returns-clause-full t c = subst HaveFullMeets (sym (plain_types-at c.loop-path.all)) c.loop-path.invariant.full
+
+pub types_of-returns-clause-some : goal.types_of-returns-clause-some
+types_of-returns-clause-some t c = λ many.
+    subst AreSome (sym (plain_types-at c.loop-path.all))
+    (some-types (types_in c.loop-path.all) (omega (arith, c.loop-path.invariant.count, c.loop-path-test.false)))
+
+pub types_of-returns-clause-fields : goal.types_of-returns-clause-fields
+types_of-returns-clause-fields t c =
+    ap fields_in_all (plain_types-at c.loop-path.all)
+    ∙ (c.loop-path.invariant.fields
+    ∙ ap (λ ys. fields_in_form (paths_from (map plain_path ys))) (take_all c.loop-path.path-index c.args.list.now c.loop-path-test.false))
