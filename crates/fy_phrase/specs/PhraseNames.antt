@@ -1,6 +1,6 @@
--- The names in a core phrase: of its fields, its selections and the types that it is written with.
+-- The names in a core phrase, of its fields, its selections and the types that it is written with; and the meets of these types.
 use Rattle.std.specs.Prelude.{ℕ}
-use Rattle.fy_types.specs.Fields.{AllFields, AllFieldsOf}
+use Rattle.fy_types.specs.Fields.{AllFields, AllFieldsOf, HasFullMeets, HaveFullMeets}
 use Rattle.fy_phrase.specs.Tree.{Tree, Trees, no_trees, and_tree, var, lit, unary, binary, cond, case, lam, app, field, sel, merge, let_in, rec, skip, seq, assign, while_do, forever, new, escape, accept, put, read, mark}
 
 abbrev mutual
@@ -34,3 +34,35 @@ abbrev mutual
   pub AllNamesOf : (ℕ → Type 0) → Trees → Type 0
   AllNamesOf P no_trees = Unit {0}
   AllNamesOf P (and_tree p more) = AllNames P p × AllNamesOf P more
+
+abbrev mutual
+  -- each meet in the types that the phrase is written with has two members or more
+  pub HasFullTypes : Tree → Type 0
+  HasFullTypes (var k at) = Unit {0}
+  HasFullTypes (lit v at) = Unit {0}
+  HasFullTypes (unary op p at) = HasFullTypes p
+  HasFullTypes (binary op p q at) = HasFullTypes p × HasFullTypes q
+  HasFullTypes (cond b p q at) = HasFullTypes b × HasFullTypes p × HasFullTypes q
+  HasFullTypes (case e parts at) = HasFullTypes e × HaveFullTypes parts
+  HasFullTypes (lam d As b at) = HaveFullMeets As × HasFullTypes b
+  HasFullTypes (app p q at) = HasFullTypes p × HasFullTypes q
+  HasFullTypes (field i p at) = HasFullTypes p
+  HasFullTypes (sel p i at) = HasFullTypes p
+  HasFullTypes (merge p q at) = HasFullTypes p × HasFullTypes q
+  HasFullTypes (let_in d p b at) = HasFullTypes p × HasFullTypes b
+  HasFullTypes (rec d T b at) = HasFullMeets T × HasFullTypes b
+  HasFullTypes (skip at) = Unit {0}
+  HasFullTypes (seq p q at) = HasFullTypes p × HasFullTypes q
+  HasFullTypes (assign p q at) = HasFullTypes p × HasFullTypes q
+  HasFullTypes (while_do b c at) = HasFullTypes b × HasFullTypes c
+  HasFullTypes (forever c at) = HasFullTypes c
+  HasFullTypes (new d D e b at) = HasFullTypes e × HasFullTypes b
+  HasFullTypes (escape d b at) = HasFullTypes b
+  HasFullTypes (accept d D b at) = HasFullTypes b
+  HasFullTypes (put kind p at) = HasFullTypes p
+  HasFullTypes (read p at) = HasFullTypes p
+  HasFullTypes (mark m at) = Unit {0}
+
+  pub HaveFullTypes : Trees → Type 0
+  HaveFullTypes no_trees = Unit {0}
+  HaveFullTypes (and_tree p more) = HasFullTypes p × HaveFullTypes more
