@@ -66,6 +66,21 @@ depth_nested d Level.apply t x h n = absurd (omega arith)
 depth_nested d Level.select t x h n = absurd (omega arith)
 depth_nested d Level.primary t x h n = absurd (omega arith)
 
+-- the nesting of a phrase, with its own node
+pub nested_depth : (n : ℕ) (l : Level) (t : Tree) {ts r : List Token} → SpellsBefore l t ts r → depth_at l t ≤ n → below t + own t ≤ n
+nested_depth n Level.phrase t x h = h
+nested_depth n Level.sequence t x h = h
+nested_depth n Level.term t x h = omega (arith, own_one x (omega arith))
+nested_depth n Level.either t x h = omega (arith, own_one x (omega arith))
+nested_depth n Level.both t x h = omega (arith, own_one x (omega arith))
+nested_depth n Level.relation t x h = omega (arith, own_one x (omega arith))
+nested_depth n Level.sum t x h = omega (arith, own_one x (omega arith))
+nested_depth n Level.product t x h = omega (arith, own_one x (omega arith))
+nested_depth n Level.prefixed t x h = omega (arith, own_one x (omega arith))
+nested_depth n Level.apply t x h = omega (arith, own_one x (omega arith))
+nested_depth n Level.select t x h = omega (arith, own_one x (omega arith))
+nested_depth n Level.primary t x h = omega (arith, own_one x (omega arith))
+
 -- a phrase is one node or more
 sequence_one : {t : Tree} {ts r : List Token} → SpellsBefore Level.sequence t ts r → 1 ≤ below t + own t
 sequence_one (SpellsBefore.sequence {t = t} {more = more} {ts = ts} x y) = omega (arith, sequence_nested t more (front ts), own_one x (omega arith))

@@ -1,5 +1,6 @@
 pub mod ReadLemmas
 pub mod SignLemmas
+pub mod TokenLemmas
 pub mod TypesComplete
 pub mod Fronts
 pub mod Complete

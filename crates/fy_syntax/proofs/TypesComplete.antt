@@ -69,6 +69,10 @@ pub types_within : (more : TypeTrees) (d : ℕ) → types_nesting more ≤ suc d
 types_within TypeTrees.no_types d h = omega arith
 types_within (TypeTrees.and_type a more) d h = omega (arith, types_within more d (omega arith))
 
+pub types_deeper : (more : TypeTrees) (d : ℕ) → types_below more ≤ d → types_nesting more ≤ suc d
+types_deeper TypeTrees.no_types d h = omega arith
+types_deeper (TypeTrees.and_type a more) d h = omega (arith, types_deeper more d (omega arith))
+
 -- what comes behind an item that has more behind it ends the item
 pub types_front : {s : Symbol} {l : TypeLevel} {more : TypeTrees} {ts r : List Token} → MoreTypes s l more ts r →
     type_reach (kind.Sym s) < type_rank l → type_reach_of r < type_rank l → type_reach_of ts < type_rank l
