@@ -2,6 +2,7 @@
 use Rattle.std.proofs.Common.{◌≡◌, ℕ, ◌-◌, true, false, List, [], ◌∷◌, Some, None, Ok, Err, replicate, slice_set, refl, pos, negsuc}
 use Rattle.fy_base.specs.declared.data.TrapKind.TheVariants.{Illegal, FetchAlign, FetchRange, LoadAlign, LoadRange, StoreAlign, StoreRange, Service}
 use Rattle.fy_base.specs.declared.data.Place.{Place}
+use Rattle.fy_base.specs.Places.{columns_on, first_place, next_line}
 use Rattle.fy_base.specs.declared.data.FaultKind.TheVariants.{Overflow, Zero, Range}
 use Rattle.rv_insn.specs.declared.events.Event.{Event}
 use Rattle.rv_insn.specs.declared.events.Event.TheVariants.{Going, Put, WantByte, Ended, Fault, Exhausted, Trap}
@@ -108,7 +109,7 @@ leaps = (refl, refl, refl, refl, refl, refl)
 
 -- the services at x17, x10 and x11, with one place
 abbrev place : Place
-place = record { line = 3; col = 5 }
+place = columns_on 4 (next_line (next_line first_place))
 
 abbrev served : ℕ → ℕ → ℕ → Event
 served x17 x10 x11 = (service (record small { places = place ∷ [] }) (record first.core { regs = slice_set (slice_set (slice_set (replicate 32 0) 17 x17) 10 x10) 11 x11 })).event
