@@ -11,7 +11,7 @@ use Rattle.fy_expand.specs.declared.frame.Standing.{Standing}
 use Rattle.fy_expand.specs.declared.frame.Standing.TheVariants.{Variable, Member}
 use Rattle.fy_expand.specs.Scope.{Scope, behind, under, under_defs, under_members, with_type, depth_under, program_scope}
 use Rattle.fy_expand.specs.Front.{front}
-use Rattle.fy_expand.specs.Sizes.{nesting, parts_nesting}
+use Rattle.fy_phrase.specs.Sizes.{nesting, all_nesting}
 use Rattle.fy_expand.specs.Core.{core, linked, applied, items_of, merged_all, merged, lets, all_fields, with_fields, parts_of, prefixed, selected, used, Item, one_after, no_item, by_halves, letters, text_parts, in_prelude}
 use Rattle.fy_expand.specs.WellMade.{HasDepthsUnder, HaveDepthsUnder, HasDepths}
 
@@ -162,6 +162,6 @@ mutual
   depth-below n (read p at) h = let x = depth-below n p h in omega arith
   depth-below n (mark m at) h = omega arith
 
-  pub depths-below : (n : ℕ) (parts : Trees) → HaveDepthsUnder n parts → all_depth parts ≤ n + parts_nesting parts
+  pub depths-below : (n : ℕ) (parts : Trees) → HaveDepthsUnder n parts → all_depth parts ≤ n + all_nesting parts
   depths-below n no_trees h = omega arith
   depths-below n (and_tree p more) h = let x = depth-below n p h.0 in let y = depths-below n more h.1 in omega arith

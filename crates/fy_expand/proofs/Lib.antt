@@ -11,7 +11,12 @@ pub mod ClosedLemmas
 pub mod DepthLemmas
 pub mod MadeLemmas
 pub mod SpelledLemmas
+pub mod WrittenLemmas
+pub mod NameLemmas
+pub mod FullLemmas
+pub mod FullSpelled
 pub mod ExpansionLemmas
+pub mod PhraseLemmas
 pub mod JoinLemmas
 pub mod JudgedLemmas
 pub mod ShallowLemmas

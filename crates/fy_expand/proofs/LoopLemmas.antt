@@ -13,7 +13,7 @@ use Rattle.fy_phrase.specs.Tree.{Tree, binary, app, merge, field, let_in}
 use Rattle.fy_expand.specs.Scope.{Scope, behind}
 use Rattle.fy_expand.specs.Front.{front}
 use Rattle.fy_expand.specs.Core.{core, linked, applied, lets, items_of, parts_of, Item}
-use Rattle.fy_expand.specs.Sizes.{parts_nesting}
+use Rattle.fy_phrase.specs.Sizes.{all_nesting}
 use Rattle.fy_expand.specs.Frames.{behind_all}
 use Rattle.fy_expand.specs.declared.build.Item as built
 use Rattle.fy_expand.specs.Built.{IsShallow, items_nesting, rest_merged, rest_fields, with_field, item_of}
@@ -83,7 +83,7 @@ shallow-item s (y ∷ ys) (suc i) x h e k = shallow-item s ys i x (omega arith) 
 
 -- parts of a `seq`
 pub shallow-part : (s : Scope) (xs : List Surface) (i : ℕ) (x : Surface) → i < length xs → x ≡ get_or xs i x →
-    s.depth + parts_nesting (parts_of s (trees_from (map tree_of xs))) ≤ 1024 → IsShallow s (core s (tree_of x))
+    s.depth + all_nesting (parts_of s (trees_from (map tree_of xs))) ≤ 1024 → IsShallow s (core s (tree_of x))
 shallow-part s [] i x h e k = absurd (omega arith)
 shallow-part s (y ∷ ys) zero x h e k = subst (λ z. IsShallow s (core s (tree_of z))) (sym e) (record { bound = omega arith })
 shallow-part s (y ∷ ys) (suc i) x h e k = shallow-part s ys i x (omega arith) e (omega arith)

@@ -63,11 +63,11 @@ abbrev mutual
   AreFilledLinks (Links.and_link op at p more) = IsFilled p × AreFilledLinks more
 
 -- a fault that isn't there
-before-left : (a b : Option ExpandError) → None ≡ (a before b) → None ≡ a
+pub before-left : (a b : Option ExpandError) → None ≡ (a before b) → None ≡ a
 before-left None b h = refl
 before-left (Some e) b h = cc
 
-before-right : (a b : Option ExpandError) → None ≡ (a before b) → None ≡ b
+pub before-right : (a b : Option ExpandError) → None ≡ (a before b) → None ≡ b
 before-right None b h = h
 before-right (Some e) b h = cc
 
@@ -80,7 +80,7 @@ is_operand-holds : (at : Place) (inside : Option ExpandError) (b : Bool) → Non
 is_operand-holds at inside true h = refl
 is_operand-holds at inside false h = absurd (operand_fault-some at inside h)
 
-operand-inside : (at : Place) (inside : Option ExpandError) (b : Bool) → None ≡ (if b then inside else operand_fault at inside) → None ≡ inside
+pub operand-inside : (at : Place) (inside : Option ExpandError) (b : Bool) → None ≡ (if b then inside else operand_fault at inside) → None ≡ inside
 operand-inside at inside true h = h
 operand-inside at inside false h = absurd (operand_fault-some at inside h)
 
@@ -141,11 +141,11 @@ part-parts s written.Trees.no_trees h = absurd h
 part-parts s (written.Trees.and_tree p more) h = tt
 
 -- one phrase and then others have no fault
-first_fine : (a b : Option ExpandError) → None ≡ (a before b) → (None ≡ a) × (None ≡ b)
+pub first_fine : (a b : Option ExpandError) → None ≡ (a before b) → (None ≡ a) × (None ≡ b)
 first_fine a b h = (before-left a b h, before-right a b h)
 
 -- a test, one phrase and then others
-tested_fine : (test a b : Option ExpandError) → None ≡ (test before a before b) → (None ≡ a) × (None ≡ b)
+pub tested_fine : (test a b : Option ExpandError) → None ≡ (test before a before b) → (None ≡ a) × (None ≡ b)
 tested_fine test a b h = first_fine a b (before-right test (a before b) h)
 
 -- the names around make no difference to the kinds of phrases: the faults are looked for in a scope t, and the phrase is made in a scope s

@@ -11,7 +11,8 @@ use Rattle.fy_phrase.specs.Tree.{Tree, let_in, rec}
 use Rattle.fy_expand.specs.declared.size.Size.{Size}
 use Rattle.fy_expand.specs.Scope.{Scope, behind, under_members}
 use Rattle.fy_expand.specs.Core.{core, declared, meet_of, all_fields}
-use Rattle.fy_expand.specs.Sizes.{size_of, nesting}
+use Rattle.fy_phrase.specs.Sizes.{nesting}
+use Rattle.fy_phrase.specs.CoreLimits.{size_of}
 use Rattle.fy_expand.specs.Measures.{measure, type_measure, over, with_nodes, under_nodes, grouped_all, fields_measures, defs_measures}
 use Rattle.fy_expand.specs.Frames.{behind_all}
 use Rattle.fy_expand.proofs.MeasureLemmas.{over-capped, measure-rec, measure-all_fields}

@@ -10,7 +10,8 @@ use Rattle.fy_phrase.specs.Tree.{Tree, Trees, binary, app, merge, field, sel, la
 use Rattle.fy_expand.specs.declared.size.Size.{Size}
 use Rattle.fy_expand.specs.Scope.{Scope, behind}
 use Rattle.fy_expand.specs.Core.{core, linked, applied, merged, merged_all, lets, all_fields, with_fields, prefixed, selected, parts_of, letters, text_parts, indexed, Item, items_of, one_after, no_item, by_halves, sequence, in_prelude}
-use Rattle.fy_expand.specs.Sizes.{size_of, nesting, parts_size, parts_nesting}
+use Rattle.fy_phrase.specs.Sizes.{nesting, all_nesting}
+use Rattle.fy_phrase.specs.CoreLimits.{size_of, parts_size}
 use Rattle.fy_expand.specs.Measures.{capped_size, measure, parts_measure, under_nodes, over, grouped, grouped_all, trees_measures, links_measures, fields_measures, defs_measures, nested, text_measure, indexed_measure, halved, leaf, all_beside, beside, with_nodes, types_measure, type_measure, prelude_measure}
 use Rattle.fy_expand.proofs.HalvesLemmas.{by_halves-map}
 use Rattle.std.proofs.lemmas.Bool.{ne_eqb}
@@ -23,7 +24,7 @@ pub same_size : (a b c d : ℕ) → a ≡ c → b ≡ d → sized a b ≡ sized 
 same_size a b c d p q = ap (λ x. sized x b) p ∙ ap (λ y. sized c y) q
 
 -- a node over two parts
-pub over-capped : (m k n l : ℕ) → over (capped_size m k) (capped_size n l) ≡ capped_size (suc (m + n)) (suc (max k l))
+pub over-capped : (m k n l : ℕ) → over (capped_size m k) (capped_size n l) ≡ capped_size (suc (m + n)) (1 + max k l)
 over-capped m k n l = same_size _ _ _ _ (omega arith) (omega arith)
 
 -- a node over one part
@@ -99,7 +100,7 @@ measure-sequence s at trees =
 parts_measure-parts_of : (s : Scope) (trees : written.Trees) → parts_measure (parts_of s trees) ≡ all_beside (trees_measures s trees)
 parts_measure-parts_of s written.Trees.no_trees = refl
 parts_measure-parts_of s (written.Trees.and_tree p more) =
-    beside-capped (size_of (core s p)) (nesting (core s p)) (parts_size (parts_of s more)) (parts_nesting (parts_of s more))
+    beside-capped (size_of (core s p)) (nesting (core s p)) (parts_size (parts_of s more)) (all_nesting (parts_of s more))
     ∙ ap (beside (measure (core s p))) (parts_measure-parts_of s more)
 
 measure-indexed : (d : ℕ) (at : Place) (n : ℕ) (parts : Trees) → measure (indexed d at n parts) ≡ indexed_measure (parts_measure parts)
@@ -112,7 +113,7 @@ letters-size : (at : Place) (bytes : Bytes) → parts_size (letters at bytes) �
 letters-size at [] = refl
 letters-size at (byte ∷ bytes) = omega (arith, letters-size at bytes)
 
-letters-nesting : (at : Place) (bytes : Bytes) → parts_nesting (letters at bytes) ≤ 1
+letters-nesting : (at : Place) (bytes : Bytes) → all_nesting (letters at bytes) ≤ 1
 letters-nesting at [] = omega arith
 letters-nesting at (byte ∷ bytes) = omega (arith, letters-nesting at bytes)
 

@@ -8,7 +8,7 @@ use Rattle.fy_types.specs.Types.{PlainType}
 use Rattle.fy_types.specs.Reading.{types_in, types_from, plain_type, plain_types}
 use Rattle.fy_types.proofs.ReadLemmas.{plain_types-at}
 use Rattle.fy_phrase.specs.Sizes.{greatest_u64}
-use Rattle.fy_expand.specs.Sizes.{types_count}
+use Rattle.fy_phrase.specs.CoreLimits.{types_count}
 
 types_count-from : (As : List PlainType) → types_count (types_from As) ≡ length As
 types_count-from [] = refl

@@ -6,7 +6,7 @@ use Rattle.fy_syntax.specs.Trees as written
 use Rattle.fy_phrase.specs.Tree.{Tree, Trees, binary, app, merge, field}
 use Rattle.fy_expand.specs.Scope.{Scope}
 use Rattle.fy_expand.specs.Core.{core, linked, applied, merged, with_fields}
-use Rattle.fy_expand.specs.Sizes.{nesting}
+use Rattle.fy_phrase.specs.Sizes.{nesting}
 
 pub nesting-linked : (s : Scope) (p : Tree) (links : Links) → nesting p ≤ nesting (linked s p links)
 nesting-linked s p Links.no_links = omega arith

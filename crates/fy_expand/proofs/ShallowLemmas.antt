@@ -8,7 +8,7 @@ use Rattle.fy_syntax.specs.Trees as written
 use Rattle.fy_phrase.specs.Tree.{Tree, Trees, sel}
 use Rattle.fy_expand.specs.Scope.{Scope, behind, depth_under, under_defs}
 use Rattle.fy_expand.specs.Core.{core, linked, applied, lets, prefixed, selected, sequence, Item, one_after, no_item, by_halves}
-use Rattle.fy_expand.specs.Sizes.{nesting}
+use Rattle.fy_phrase.specs.Sizes.{nesting}
 use Rattle.fy_expand.specs.Built.{IsShallow, items_nesting}
 use Rattle.fy_expand.proofs.NestingLemmas.{nesting-linked, nesting-applied}
 

@@ -9,7 +9,8 @@ use Rattle.fy_syntax.specs.declared.types.Decl.{Decl}
 use Rattle.fy_syntax.specs.declared.types.SurfaceTy.{SurfaceTy}
 use Rattle.fy_syntax.specs.Trees.{DeclTree}
 use Rattle.fy_syntax.specs.Reading.{types_from, type_tree, decl_tree}
-use Rattle.fy_expand.specs.Types.{fields, type_of, types_of, type_nodes, type_nesting}
+use Rattle.fy_types.specs.Nested.{type_nodes, type_nesting}
+use Rattle.fy_expand.specs.Types.{fields, type_of, types_of}
 use Rattle.fy_expand.specs.Core.{declared, meet_of}
 use Rattle.fy_expand.specs.Measures.{type_measure, types_measure, under_nodes}
 use Rattle.fy_expand.proofs.MeasureLemmas.{same_size}

@@ -7,7 +7,7 @@ use Rattle.fy_phrase.specs.Reads.{reads}
 use Rattle.fy_expand.specs.declared.build.Item as built
 use Rattle.fy_expand.specs.Scope.{Scope}
 use Rattle.fy_expand.specs.Core.{Item, core, by_halves, one_after, no_item, merged, with_fields}
-use Rattle.fy_expand.specs.Sizes.{nesting}
+use Rattle.fy_phrase.specs.Sizes.{nesting}
 
 -- the phrase and the binders around it are so few that all depths are numbers of 32 bits
 pub record IsShallow (s : Scope) (p : Tree) : Type 0 where

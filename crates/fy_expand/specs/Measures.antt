@@ -1,15 +1,15 @@
 -- How large things are, as far as numbers of 64 bits tell it, and what the core phrases of written ones measure.
 use Rattle.std.specs.Prelude.{ℕ, ◌+◌, ◌-◌, max, Bool, ◌==◌, if◌then◌else◌, Option, Some, None, List, [], ◌∷◌, length}
 use Rattle.fy_types.specs.Types.{PlainType, PlainTypes}
+use Rattle.fy_types.specs.Nested.{type_nodes, types_nodes, type_nesting, types_nesting}
 use Rattle.fy_syntax.specs.Trees.{Defs, Links}
 use Rattle.fy_syntax.specs.Trees as written
-use Rattle.fy_phrase.specs.Sizes.{greatest_u64}
+use Rattle.fy_phrase.specs.Sizes.{greatest_u64, nesting, all_nesting}
+use Rattle.fy_phrase.specs.CoreLimits.{size_of, parts_size}
 use Rattle.fy_phrase.specs.Tree.{Tree, Trees}
 use Rattle.fy_expand.specs.declared.size.Size.{Size}
-use Rattle.fy_expand.specs.Types.{type_nodes, types_nodes, type_nesting, types_nesting}
 use Rattle.fy_expand.specs.Scope.{Scope, behind}
 use Rattle.fy_expand.specs.Core.{core, by_halves}
-use Rattle.fy_expand.specs.Sizes.{size_of, parts_size, nesting, parts_nesting}
 
 -- a size with these numbers, each at most the greatest of 64 bits
 abbrev pub capped_size : ℕ → ℕ → Size
@@ -25,7 +25,7 @@ abbrev pub measure : Tree → Size
 measure p = capped_size (size_of p) (nesting p)
 
 abbrev pub parts_measure : Trees → Size
-parts_measure ps = capped_size (parts_size ps) (parts_nesting ps)
+parts_measure ps = capped_size (parts_size ps) (all_nesting ps)
 
 -- two things beside each other
 abbrev pub beside : Size → Size → Size

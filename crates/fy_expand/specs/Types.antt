@@ -1,9 +1,10 @@
 -- Types that are written: what they are once their names are replaced, and how large.
-use Rattle.std.specs.Prelude.{ℕ, suc, ◌+◌, max, Bool, ◌||◌, ◌==◌, nat_lt, if◌then◌else◌, Option, Some, None, List, [], ◌∷◌}
+use Rattle.std.specs.Prelude.{ℕ, Bool, ◌||◌, ◌==◌, nat_lt, if◌then◌else◌, Option, Some, None, List, [], ◌∷◌}
 use Rattle.fy_base.specs.declared.data.Place.{Place}
 use Rattle.fy_types.specs.declared.types.Atom.TheVariants as atom
 use Rattle.fy_types.specs.Types.{PlainType, PlainTypes}
 use Rattle.fy_types.specs.Subtyping.{both_of}
+use Rattle.fy_types.specs.Nested.{type_nodes, type_nesting}
 use Rattle.fy_syntax.specs.Trees.{TypeTree, TypeTrees}
 
 -- a map with one more entry, which hides an older one of its name
@@ -44,32 +45,6 @@ type_front (TypeTree.ns at) = at
 type_front (TypeTree.atom a at) = at
 type_front (TypeTree.ident name at) = at
 type_front (TypeTree.group a at) = at
-
-abbrev mutual
-  -- the number of nodes
-  pub type_nodes : PlainType → ℕ
-  type_nodes PlainType.ns = 1
-  type_nodes (PlainType.atom a) = 1
-  type_nodes (PlainType.arrow A B) = suc (type_nodes A + type_nodes B)
-  type_nodes (PlainType.field i A) = suc (type_nodes A)
-  type_nodes (PlainType.meet As) = suc (types_nodes As)
-
-  pub types_nodes : PlainTypes → ℕ
-  types_nodes PlainTypes.no_types = 0
-  types_nodes (PlainTypes.and_type A As) = type_nodes A + types_nodes As
-
-abbrev mutual
-  -- the greatest number of nodes on one path
-  pub type_nesting : PlainType → ℕ
-  type_nesting PlainType.ns = 1
-  type_nesting (PlainType.atom a) = 1
-  type_nesting (PlainType.arrow A B) = suc (max (type_nesting A) (type_nesting B))
-  type_nesting (PlainType.field i A) = suc (type_nesting A)
-  type_nesting (PlainType.meet As) = suc (types_nesting As)
-
-  pub types_nesting : PlainTypes → ℕ
-  types_nesting PlainTypes.no_types = 0
-  types_nesting (PlainTypes.and_type A As) = max (type_nesting A) (types_nesting As)
 
 -- a written type may have 4,096 nodes and nest 256
 abbrev pub is_large_type : PlainType → Bool

@@ -24,7 +24,7 @@ ghost use Rattle.fy_expand.specs.Core.{
 };
 ghost use Rattle.fy_expand.specs.Frames.{scope_of};
 ghost use Rattle.fy_expand.specs.Built.{IsShallow, item_of, items_nesting, last_joined, with_field as with_field_of};
-ghost use Rattle.fy_expand.specs.Sizes.{parts_nesting};
+ghost use Rattle.fy_phrase.specs.Sizes.{all_nesting};
 ghost use Rattle.fy_phrase.specs.Tree.{Tree};
 
 use crate::check::place_of;
@@ -380,7 +380,7 @@ fn pair(alloc: Global, first: Item, rest: Item) -> Result<Item, OutOfMemory>
 #[cycle(build)]
 fn build_parts(alloc: Global, parts: &SurfaceList, frame: &Frame) -> Result<Parts, OutOfMemory>
     requires { (scope_of frame.now).depth
-        + parts_nesting (parts_of (scope_of frame.now) (trees_of parts.now)) ≤ 1024 }
+        + all_nesting (parts_of (scope_of frame.now) (trees_of parts.now)) ≤ 1024 }
     ensures { IfOk result (λ made.
         reads_parts made ≡ parts_of (scope_of frame.now) (trees_of parts.now)) }
 {

@@ -3,6 +3,8 @@
 ghost use Rattle.std.specs.Prelude.{◌≡◌, ◌⊎◌, List, Ok, Err, IfOk, IfErr};
 ghost use Rattle.fy_base.specs.Outside.{Bytes};
 ghost use Rattle.fy_lexer.specs.declared.token.Token.{Token};
+ghost use Rattle.fy_phrase.specs.CoreLimits.{KeepsCoreLimits};
+ghost use Rattle.fy_phrase.specs.PhraseNames.{HasFullTypes};
 ghost use Rattle.fy_phrase.specs.Reads.{reads};
 ghost use Rattle.fy_phrase.specs.Tree.{Tree};
 ghost use Rattle.fy_syntax.specs.Reading.{tree_of};
@@ -14,7 +16,7 @@ ghost use Rattle.fy_expand.specs.Frames.{AreSized, scope_of};
 ghost use Rattle.fy_expand.specs.Judged.{HasTokens, IsAllowed, IsJudged, expansion_refused};
 ghost use Rattle.fy_expand.specs.Measures.{prelude_measure};
 ghost use Rattle.fy_expand.specs.Scope.{program_scope};
-ghost use Rattle.fy_expand.specs.WellMade.{HasDepths, IsClosed, IsWellMade, IsWithinLimits};
+ghost use Rattle.fy_expand.specs.WellMade.{HasDepths, HasNamesOf, IsClosed, IsWellMade};
 
 use crate::build::build;
 use crate::check::{check, place_of};
@@ -61,9 +63,12 @@ pub fn expand(alloc: Global, tree: &Surface) -> Result<Phrase, ExpandError>
     ensures err { IfErr result (λ e. (e ≡ NoMemory) ⊎ (core_of (tree_of tree.now) ≡ Err e)) }
     ensures closed { IfOk result (λ p. IsClosed (reads p)) }
     ensures depths { IfOk result (λ p. HasDepths (reads p)) }
-    ensures limits { IfOk result (λ p. IsWithinLimits (reads p)) }
+    ensures limits { IfOk result (λ p. KeepsCoreLimits (reads p)) }
     ensures well_made { IfOk result (λ p.
         (tokens : List Token) → IsProgram (tree_of tree.now) tokens → IsWellMade (reads p)) }
+    ensures names { IfOk result (λ p. HasNamesOf (tree_of tree.now) (reads p)) }
+    ensures full_types { IfOk result (λ p.
+        (tokens : List Token) → IsProgram (tree_of tree.now) tokens → HasFullTypes (reads p)) }
     ensures judged { IfOk result (λ p. (text : Bytes) (tokens : List Token)
         → HasTokens text tokens → IsAllowed tokens (tree_of tree.now)
         → IsJudged text (Ok (reads p))) }

@@ -1,8 +1,14 @@
 //! Laws of the judged text.
 
-ghost use Rattle.std.specs.Prelude.{◌≡◌, Err, Ok};
+ghost use Rattle.std.specs.Prelude.{◌≡◌, Err, List, Ok};
 ghost use Rattle.fy_base.specs.Outside.{Bytes};
+ghost use Rattle.fy_lexer.specs.Tokens.{IsTokensOf};
+ghost use Rattle.fy_lexer.specs.declared.token.Token.{Token};
+ghost use Rattle.fy_phrase.specs.CoreLimits.{KeepsCoreLimits};
+ghost use Rattle.fy_phrase.specs.PhraseNames.{AllNames, HasFullTypes};
 ghost use Rattle.fy_phrase.specs.Tree.{Tree};
+ghost use Rattle.fy_types.specs.Fields.{IsNamed};
+ghost use Rattle.fy_types.specs.Names.{first_names};
 ghost use Rattle.fy_expand.specs.Judged.{AreAlike, IsJudged, Refusal};
 
 /// A text is judged one way: it has at most one core phrase, and then no refusal; of two refusals either both are of the
@@ -14,4 +20,14 @@ pub fn texts_are_judged_one_way()
         → IsJudged text (Ok phrase) → ¬ IsJudged text (Err why) }
     ensures refusal { (text : Bytes) (why other : Refusal)
         → IsJudged text (Err why) → IsJudged text (Err other) → AreAlike why other }
+{}
+
+/// The core phrase of a judged text keeps the core limits, each meet in the types that it is written with has two members or
+/// more, and each name in it has the number of an identifier among the names that the text leaves.
+pub fn judged_phrases_are_named()
+    ensures limits { (text : Bytes) (phrase : Tree) → IsJudged text (Ok phrase) → KeepsCoreLimits phrase }
+    ensures full_types { (text : Bytes) (phrase : Tree) → IsJudged text (Ok phrase) → HasFullTypes phrase }
+    ensures names { (text : Bytes) (phrase : Tree) (tokens : List Token) (names : List Bytes)
+        → IsJudged text (Ok phrase) → IsTokensOf first_names text tokens names
+        → AllNames (IsNamed names) phrase }
 {}

@@ -3,7 +3,7 @@
 ghost use Rattle.std.specs.Prelude.{◌≡◌};
 ghost use Rattle.fy_phrase.specs.Reads.{reads, reads_parts};
 ghost use Rattle.fy_phrase.specs.Sizes.{greatest_u64};
-ghost use Rattle.fy_expand.specs.Sizes.{parts_visits, visits_of};
+ghost use Rattle.fy_phrase.specs.CoreLimits.{parts_visits, visits_of};
 
 use fy_phrase::{Parts, Phrase};
 

@@ -19,11 +19,12 @@ use Rattle.fy_types.specs.Types.{atom}
 use Rattle.fy_types.specs.declared.types.Atom.TheVariants.{Comm}
 use Rattle.fy_phrase.specs.Tree.{Tree}
 use Rattle.fy_phrase.specs.Sizes.{depth}
+use Rattle.fy_phrase.specs.CoreLimits.{KeepsCoreLimits}
 use Rattle.fy_expand.specs.declared.error.ExpandError.{ExpandError}
 use Rattle.fy_expand.specs.declared.error.ExpandError.TheVariants as expanding
 use Rattle.fy_expand.specs.Judged.{HasTokens, IsAllowed, IsJudged, too_long, no_tokens, no_program, too_deep, length_refused, tokens_refused, syntax_refused, depth_refused, expansion_refused}
 use Rattle.fy_expand.specs.Judged as judged
-use Rattle.fy_expand.specs.WellMade.{HasDepths, IsWithinLimits}
+use Rattle.fy_expand.specs.WellMade.{HasDepths}
 use Rattle.fy_expand.proofs.DepthLemmas.{depth-below}
 use Rattle.fy_derive.specs.Derivations.{PlainDerivation}
 use Rattle.fy_derive.specs.Judging.{conclusion_of, refusal as refusal_of}
@@ -124,7 +125,7 @@ not_expanded P text tokens tree error result has program refused found =
 -- ---- core phrases, and length
 
 -- binders are less deep than the core limit on nesting
-pub depth_within : (p : Tree) → HasDepths p → IsWithinLimits p → depth p ≤ 1023
+pub depth_within : (p : Tree) → HasDepths p → KeepsCoreLimits p → depth p ≤ 1023
 depth_within p depths within = let h = within.shallow in let k = depth-below 0 p depths in omega arith
 
 pub core_judged : (text : Bytes) (tokens : List Token) (tree : written.Tree) (phrase : Tree) → HasTokens text tokens → IsTheProgram tokens tree

@@ -18,7 +18,7 @@ use Rattle.fy_expand.specs.Core.{Item, core, linked, applied, merged_all, all_fi
 use Rattle.fy_expand.specs.Frames.{scope_of, behind_all}
 use Rattle.fy_expand.specs.declared.frame.Frame.TheViews as view
 use Rattle.fy_expand.specs.Built.{IsShallow, item_of, items_nesting, with_field}
-use Rattle.fy_expand.specs.Sizes.{parts_nesting}
+use Rattle.fy_phrase.specs.Sizes.{all_nesting}
 use Rattle.fy_expand.proofs.ScopeLemmas.{scope_of-Defs, scope_of-Hidden}
 use Rattle.fy_expand.proofs.ShallowLemmas.{shallow-sequence, shallow-let, shallow-linked, shallow-applied, shallow-prefixed, shallow-selected}
 use Rattle.fy_expand.proofs.LoopLemmas.{shallow-link, shallow-argument, shallow-member, shallow-field, shallow-item, shallow-part, shallow-def, lets-more, linked-more, applied-more, fields-more, items_of-more, items-pushed, shallow-depth}
@@ -193,7 +193,7 @@ build_items-loop-item-preserved t c =
 pub build_parts-build-requires : goal.build_parts-build-requires
 build_parts-build-requires t c =
     let s = scope_of c.args.frame.now in
-    let few = subst (λ ps. s.depth + parts_nesting (parts_of s ps) ≤ 1024) c.as_slice-part-items.ensures.reading c.requires in
+    let few = subst (λ ps. s.depth + all_nesting (parts_of s ps) ≤ 1024) c.as_slice-part-items.ensures.reading c.requires in
     (search (rules, the_lemmas), shallow-part s c.as_slice-part-items.result.now c.loop-part.part-index c.part-item.result (omega arith) c.part-item.is few)
 
 pub build_parts-returns : goal.build_parts-returns

@@ -5,12 +5,14 @@ use Rattle.fy_syntax.specs.Reading.{tree_of}
 use Rattle.fy_syntax.specs.Spells.{IsProgram}
 use Rattle.fy_phrase.specs.declared.phrase.Phrase.{Phrase}
 use Rattle.fy_phrase.specs.Reads.{reads}
+use Rattle.fy_phrase.specs.CoreLimits.{KeepsCoreLimits}
+use Rattle.fy_phrase.specs.PhraseNames.{HasFullTypes}
 use Rattle.fy_expand.specs.declared.error.ExpandError.{ExpandError}
 use Rattle.fy_expand.specs.declared.error.ExpandError.TheVariants.{OutOfMemory}
 use Rattle.fy_expand.specs.Expansion.{core_of}
-use Rattle.fy_expand.specs.WellMade.{HasDepths, IsClosed, IsWithinLimits, IsWellMade}
+use Rattle.fy_expand.specs.WellMade.{HasDepths, HasNamesOf, IsClosed, IsWellMade}
 use Rattle.fy_expand.specs.Judged.{HasTokens, IsAllowed, IsJudged, expansion_refused}
-use Rattle.fy_expand.proofs.ExpansionLemmas.{IfOk-map, IfErr-map, core_of-closed, core_of-depths, core_of-within, core_of-made, core_of-judged, core_of-refused}
+use Rattle.fy_expand.proofs.ExpansionLemmas.{IfOk-map, IfErr-map, core_of-closed, core_of-depths, core_of-limits, core_of-made, core_of-has_names, core_of-full, core_of-judged, core_of-refused}
 use Rattle.fy_expand.proofs.ProgramFrames.{AreSized-Name, AreSized-Outermost}
 use Rattle.fy_expand.proofs.expansion.expand.Goals as goal
 
@@ -30,13 +32,25 @@ returns-clause-depths c =
 pub returns-clause-limits : goal.returns-clause-limits
 returns-clause-limits c =
     let tree = tree_of c.args.tree.now in
-    IfOk-map c.within.result (λ (p : Phrase). core_of tree ≡ Ok (reads p)) (λ p. IsWithinLimits (reads p)) (λ p h. core_of-within tree (reads p) h) c.within.ensures.ok
+    IfOk-map c.within.result (λ (p : Phrase). core_of tree ≡ Ok (reads p)) (λ p. KeepsCoreLimits (reads p)) (λ p h. core_of-limits tree (reads p) h) c.within.ensures.ok
 
 pub returns-clause-well_made : goal.returns-clause-well_made
 returns-clause-well_made c =
     let tree = tree_of c.args.tree.now in
     IfOk-map c.within.result (λ (p : Phrase). core_of tree ≡ Ok (reads p)) (λ p. (tokens : List Token) → IsProgram tree tokens → IsWellMade (reads p))
     (λ p h tokens k. core_of-made tree (reads p) tokens h k) c.within.ensures.ok
+
+pub returns-clause-names : goal.returns-clause-names
+returns-clause-names c =
+    let tree = tree_of c.args.tree.now in
+    IfOk-map c.within.result (λ (p : Phrase). core_of tree ≡ Ok (reads p)) (λ p. HasNamesOf tree (reads p))
+    (λ p h. core_of-has_names tree (reads p) h) c.within.ensures.ok
+
+pub returns-clause-full_types : goal.returns-clause-full_types
+returns-clause-full_types c =
+    let tree = tree_of c.args.tree.now in
+    IfOk-map c.within.result (λ (p : Phrase). core_of tree ≡ Ok (reads p)) (λ p. (tokens : List Token) → IsProgram tree tokens → HasFullTypes (reads p))
+    (λ p h tokens k. core_of-full tree (reads p) tokens h k) c.within.ensures.ok
 
 pub returns-clause-judged : goal.returns-clause-judged
 returns-clause-judged c =

@@ -3,7 +3,7 @@ use Rattle.fy_types.specs.Reading.{plain_types}
 use Rattle.fy_phrase.specs.declared.phrase.Phrase.{the_lemmas}
 use Rattle.fy_phrase.specs.Reads.{reads}
 use Rattle.fy_phrase.specs.Sizes.{greatest_u64}
-use Rattle.fy_expand.specs.Sizes.{types_count, visits_of}
+use Rattle.fy_phrase.specs.CoreLimits.{types_count, visits_of}
 use Rattle.fy_expand.proofs.MeasureVisits.{types_count-at, visits-lam}
 use Rattle.fy_expand.proofs.visit.+visits.Goals as goal
 

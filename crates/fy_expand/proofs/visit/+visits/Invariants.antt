@@ -1,7 +1,7 @@
 use Rattle.std.proofs.Common.{◌≡◌, ◌+◌, ◌-◌, ◌^◌, ◌≤◌, drop, map}
 use Rattle.fy_phrase.specs.Reads.{reads, reads_parts, trees_from}
 use Rattle.fy_phrase.specs.Sizes.{greatest_u64}
-use Rattle.fy_expand.specs.Sizes.{parts_visits}
+use Rattle.fy_phrase.specs.CoreLimits.{parts_visits}
 use Rattle.fy_expand.proofs.visit.+visits.Given as goal
 
 abbrev pub invariant-visits_of_parts-loop-part : goal.invariant-visits_of_parts-loop-part
