@@ -15,7 +15,8 @@ use fy_phrase::{MarkKind, Phrase, close_with};
 use std::alloc::Global;
 use std::mem;
 
-const NOWHERE: Place = Place { line: 0, col: 0 };
+// The place of a phrase that nobody reads.
+const NOWHERE: Place = Place { line: 1, col: 1 };
 
 /// Another focus.
 pub fn set_focus(core: &mut Core, focus: Phrase)

@@ -1,6 +1,7 @@
 -- Phrases that have no type, and are stuck.
 use Rattle.std.proofs.Common.{◌≡◌, [], refl, pos}
 use Rattle.fy_base.specs.declared.data.Place.{Place}
+use Rattle.fy_base.specs.Places.{first_place}
 use Rattle.fy_base.specs.declared.data.Datum.TheVariants as datum
 use Rattle.fy_types.specs.declared.types.Atom.TheVariants as atoms
 use Rattle.fy_types.specs.Types.{atom, no_types, and_type}
@@ -8,7 +9,7 @@ use Rattle.fy_phrase.specs.Tree.{Tree, lit, lam, app, merge, let_in, skip}
 use Rattle.fy_phrase.specs.Copy.{going, stuck, after_more, copy_after}
 
 here : Place
-here = record { line = 1; col = 1 }
+here = first_place
 
 -- `3 3`: a number is called
 abbrev called_number : Tree

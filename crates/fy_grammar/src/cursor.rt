@@ -47,7 +47,7 @@ pub(crate) fn front(tokens: &[Token]) -> Place
     ensures { result ≡ front_of tokens.now }
 {
     match tokens {
-        [] => Place { line: 0, col: 0 },
+        [] => Place::first(),
         [first, ..] => first.place,
     }
 }

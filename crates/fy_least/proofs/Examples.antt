@@ -1,6 +1,7 @@
 -- Worked values: least types, blame, and what the limits count.
-use Rattle.std.specs.Prelude.{ℕ, ◌≡◌, true, [], ◌∷◌, length, sum_by, pos, refl}
+use Rattle.std.specs.Prelude.{ℕ, ◌-◌, ◌≡◌, true, [], ◌∷◌, length, sum_by, pos, refl}
 use Rattle.fy_base.specs.declared.data.Place.{Place}
+use Rattle.fy_base.specs.Places.{columns_on, first_place}
 use Rattle.fy_base.specs.declared.data.Datum.TheVariants as datum
 use Rattle.fy_base.specs.declared.data.PutKind.TheVariants as put_kind
 use Rattle.fy_types.specs.declared.types.Atom.TheVariants.{Int, Bool as Truth, Char, Comm, IntAcc}
@@ -14,7 +15,7 @@ use Rattle.fy_least.specs.Blame.{blame_of}
 use Rattle.fy_least.specs.Limits.{all_least, all_written}
 
 abbrev at : ℕ → Place
-at n = record { line = 1; col = n }
+at n = columns_on (n - 1) first_place
 
 abbrev only : PlainType → PlainTypes
 only A = and_type A no_types

@@ -94,7 +94,7 @@ number_steps v here (c ∷ cs) s fits small = number_meets v here c.context (rec
 
 sum_steps : (p : Tree) (s : CopyState) → IsAddition p → AreSmall s.contexts → IsSmallMove (step_at p s)
 sum_steps (lit (datum.Int v) at) s is small = number_steps v at s.contexts s is small
-sum_steps (binary op p q at) s is small = record { focus = inl is.2; contexts = ((is.0, is.3), small) }
+sum_steps (binary op p q at) s is small = record { focus = inl is.1; contexts = ((is.0, is.2), small) }
 sum_steps _ s is small = absurd is
 
 skip_meet : (here : Place) (c : CopyContext) (s : CopyState) → IsSmallContext c → AreSmall s.contexts → IsSmallMove (skip_meets here c s)

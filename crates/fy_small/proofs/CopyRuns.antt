@@ -155,7 +155,7 @@ pub sums : (e : Tree) → IsAddition e → (o : Round) → Yields (value_of e) e
 sums (lit (datum.Int v) at) is o = (at, none (run_at (lit (datum.Int v) at) o) 0)
 sums (binary op p q at) is o =
     subst (λ op. Yields (added (value_of p) (value_of q) at) (binary op p q at) o (3 + steps_of p + steps_of q)) (sym is.0)
-    (both (value_of p) (value_of q) p q at o (sums p is.2 (left_of q at o)) (λ x. sums q is.3 (right_of x at o)))
+    (both (value_of p) (value_of q) p q at o (sums p is.1 (left_of q at o)) (λ x. sums q is.2 (right_of x at o)))
 sums _ is o = absurd is
 
 -- ---- commands

@@ -1,4 +1,4 @@
--- What the phrase of a text is like: commands with sums, few of them, and places that count from 1.
+-- What the phrase of a text is like: commands with sums, and few of them.
 use Rattle.std.proofs.Common.{◌≡◌, ℕ, zero, suc, ◌+◌, ◌-◌, ◌*◌, ◌^◌, map, slice_index_or, ◌<◌, ◌≤◌, Bool, true, false, cond, List, [], ◌∷◌, ◌++◌, length, drop, slice_get, slice_index, sym, ◌∙◌, refl, subst, arith, length-append, Some, None, codes, take_while, pos, nat_eq, nat_lt, ◌==◌, Err, Ok, All}
 use Rattle.std.proofs.lemmas.Bool.{ltb-true, leb-true, le-leb}
 use Rattle.std.proofs.Math.Bool.{and-true}
@@ -9,57 +9,23 @@ use Rattle.std.specs.List.{starts_with}
 use Rattle.std.specs.Char.{is_ascii_digit}
 use Rattle.std.specs.declared.option.Option.{Option}
 use Rattle.std.specs.declared.result.Result.{Result}
-use Rattle.std.specs.Prelude.{ℤ, negsuc, ◌+ℤ◌, IfSome, IfErr, IfOk, IsTrue, leb}
+use Rattle.std.specs.Prelude.{ℤ, negsuc, ◌+ℤ◌, IfOk, IsTrue, leb}
 use Rattle.fy_base.specs.Outside.{Bytes}
 use Rattle.fy_base.specs.Arithmetic.{is_int}
 use Rattle.fy_base.specs.declared.data.Datum.TheVariants as datum
 use Rattle.fy_base.specs.declared.data.Place.{Place}
-use Rattle.fy_image.specs.Ranges.{IsPlace, IsImage}
+use Rattle.fy_image.specs.Ranges.{IsImage}
 use Rattle.rv_machine.specs.Words.{Block, block_words, code_of, put_block}
 use Rattle.fy_phrase.specs.Tree.{Tree, lit, binary, skip, seq, put}
-use Rattle.fy_small.specs.Small.{AreTokens, ends, blank, token, next_piece, symbol_piece, is_blank, value_from, place_behind, place_after, first_place, IsSum, done, more, IsStatement, skips, puts, AreStatements, last, onward, IsSequence, one, halves}
+use Rattle.fy_base.specs.Places.{first_place}
+use Rattle.fy_small.specs.Small.{AreTokens, ends, blank, token, next_piece, symbol_piece, is_blank, value_from, place_behind, place_after, IsSum, done, more, IsStatement, skips, puts, AreStatements, last, onward, IsSequence, one, halves}
 use Rattle.fy_small.specs.Said.{Said, last_block, places_of, image_of, IsAddition, IsCommand, puts_of, said, said_then, said_value, value_of, added}
 use Rattle.fy_small.specs.declared.tokens.Token.{Token}
 use Rattle.fy_small.specs.declared.tokens.Token.TheVariants.{Skip, PutInt, Open, Close, Plus, Semicolon, Number}
 use Rattle.fy_small.specs.declared.tokens.Piece.{Piece}
 use Rattle.fy_small.specs.declared.tokens.Piece.TheVariants as piece
 
--- ---- places of tokens
-
-abbrev token_place : Token → Place
-token_place (Skip at) = at
-token_place (PutInt at) = at
-token_place (Open at) = at
-token_place (Close at) = at
-token_place (Plus at) = at
-token_place (Semicolon at) = at
-token_place (Number v at) = at
-
--- a piece that is a token has this place
-abbrev HasPlace : Place → Piece → Type 0
-HasPlace at piece.End = Unit {0}
-HasPlace at piece.Blank = Unit {0}
-HasPlace at (piece.Token t n) = token_place t ≡ at
-HasPlace at piece.Bad = Unit {0}
-
-either : (at : Place) (b : Bool) (x y : Piece) → HasPlace at x → HasPlace at y → HasPlace at (cond b x y)
-either at true x y hx hy = hx
-either at false x y hx hy = hy
-
-symbol_place : (b : ℕ) (at : Place) → HasPlace at (symbol_piece b at)
-symbol_place b at =
-    either at (b == 40) _ _ refl (either at (b == 41) _ _ refl (either at (b == 43) _ _ refl (either at (b == 59) (piece.Token (Semicolon at) 1) piece.Bad refl tt)))
-
-front_place : (text : Bytes) (at : Place) → HasPlace at (next_piece text at)
-front_place [] at = tt
-front_place (b ∷ bs) at =
-    either at (is_blank b) _ _ tt
-    (either at (is_ascii_digit b) _ _ (either at (nat_lt (value_from 0 (take_while is_ascii_digit (b ∷ bs))) (2 ^ 63)) _ _ refl tt)
-    (either at (starts_with nat_eq (b ∷ bs) (codes "skip")) _ _ refl
-    (either at (starts_with nat_eq (b ∷ bs) (codes "putint")) _ _ refl (symbol_place b at))))
-
-place_of_token : (text : Bytes) (at : Place) (t : Token) (n : ℕ) → next_piece text at ≡ piece.Token t n → token_place t ≡ at
-place_of_token text at t n is = subst (λ p. HasPlace at p) is (front_place text at)
+-- ---- tokens
 
 -- a number is an integer
 abbrev Fits : Piece → Type 0
@@ -101,40 +67,26 @@ token_fits (Plus at) n is = tt
 token_fits (Semicolon at) n is = tt
 token_fits (Number v at) n is = is
 
-behind_is : (b : ℕ) (at : Place) → IsPlace at → IsPlace (place_behind b at)
-behind_is b at is = behind (b == 10)
-  where
-    behind : (t : Bool) → IsPlace (cond t (record { line = at.line + 1; col = 1 }) (record { line = at.line; col = at.col + 1 }))
-    behind true = record { line = omega arith; col = omega arith }
-    behind false = record { line = is.line; col = omega arith }
+abbrev AllFit : List Token → Type 0
+AllFit [] = Unit {0}
+AllFit (t ∷ ts) = TokenFits t × AllFit ts
 
--- every token has a place that counts from 1
-abbrev ArePlaced : List Token → Type 0
-ArePlaced [] = Unit {0}
-ArePlaced (t ∷ ts) = IsPlace (token_place t) × TokenFits t × ArePlaced ts
+all_fit : (text : Bytes) (i : ℕ) (at : Place) (ts : List Token) → AreTokens text i at ts → AllFit ts
+all_fit text i at ts (ends _ _ e) = tt
+all_fit text i at ts (blank _ _ _ e others) = all_fit text (i + 1) _ ts others
+all_fit text i at ts (token _ _ t n us e others) = (token_fits t n (subst Fits e (front_fits (drop i text) at)), all_fit text (i + n) (place_after n at) us others)
 
-placed : (text : Bytes) (i : ℕ) (at : Place) (ts : List Token) → IsPlace at → AreTokens text i at ts → ArePlaced ts
-placed text i at ts is (ends _ _ e) = tt
-placed text i at ts is (blank _ _ _ e others) = placed text (i + 1) _ ts (behind_is (slice_index text i) at is) others
-placed text i at ts is (token _ _ t n us e others) =
-    (subst IsPlace (sym (place_of_token (drop i text) at t n e)) is, token_fits t n (subst Fits e (front_fits (drop i text) at)), placed text (i + n) (place_after n at) us (record { line = is.line; col = let c = is.col in omega arith }) others)
-
-placed_at : (ts : List Token) (k : ℕ) (t : Token) → ArePlaced ts → slice_get ts k ≡ Some t → IsPlace (token_place t)
-placed_at [] k t are e = absurd (cc)
-placed_at (u ∷ ts) zero t are e = subst (λ t. IsPlace (token_place t)) (let same : u ≡ t = cc in same) are.0
-placed_at (u ∷ ts) (suc k) t are e = placed_at ts k t are.2 e
-
-fits_at : (ts : List Token) (k : ℕ) (t : Token) → ArePlaced ts → slice_get ts k ≡ Some t → TokenFits t
+fits_at : (ts : List Token) (k : ℕ) (t : Token) → AllFit ts → slice_get ts k ≡ Some t → TokenFits t
 fits_at [] k t are e = absurd (cc)
-fits_at (u ∷ ts) zero t are e = subst TokenFits (let same : u ≡ t = cc in same) are.1
-fits_at (u ∷ ts) (suc k) t are e = fits_at ts k t are.2 e
+fits_at (u ∷ ts) zero t are e = subst TokenFits (let same : u ≡ t = cc in same) are.0
+fits_at (u ∷ ts) (suc k) t are e = fits_at ts k t are.1 e
 
 -- ---- sums and statements
 
-sum_adds : (ts : List Token) (e : Tree) (n i : ℕ) (whole : Tree) (j : ℕ) → ArePlaced ts → IsAddition e → IsSum ts e n i whole j → IsAddition whole
+sum_adds : (ts : List Token) (e : Tree) (n i : ℕ) (whole : Tree) (j : ℕ) → AllFit ts → IsAddition e → IsSum ts e n i whole j → IsAddition whole
 sum_adds ts e n i whole j are is (done _ _ _ few) = is
 sum_adds ts e n i whole j are is (more _ _ _ _ _ a v b plus number others) =
-    sum_adds ts _ (n + 1) (i + 2) whole j are (refl, placed_at ts i (Plus a) are plus, is, fits_at ts (i + 1) (Number v b) are number) others
+    sum_adds ts _ (n + 1) (i + 2) whole j are (refl, is, fits_at ts (i + 1) (Number v b) are number) others
 
 sum_onward : (ts : List Token) (e : Tree) (n i : ℕ) (whole : Tree) (j : ℕ) → IsSum ts e n i whole j → i ≤ j
 sum_onward ts e n i whole j (done _ _ _ few) = omega arith
@@ -150,7 +102,7 @@ within [] k t e = absurd (cc)
 within (u ∷ ts) zero t e = omega arith
 within (u ∷ ts) (suc k) t e = let lt = within ts k t e in omega arith
 
-statement_is : (ts : List Token) (i : ℕ) (s : Tree) (j : ℕ) → ArePlaced ts → IsStatement ts i s j → IsOne s × (i < j) × (i < length ts)
+statement_is : (ts : List Token) (i : ℕ) (s : Tree) (j : ℕ) → AllFit ts → IsStatement ts i s j → IsOne s × (i < j) × (i < length ts)
 statement_is ts i s j are (skips _ a here) = (record { command = tt; single = omega arith }, omega arith, within ts i (Skip a) here)
 statement_is ts i s j are (puts _ a b v c e k d here opens number sum close) =
     let le = sum_onward ts _ 1 (i + 3) e k sum in
@@ -160,7 +112,7 @@ abbrev AllOne : List Tree → Type 0
 AllOne [] = Unit {0}
 AllOne (s ∷ ss) = IsOne s × AllOne ss
 
-statements_are : (ts : List Token) (i : ℕ) (ss : List Tree) → ArePlaced ts → AreStatements ts i ss → AllOne ss × (length ss + i ≤ length ts)
+statements_are : (ts : List Token) (i : ℕ) (ss : List Tree) → AllFit ts → AreStatements ts i ss → AllOne ss × (length ss + i ≤ length ts)
 statements_are ts i ss are (last _ s j is end) = let q = statement_is ts i s j are is in let lt = q.2 in ((q.0, tt), omega arith)
 statements_are ts i ss are (onward _ s j a rest is semicolon others) =
     let q = statement_is ts i s j are is in
@@ -187,42 +139,12 @@ sequence_is ss p all (halves xs ys l r some halved left right) =
 -- the phrase of a text is a command, and has at most as many output statements as the text has tokens
 pub phrase_is : (text : Bytes) (ts : List Token) (ss : List Tree) (p : Tree) → AreTokens text 0 first_place ts → AreStatements ts 0 ss → IsSequence ss p → IsCommand p × (puts_of p ≤ length ts)
 phrase_is text ts ss p tokens statements grouped =
-    let are = placed text 0 first_place ts (record { line = omega arith; col = omega arith }) tokens in
+    let are = all_fit text 0 first_place ts tokens in
     let all = statements_are ts 0 ss are statements in
     let is = sequence_is ss p all.0 grouped in
     let few = is.1 in
     let short = all.1 in
     (is.0, omega arith)
-
--- ---- where a fault stands
-
-added_at : (x y : Result ℤ Place) (here : Place) → IfErr x IsPlace → IfErr y IsPlace → IsPlace here → IfErr (added x y here) IsPlace
-added_at (Err at) y here hx hy is = hx
-added_at (Ok x) (Err at) here hx hy is = hy
-added_at (Ok x) (Ok y) here hx hy is = at (is_int (x +ℤ y))
-  where
-    at : (b : Bool) → IfErr (cond b (Ok (x +ℤ y)) (Err here)) IsPlace
-    at true = tt
-    at false = is
-
-value_at : (e : Tree) → IsAddition e → IfErr (value_of e) IsPlace
-value_at (lit v at) is = tt
-value_at (binary op p q at) is = added_at (value_of p) (value_of q) at (value_at p is.2) (value_at q is.3) is.1
-value_at _ is = absurd is
-
-said_value_at : (v : Result ℤ Place) → IfErr v IsPlace → IfSome (said_value v).fault IsPlace
-said_value_at (Ok v) is = tt
-said_value_at (Err at) is = is
-
-said_then_at : (fault other : Option Place) (text text' : Bytes) → IfSome fault IsPlace → IfSome other IsPlace → IfSome (said_then fault text (record { text = text'; fault = other })).fault IsPlace
-said_then_at (Some at) other text text' is is' = is
-said_then_at None other text text' is is' = is'
-
-pub fault_at : (p : Tree) → IsCommand p → IfSome (said p).fault IsPlace
-fault_at (skip at) is = tt
-fault_at (seq p q at) is = said_then_at (said p).fault (said q).fault (said p).text (said q).text (fault_at p is.0) (fault_at q is.1)
-fault_at (put kind e at) is = said_value_at (value_of e) (value_at e is.1)
-fault_at _ is = absurd is
 
 -- ---- what is said
 
@@ -303,13 +225,9 @@ put_count : (text : Bytes) → length (map put_block text) ≡ length text
 put_count [] = refl
 put_count (b ∷ bs) = let e = put_count bs in omega arith
 
-places_few : (fault : Option Place) → IfSome fault IsPlace → (length (places_of fault) ≤ 1) × All IsPlace (places_of fault)
-places_few None is = (omega arith, λ k d lt. absurd (omega arith))
-places_few (Some at) is = (omega arith, only)
-  where
-    only : (k : ℕ) (d : Place) → k < 1 → IsPlace (slice_index_or (at ∷ []) k d)
-    only zero d lt = is
-    only (suc k) d lt = absurd (omega arith)
+places_few : (fault : Option Place) → length (places_of fault) ≤ 1
+places_few None = omega arith
+places_few (Some at) = omega arith
 
 -- the image of a text's phrase keeps every range
 pub image_is : (stack : ℕ) (p : Tree) → 1024 ≤ stack → stack ≤ 16777216 → IsCommand p → puts_of p ≤ 4096 → IsImage (image_of stack p)
@@ -320,8 +238,7 @@ image_is stack p least most is few =
     let words = code_length (map put_block text ++ last ∷ []) in
     let blocks = length-append (map put_block text) (last ∷ []) in
     let bytes = put_count text in
-    let places = places_few (said p).fault (fault_at p is) in
-    let few_places = places.0 in
+    let few_places = places_few (said p).fault in
     record {
       stack_least = omega arith;
       stack_most = omega arith;
@@ -329,7 +246,6 @@ image_is stack p least most is few =
       code_most = omega arith;
       table_most = omega arith;
       places_most = omega arith;
-      places_are = places.1;
     }
 
 -- the text is of bytes, and short enough for a run

@@ -3,7 +3,8 @@ use Rattle.std.proofs.Common.{◌≡◌, ℕ, ◌+◌, ◌≤◌, ◌==◌, Bool
 use Rattle.std.proofs.lemmas.List.{append-nil}
 use Rattle.fy_base.specs.Outside.{Bytes}
 use Rattle.fy_base.specs.declared.data.Place.{Place}
-use Rattle.fy_small.specs.Small.{AreTokens, ends, blank, token, next_piece, place_behind, place_after, first_place}
+use Rattle.fy_base.specs.Places.{first_place, next_line, columns_on}
+use Rattle.fy_small.specs.Small.{AreTokens, ends, blank, token, next_piece, place_behind, place_after}
 use Rattle.fy_small.specs.declared.tokens.Token.{Token}
 use Rattle.fy_small.specs.declared.tokens.Piece.TheVariants as piece
 
@@ -88,6 +89,6 @@ read_bad text i at so_far is r ts are = let d = r.back ts are in at_bad text i a
 pub behind_near : (b : ℕ) (at : Place) (i : ℕ) → at.line ≤ i + 1 → at.col ≤ i + 1 → ((place_behind b at).line ≤ (i + 1) + 1) × ((place_behind b at).col ≤ (i + 1) + 1)
 behind_near b at i line col = near (b == 10)
   where
-    near : (t : Bool) → let p : Place = cond t (record { line = at.line + 1; col = 1 }) (record { line = at.line; col = at.col + 1 }) in (p.line ≤ (i + 1) + 1) × (p.col ≤ (i + 1) + 1)
+    near : (t : Bool) → let p : Place = cond t (next_line at) (columns_on 1 at) in (p.line ≤ (i + 1) + 1) × (p.col ≤ (i + 1) + 1)
     near true = (omega arith, omega arith)
     near false = (omega arith, omega arith)

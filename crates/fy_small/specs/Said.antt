@@ -8,7 +8,6 @@ use Rattle.fy_base.specs.declared.data.Datum.TheVariants as datum
 use Rattle.fy_base.specs.declared.data.Datum.{Datum}
 use Rattle.fy_base.specs.declared.data.BinOp.TheVariants.{Add}
 use Rattle.fy_base.specs.declared.data.PutKind.TheVariants as kinds
-use Rattle.fy_image.specs.Ranges.{IsPlace}
 use Rattle.fy_base.specs.Outside.{Bytes}
 use Rattle.fy_base.specs.Arithmetic.{is_int}
 use Rattle.fy_phrase.specs.Tree.{Tree, lit, binary, skip, seq, put}
@@ -53,7 +52,7 @@ said (seq p q at) = said_then (said p).fault (said p).text (said q)
 said (put kind e at) = said_value (value_of e)
 said _ = record { text = []; fault = None }
 
--- sums of integer literals, and commands made of them; the places of the sums are places
+-- sums of integer literals, and commands made of them
 abbrev pub IsIntDatum : Datum → Type 0
 IsIntDatum (datum.Int v) = IsTrue (is_int v)
 IsIntDatum (datum.Bool b) = ⊥
@@ -61,7 +60,7 @@ IsIntDatum (datum.Char c) = ⊥
 
 abbrev pub IsAddition : Tree → Type 0
 IsAddition (lit v at) = IsIntDatum v
-IsAddition (binary op p q at) = (op ≡ Add) × IsPlace at × IsAddition p × IsAddition q
+IsAddition (binary op p q at) = (op ≡ Add) × IsAddition p × IsAddition q
 IsAddition _ = ⊥
 
 abbrev pub IsCommand : Tree → Type 0

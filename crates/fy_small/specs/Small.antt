@@ -7,6 +7,7 @@ use Rattle.std.specs.List.{starts_with}
 use Rattle.std.specs.Prelude.{nat_eq}
 use Rattle.std.specs.Char.{is_ascii_digit}
 use Rattle.fy_base.specs.declared.data.Place.{Place}
+use Rattle.fy_base.specs.Places.{first_place, next_line, columns_on}
 use Rattle.fy_base.specs.declared.data.Datum.TheVariants as datum
 use Rattle.fy_base.specs.declared.data.BinOp.TheVariants.{Add}
 use Rattle.fy_base.specs.declared.data.PutKind.TheVariants as kind
@@ -54,11 +55,11 @@ next_piece (b ∷ bs) at =
 
 -- the place behind a byte: a line ends at byte 10
 abbrev pub place_behind : ℕ → Place → Place
-place_behind b at = if b == 10 then record { line = at.line + 1; col = 1 } else record { line = at.line; col = at.col + 1 }
+place_behind b at = if b == 10 then next_line at else columns_on 1 at
 
 -- the place behind a token, which stands on one line
 abbrev pub place_after : ℕ → Place → Place
-place_after n at = record { line = at.line; col = at.col + n }
+place_after n at = columns_on n at
 
 -- from byte i of the text on, at this place, the text is these tokens with blanks between them
 pub data AreTokens (text : Bytes) : ℕ → Place → List Token → Type 0 where
@@ -67,9 +68,6 @@ pub data AreTokens (text : Bytes) : ℕ → Place → List Token → Type 0 wher
       → AreTokens text (i + 1) (place_behind (slice_index text i) at) tokens → AreTokens text i at tokens
   token : (i : ℕ) (at : Place) (t : Token) (n : ℕ) (tokens : List Token) → next_piece (drop i text) at ≡ piece.Token t n
       → AreTokens text (i + n) (place_after n at) tokens → AreTokens text i at (t ∷ tokens)
-
-abbrev pub first_place : Place
-first_place = record { line = 1; col = 1 }
 
 -- ---- phrases
 

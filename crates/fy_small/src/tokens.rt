@@ -2,7 +2,8 @@
 
 ghost use Rattle.std.specs.Prelude.{All, IsTrue, ◌≡◌, ℕ, ◌+◌, ◌^◌, ◌<◌, ◌≤◌, List, length, take_while, drop, IfOk, MatchOption, IfSome, slice_get, pos};
 ghost use Rattle.std.specs.Char.{is_ascii_digit};
-ghost use Rattle.fy_small.specs.Small.{AreTokens, next_piece, number_piece, symbol_piece, is_blank, place_behind, place_after, first_place};
+ghost use Rattle.fy_base.specs.Places.{first_place};
+ghost use Rattle.fy_small.specs.Small.{AreTokens, next_piece, number_piece, symbol_piece, is_blank, place_behind, place_after};
 ghost use Rattle.fy_small.specs.declared.tokens.Token.{Token};
 
 use fy_base::{OutOfMemory, Place};
@@ -126,15 +127,9 @@ fn place_behind(byte: u8, at: Place) -> Place
     ensures { result ≡ place_behind byte at }
 {
     if byte == b'\n' {
-        Place {
-            line: at.line + 1,
-            col: 1,
-        }
+        at.next_line()
     } else {
-        Place {
-            line: at.line,
-            col: at.col + 1,
-        }
+        at.columns_on(1)
     }
 }
 
@@ -146,7 +141,7 @@ pub fn tokens_of(alloc: Global, text: &[u8]) -> Result<Option<Vec<Token>>, OutOf
     ensures none { IfOk result (λ found. MatchOption found ((tokens : List Token) → AreTokens text.now 0 first_place tokens → ⊥) (λ v. (tokens : List Token) → AreTokens text.now 0 first_place tokens → tokens ≡ v.items)) }
 {
     let mut tokens = Vec::new(alloc);
-    let mut place = Place { line: 1, col: 1 };
+    let mut place = Place::first();
     let mut at = 0;
     loop {
         match piece_at(text, at, place) {
@@ -158,7 +153,7 @@ pub fn tokens_of(alloc: Global, text: &[u8]) -> Result<Option<Vec<Token>>, OutOf
             }
             Piece::Token(token, length) => {
                 tokens.push(token)?;
-                place.col += length as u32;
+                place = place.columns_on(length as u32);
                 at += length;
             }
         }

@@ -4,6 +4,7 @@ use Rattle.std.specs.List.{list_all}
 use Rattle.std.proofs.lemmas.Bool.Decides.{nat_tests}
 use Rattle.fy_base.specs.Outside.{Bytes}
 use Rattle.fy_base.specs.declared.data.Place.{Place}
+use Rattle.fy_base.specs.Places.{first_place}
 use Rattle.fy_types.specs.Words.{is_name_byte, is_digit}
 use Rattle.fy_lexer.specs.declared.token.Token.{Token}
 use Rattle.fy_lexer.specs.declared.token.TokenKind.{TokenKind}
@@ -177,7 +178,7 @@ lexed_led names (t ∷ ts) place done s k =
 pub lexed : (names : List Bytes) (t : Token) (ts : List Token) → AreSpelled names (t ∷ ts) → AreKnown names (t ∷ ts) → Lexed names (start_of names (joined (texts names (t ∷ ts)))) (t ∷ ts)
 lexed names t ts s k =
     let text = kind_text names t.kind in
-    let here : Place = record { line = 1; col = 1 } in
+    let here : Place = first_place in
     let u : Token = record { kind = t.kind; place = here } in
     let r = lexed_led names ts (past here text) (u ∷ []) s.1 k.1 in
     record {

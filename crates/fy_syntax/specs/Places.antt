@@ -1,12 +1,13 @@
 -- Trees and tokens but for their places.
 use Rattle.std.specs.Prelude.{List, [], ◌∷◌}
 use Rattle.fy_base.specs.declared.data.Place.{Place}
+use Rattle.fy_base.specs.Places.{first_place}
 use Rattle.fy_syntax.specs.declared.surface.Prefixed.{Prefixed}
 use Rattle.fy_syntax.specs.Trees.{TypeTree, TypeTrees, DeclTree, Tree, Trees, Defs, Links}
 
--- what stands for each place
+-- what stands for each place; any would do
 abbrev pub no_place : Place
-no_place = record { line = 0; col = 0 }
+no_place = first_place
 
 abbrev mutual
   pub type_without_places : TypeTree → TypeTree

@@ -1,6 +1,7 @@
 -- Tokens in their places, and the words and symbols of operators and types.
 use Rattle.std.specs.Prelude.{ℕ, Bool, true, false, List, [], ◌∷◌}
 use Rattle.fy_base.specs.declared.data.Place.{Place}
+use Rattle.fy_base.specs.Places.{first_place}
 use Rattle.fy_base.specs.declared.data.BinOp.{BinOp}
 use Rattle.fy_base.specs.declared.data.BinOp.TheVariants as op
 use Rattle.fy_base.specs.declared.data.UnOp.{UnOp}
@@ -28,9 +29,9 @@ symbol_at s at = token (kind.Sym s) at
 abbrev pub ident_at : ℕ → Place → Token
 ident_at name at = token (kind.Ident name) at
 
--- the place of the first token
+-- the place of the first token, or any where there is none
 abbrev pub front : List Token → Place
-front [] = record { line = 0; col = 0 }
+front [] = first_place
 front (t ∷ ts) = t.place
 
 -- the levels of the grammar, from the one that binds least

@@ -47,11 +47,13 @@ loop-tokens-preserved c =
     let pushed : c.push.new.self.items ≡ c.loop-tokens.tokens.items ++ c.in-Token.token ∷ [] = c.in_ok-push-in-Token.ensures.items in
     let after = read_token text i place c.in-Token.token n c.loop-tokens.tokens.items (sym c.piece_at.ensures.value ∙ c.in-Token.is) c.loop-tokens.invariant.read in
     let more = length-append c.loop-tokens.tokens.items (c.in-Token.token ∷ []) in
-    let Inv : List Token → Type 0 = λ ts. record {
+    let Inv : List Token → Place → Type 0 = λ ts p. record {
       within : i + n ≤ length text;
       few : length ts ≤ i + n;
-      line : place.line ≤ i + n + 1;
-      col : place.col + n ≤ i + n + 1;
-      read : ReadTo text (i + n) (place_after n place) ts;
+      line : p.line ≤ i + n + 1;
+      col : p.col ≤ i + n + 1;
+      read : ReadTo text (i + n) p ts;
     } in
-    subst Inv (sym pushed) (record { within = within; few = omega arith; line = omega arith; col = omega arith; read = after })
+    subst (λ ts. Inv ts c.columns_on-place.result) (sym pushed)
+    (subst (λ p. Inv (c.loop-tokens.tokens.items ++ c.in-Token.token ∷ []) p) (sym c.columns_on-place.ensures)
+    (record { within = within; few = omega arith; line = omega arith; col = omega arith; read = after }))
