@@ -1,6 +1,7 @@
 ghost use Rattle.std.specs.Prelude.{◌≡◌, IfOk, pos};
 ghost use Rattle.fy_base.specs.declared.data.BinOp.TheVariants as op;
 ghost use Rattle.fy_base.specs.declared.data.Place.{Place as PlaceRecord};
+ghost use Rattle.fy_base.specs.Places.{first_place};
 ghost use Rattle.fy_syntax.specs.Reading.{tree_of};
 ghost use Rattle.fy_syntax.specs.Trees.{Tree, Trees, Links};
 
@@ -16,7 +17,7 @@ use std::test::Fail;
 
 // `putint ( 1 + 2 )`, where `putint` has the number 1
 fn putint_of_a_sum(alloc: Global) -> Result<Surface, OutOfMemory>
-    ensures { let at : PlaceRecord = record { line = 1; col = 1 } in
+    ensures { let at : PlaceRecord = first_place in
         IfOk result (λ t. tree_of t
         ≡ Tree.apply (Tree.ident 1 at) (Trees.and_tree (Tree.group (Tree.chain (Tree.number (pos 1) at)
         (Links.and_link op.Add at (Tree.number (pos 2) at) Links.no_links) at) at) Trees.no_trees) at) }
