@@ -22,7 +22,7 @@ use Rattle.fy_read.specs.Opened.{PlainOpen, PlainNodes, with_node, given, missin
 use Rattle.fy_read.specs.OpenTypes.{PlainLevels, with_inner, with_field, with_part, TakesPart, IsFieldDeep}
 use Rattle.fy_derive.specs.Reading.{plain_derivation, plain_derivations, derivations_in, derivations_from}
 use Rattle.fy_read.specs.Readers.{reached_by, IsBegun, MayBegin, AreSound, AreLed, AreEnded}
-use Rattle.fy_read.specs.Refusals.{type_nesting}
+use Rattle.fy_types.specs.Nested.{type_nesting}
 use Rattle.fy_read.specs.Spelling.{Piece, word, number, TypeLevel, SpellsType, is_blank}
 use Rattle.fy_read.specs.Steps.{Reached, at, Spot, spot, Begun, nothing, letters, digits, after, after_known, after_count, after_type_word, is_type_word, begun_behind, lettered, node_word, type_word, part_type, least, greatest, wanted, step, ended}
 use Rattle.fy_read.specs.Steps as steps

@@ -10,7 +10,8 @@ use Rattle.fy_read.specs.declared.words.NodeWord.{NodeWord}
 use Rattle.fy_read.specs.declared.words.NodeWord.TheVariants as node
 use Rattle.fy_read.specs.Depth.{Deep, no_depth, deep_part, deep_field, deep_arrow, deep_whole, Nest, outside, within, nest_with, nest_after, typeds, low, nest_of}
 use Rattle.fy_derive.specs.Derivations.{PlainDerivation, most_nodes, most_nesting}
-use Rattle.fy_read.specs.Refusals.{deepest_type, node_words, open_parens, most_type_nesting, most_open_parens, BeginsPieces, EndsPiece, PassesSize, PassesDepth, of_nodes, of_parens, of_type, KeepsBefore, IsStopOf, IsBadText, IsTooLargeText, IsTooDeepText, IsWithin}
+use Rattle.fy_derive.specs.Limits.{deepest_type, most_type_nesting, KeepsLimits}
+use Rattle.fy_read.specs.Refusals.{node_words, open_parens, most_open_parens, BeginsPieces, EndsPiece, PassesSize, PassesDepth, of_nodes, of_parens, of_type, KeepsBefore, IsStopOf, IsBadText, IsTooLargeText, IsTooDeepText}
 use Rattle.fy_read.specs.Shape.{first_shape, outs, greatest}
 use Rattle.fy_read.specs.Spelling.{Piece, word, number, sign, open_bracket, close_bracket, open_paren, close_paren, colon, arrow, ampersand, AreSpelled, SpellsDerivation}
 use Rattle.fy_read.specs.Steps.{Reached, at, after, after_fit, after_all, after_known, after_node, node_word, is_type_word, least, greatest as most, wanted, begin, finish}
@@ -318,7 +319,7 @@ pub too_deep : (text part rest : Bytes) → text ≡ part ++ rest → PassesDept
 too_deep text part rest is passes small before = record { part = part; rest = rest; is = is; passes = passes; small = small; before = before }
 
 -- the limits of a derivation whose text has them
-pub within_limits : {names : List Bytes} (d : PlainDerivation) (ps : List Piece) → SpellsDerivation names d ps [] → IsFine ps finish → IsWithin d
+pub within_limits : {names : List Bytes} (d : PlainDerivation) (ps : List Piece) → SpellsDerivation names d ps [] → IsFine ps finish → KeepsLimits d
 within_limits d ps s fine =
     let t = nodes-words s in record {
       few = omega (arith, t.0, fine.few);

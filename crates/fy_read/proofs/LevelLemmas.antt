@@ -4,7 +4,8 @@ use Rattle.std.proofs.lemmas.List.{map_push, reverse-append}
 use Rattle.fy_types.specs.Types.{PlainType, PlainTypes}
 use Rattle.fy_types.specs.Types as types
 use Rattle.fy_types.specs.Reading.{types_from}
-use Rattle.fy_read.specs.Refusals.{type_nesting, types_nesting, most_type_nesting}
+use Rattle.fy_types.specs.Nested.{type_nesting, types_nesting}
+use Rattle.fy_derive.specs.Limits.{most_type_nesting}
 use Rattle.fy_read.specs.declared.level.Level.{Level}
 use Rattle.fy_read.specs.Levels.{plain_level, outer_levels}
 use Rattle.fy_read.specs.OpenTypes.{PlainLevel, in_fields, in_arrows, meet_all, whole_type, with_field, with_part, with_domain, PlainLevels, no_levels, with_inner, with_open, closed_by, with_closed, one_if_any, inside, around, greatest_nesting, meet_nesting, arrows_nesting, level_nesting, HasRoom, HasMember, AllHaveRoom, TakesPart, TakesJoint, IsFieldDeep, IsMeetDeep, IsArrowDeep}

@@ -8,7 +8,8 @@ use Rattle.fy_read.specs.declared.read.Awaited.{Awaited}
 use Rattle.fy_read.specs.declared.read.Awaited.TheVariants as awaited
 use Rattle.fy_read.specs.Depth.{Deep, deep, no_depth, many, deep_part, deep_field, deep_arrow, deep_whole, outside, within, nest_after, typeds, nodes_around, low_next, low_last, low, nest_of}
 use Rattle.fy_derive.specs.Derivations.{PlainDerivation}
-use Rattle.fy_read.specs.Refusals.{deepest_type, BeginsPieces}
+use Rattle.fy_derive.specs.Limits.{deepest_type}
+use Rattle.fy_read.specs.Refusals.{BeginsPieces}
 use Rattle.fy_read.specs.Shape.{greatest}
 use Rattle.fy_read.specs.Spelling.{Piece, word, number, sign, open_bracket, close_bracket, open_paren, close_paren, colon, arrow, ampersand, SpellsDerivation}
 use Rattle.fy_read.specs.Steps.{Reached, at, after_fit, after_all, is_type_word, begin, finish, least, wanted}

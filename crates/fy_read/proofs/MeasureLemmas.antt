@@ -12,7 +12,9 @@ use Rattle.fy_read.specs.Measures.{shape_of, deep_of, nest_at, open_at, IsMeasur
 use Rattle.fy_read.specs.Opened.{PlainOpen, in_sub, in_alt, in_left, in_right, in_meet, in_rule, is_whole, is_waiting, PlainNodes, given, given_on, added, missing, AreWaiting}
 use Rattle.fy_read.specs.OpenTypes.{PlainLevel, PlainLevels, in_fields, meet_all, whole_type, with_field, with_part, with_domain, closed_by, one_if_any, around, greatest_nesting, meet_nesting, arrows_nesting, HasRoom, HasMember, AllHaveRoom, TakesPart, TakesJoint}
 use Rattle.fy_read.specs.Readers.{reached_by, AreFit}
-use Rattle.fy_read.specs.Refusals.{type_nesting, opened_from, open_parens, most_type_nesting, most_open_parens}
+use Rattle.fy_types.specs.Nested.{type_nesting}
+use Rattle.fy_read.specs.Refusals.{opened_from, open_parens, most_open_parens}
+use Rattle.fy_derive.specs.Limits.{most_type_nesting}
 use Rattle.fy_read.specs.Shape.{first_shape, less_one, give, push, shape_with, out, outs, greatest}
 use Rattle.fy_read.specs.Spelling.{Piece, word, number, sign, open_bracket, close_bracket, open_paren, close_paren, colon, arrow, ampersand}
 use Rattle.fy_read.specs.Steps.{Reached, after, after_fit, after_all, begin}

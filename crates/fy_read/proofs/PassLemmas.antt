@@ -20,7 +20,8 @@ use Rattle.fy_read.specs.OpenLevels.{PassesIf}
 use Rattle.fy_read.specs.OpenTypes.{PlainLevels, with_inner, with_field, TakesJoint, IsFieldDeep, IsMeetDeep, IsArrowDeep}
 use Rattle.fy_read.specs.Passing.{Passes, IsPlain}
 use Rattle.fy_read.specs.Readers.{reached_by}
-use Rattle.fy_read.specs.Refusals.{opened_from, most_type_nesting, most_open_parens, ends_loose, EndsPiece, PassesSize, PassesDepth, IsWithin}
+use Rattle.fy_read.specs.Refusals.{opened_from, most_open_parens, ends_loose, EndsPiece, PassesSize, PassesDepth}
+use Rattle.fy_derive.specs.Limits.{most_type_nesting, KeepsLimits}
 use Rattle.fy_read.specs.Shape.{first_shape, out, outs, greatest}
 use Rattle.fy_read.specs.Spelling.{Piece, word, sign, Sign, open_paren, arrow, ampersand, is_loose, spelling, AreSpelled, at_end, a_piece}
 use Rattle.fy_read.specs.Steps.{Reached, at, after, after_node, node_text}
@@ -211,7 +212,7 @@ holds_at {q = q} {names = names} {text = text} {l = l} {n = n} {Ls = Ls} b same 
 
 -- the whole keeps the limits
 pub whole_within : {q : ℕ} {names : List Bytes} {text : Bytes} {l : Bool} {a : Awaited} {n : PlainNodes} {Ls : PlainLevels} (d : PlainDerivation) →
-    a ≡ awaited.Node → n.whole ≡ Some d → Holds q names text l a n Ls → IsWithin d
+    a ≡ awaited.Node → n.whole ≡ Some d → Holds q names text l a n Ls → KeepsLimits d
 whole_within {names = names} {n = n} {Ls = Ls} d node whole h =
     let k = holds_at awaited.Node node h in
     let spells = read_whole n.waiting d (HasAdded-none names)

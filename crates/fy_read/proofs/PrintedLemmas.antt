@@ -9,8 +9,11 @@ use Rattle.fy_types.specs.Types as types
 use Rattle.fy_derive.specs.Derivations.{PlainDerivation, PlainDerivations, by_ns, sub, meets, alt, left, right, rule, no_derivations, and_derivation, count}
 use Rattle.fy_derive.specs.Print.{derivation_text, derivations_text}
 use Rattle.fy_read.proofs.ParenLemmas.{most_open, open_before}
-use Rattle.fy_read.specs.Refusals.{type_nesting, types_nesting, deepest_type, deepest_types}
-use Rattle.fy_read.specs.Printable.{IsNamed, IsTypePrintable, AreTypesPrintable, IsPrintable, ArePrintable, PrintedIsText}
+use Rattle.fy_types.specs.Nested.{type_nesting, types_nesting}
+use Rattle.fy_derive.specs.Limits.{deepest_type, deepest_of_all}
+use Rattle.fy_types.specs.Fields.{IsNamed, AllFields, AllFieldsOf, HasFullMeets, HaveFullMeets}
+use Rattle.fy_read.specs.Printable.{PrintedIsText}
+use Rattle.fy_derive.specs.Printable.{IsPrintable, ArePrintable}
 use Rattle.fy_read.specs.Spelling.{Piece, word, number, sign, Sign, TypeLevel, meet_of, SpellsType, an_arrow, no_arrow, members, a_field, no_field, ns, atom, group, MoreTypes, no_more, one_more, SpellsDerivation, a_ns, a_sub, a_meet, an_alt, a_left, a_right, a_rule, SpellsDerivations, none, and_one, AreSpelled, at_end, a_blank, a_piece, IsTextOf}
 
 -- what may stand behind a word may stand behind a sign
@@ -199,36 +202,39 @@ meet_parts names A As a as' =
     (wide_more (types_nesting As) (max (type_nesting A) (types_nesting As)) (omega arith) as')
 
 mutual
-  part_prints : (names : List Bytes) (A : PlainType) → IsTypePrintable names A →
+  part_prints : (names : List Bytes) (A : PlainType) → AllFields (IsNamed names) A → HasFullMeets A →
       Prints names TypeLevel.primary A (type_nesting A) (enclosed A (type_text names A))
-  part_prints names types.ns h = word_prints (codes "ns") (λ r. ns)
-  part_prints names (types.atom a) h = word_prints (atom_text a) (λ r. atom {a = a})
-  part_prints names (types.arrow A B) h = in_parens _ (arrow_parts names A B (part_prints names A h.0) (part_prints names B h.1))
-  part_prints names (types.field i A) h = in_parens _ (field_prints i (enclosed A (type_text names A)) h.0 (part_prints names A h.1))
-  part_prints names (types.meet no_types) h = absurd h.0
-  part_prints names (types.meet (and_type A no_types)) h = absurd h.0
-  part_prints names (types.meet (and_type A (and_type B As))) h = in_parens _ (meet_parts names A (and_type B As) (part_prints names A h.1.0) (further_print names (and_type B As) h.1.1))
+  part_prints names types.ns h k = word_prints (codes "ns") (λ r. ns)
+  part_prints names (types.atom a) h k = word_prints (atom_text a) (λ r. atom {a = a})
+  part_prints names (types.arrow A B) h k = in_parens _ (arrow_parts names A B (part_prints names A h.0 k.0) (part_prints names B h.1 k.1))
+  part_prints names (types.field i A) h k = in_parens _ (field_prints i (enclosed A (type_text names A)) h.0 (part_prints names A h.1 k))
+  part_prints names (types.meet no_types) h k = absurd k.0
+  part_prints names (types.meet (and_type A no_types)) h k = absurd k.0
+  part_prints names (types.meet (and_type A (and_type B As))) h k =
+      in_parens _ (meet_parts names A (and_type B As) (part_prints names A h.0 k.1.0) (further_print names (and_type B As) h.1 k.1.1))
 
-  further_print : (names : List Bytes) (As : PlainTypes) → AreTypesPrintable names As → PrintsMore names As (types_nesting As) (further_text names As)
-  further_print names no_types h = none_prints
-  further_print names (and_type A As) h =
+  further_print : (names : List Bytes) (As : PlainTypes) → AllFieldsOf (IsNamed names) As → HaveFullMeets As →
+      PrintsMore names As (types_nesting As) (further_text names As)
+  further_print names no_types h k = none_prints
+  further_print names (and_type A As) h k =
       more_prints (enclosed A (type_text names A)) (further_text names As)
-      (wide (type_nesting A) (max (type_nesting A) (types_nesting As)) (omega arith) (part_prints names A h.0))
-      (wide_more (types_nesting As) (max (type_nesting A) (types_nesting As)) (omega arith) (further_print names As h.1))
+      (wide (type_nesting A) (max (type_nesting A) (types_nesting As)) (omega arith) (part_prints names A h.0 k.0))
+      (wide_more (types_nesting As) (max (type_nesting A) (types_nesting As)) (omega arith) (further_print names As h.1 k.1))
 
-type_prints : (names : List Bytes) (A : PlainType) → IsTypePrintable names A → Prints names TypeLevel.type A (type_nesting A) (type_text names A)
-type_prints names types.ns h = as_type (word_prints (codes "ns") (λ r. ns))
-type_prints names (types.atom a) h = as_type (word_prints (atom_text a) (λ r. atom {a = a}))
-type_prints names (types.arrow A B) h =
+type_prints : (names : List Bytes) (A : PlainType) → AllFields (IsNamed names) A → HasFullMeets A →
+    Prints names TypeLevel.type A (type_nesting A) (type_text names A)
+type_prints names types.ns h k = as_type (word_prints (codes "ns") (λ r. ns))
+type_prints names (types.atom a) h k = as_type (word_prints (atom_text a) (λ r. atom {a = a}))
+type_prints names (types.arrow A B) h k =
     wide (max (type_nesting A) (type_nesting B)) (1 + max (type_nesting A) (type_nesting B)) (omega arith)
-    (arrow_parts names A B (part_prints names A h.0) (part_prints names B h.1))
-type_prints names (types.field i A) h =
-    wide (type_nesting A) (1 + type_nesting A) (omega arith) (field_prints i (enclosed A (type_text names A)) h.0 (part_prints names A h.1))
-type_prints names (types.meet no_types) h = absurd h.0
-type_prints names (types.meet (and_type A no_types)) h = absurd h.0
-type_prints names (types.meet (and_type A (and_type B As))) h =
+    (arrow_parts names A B (part_prints names A h.0 k.0) (part_prints names B h.1 k.1))
+type_prints names (types.field i A) h k =
+    wide (type_nesting A) (1 + type_nesting A) (omega arith) (field_prints i (enclosed A (type_text names A)) h.0 (part_prints names A h.1 k))
+type_prints names (types.meet no_types) h k = absurd k.0
+type_prints names (types.meet (and_type A no_types)) h k = absurd k.0
+type_prints names (types.meet (and_type A (and_type B As))) h k =
     wide (max (type_nesting A) (types_nesting (and_type B As))) (1 + max (type_nesting A) (types_nesting (and_type B As))) (omega arith)
-    (meet_parts names A (and_type B As) (part_prints names A h.1.0) (further_print names (and_type B As) h.1.1))
+    (meet_parts names A (and_type B As) (part_prints names A h.0 k.1.0) (further_print names (and_type B As) h.1 k.1.1))
 
 -- outside of types too
 record Keeps (b : ℕ) (qs ps : List Piece) : Type 0 where
@@ -245,7 +251,7 @@ record AllWritten (names : List Bytes) (ds : PlainDerivations) (text : Bytes) (q
   pieces : List Piece
   derivations : SpellsDerivations names ds pieces qs
   spelled : AreSpelled false pieces (text ++ more)
-  opens : Keeps (deepest_types ds) qs pieces
+  opens : Keeps (deepest_of_all ds) qs pieces
 
 word_keeps : {b : ℕ} {qs ps : List Piece} (w : Bytes) → Keeps b qs ps → Keeps b qs (word w ∷ ps)
 word_keeps w opens = record { most = λ m deep after. opens.most m deep after }
@@ -304,8 +310,8 @@ mutual
         opens = word_keeps (codes "ns") none_keeps;
       }
   writes names (sub T d) h qs more s =
-      let t = writes names d h.1 qs more s in
-      let u = type_line_spelled names T (type_text names T) (derivation_text names d) more (type_prints names T h.0) t.pieces t.spelled in
+      let t = writes names d h.2 qs more s in
+      let u = type_line_spelled names T (type_text names T) (derivation_text names d) more (type_prints names T h.0 h.1) t.pieces t.spelled in
       record {
         pieces = word (codes "sub") ∷ sign Sign.open_bracket ∷ u.0;
         derivation = a_sub u.1 t.derivation;
@@ -365,7 +371,7 @@ mutual
         pieces = u.pieces;
         derivations = and_one u.derivation t.derivations;
         spelled = subst (AreSpelled false u.pieces) (sym (append_assoc (derivation_text names d) (derivations_text names ds) more)) u.spelled;
-        opens = both_keep (deepest_type d) (deepest_types ds) qs t.pieces u.pieces t.opens u.opens;
+        opens = both_keep (deepest_type d) (deepest_of_all ds) qs t.pieces u.pieces t.opens u.opens;
       }
 
 -- what is printed, with the parentheses that it opens

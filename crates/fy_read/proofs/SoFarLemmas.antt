@@ -19,7 +19,8 @@ use Rattle.fy_read.specs.OpenTypes.{PlainLevels, TakesPart, IsFieldDeep}
 use Rattle.fy_read.specs.Passing.{EndsDeep}
 use Rattle.fy_read.specs.Readers.{reached_by, reached, spot_of, IsBegun, AreFit, AreSound, IsSound}
 use Rattle.fy_read.specs.ReadSoFar.{IsRead, at_piece, in_word, in_number, in_dash}
-use Rattle.fy_read.specs.Refusals.{node_words, open_parens, most_type_nesting, most_open_parens, EndsPiece, PassesSize, PassesDepth}
+use Rattle.fy_read.specs.Refusals.{node_words, open_parens, most_open_parens, EndsPiece, PassesSize, PassesDepth}
+use Rattle.fy_derive.specs.Limits.{most_type_nesting}
 use Rattle.fy_read.specs.Shape.{first_shape, outs, greatest}
 use Rattle.fy_read.specs.Spelling.{Piece, word, number, AreSpelled}
 use Rattle.fy_read.specs.Steps.{Reached, at, after, after_all, begin, steps, start, ended, ended_fit, type_word, part_type}

@@ -9,8 +9,9 @@ use Rattle.fy_derive.specs.Derivations.{PlainDerivation, PlainDerivations, most_
 use Rattle.fy_derive.specs.Print.{derivation_text}
 use Rattle.fy_read.specs.declared.error.ReadError.{ReadError}
 use Rattle.fy_read.specs.declared.error.ReadError.TheVariants.{BadText, TooLarge, TooDeep, OutOfMemory}
-use Rattle.fy_read.specs.Printable.{IsPrintable}
-use Rattle.fy_read.specs.Refusals.{Stops, BeginsPieces, PassesSize, PassesDepth, of_nodes, of_parens, of_type, IsReadFault, IsWithin, most_open_parens}
+use Rattle.fy_derive.specs.Printable.{IsPrintable}
+use Rattle.fy_read.specs.Refusals.{Stops, BeginsPieces, PassesSize, PassesDepth, of_nodes, of_parens, of_type, IsReadFault, most_open_parens}
+use Rattle.fy_derive.specs.Limits.{KeepsLimits}
 use Rattle.fy_read.specs.Spelling.{Piece, TypeLevel, SpellsType, an_arrow, no_arrow, members, a_field, no_field, ns, atom, group, MoreTypes, no_more, one_more, SpellsDerivation, a_ns, a_sub, a_meet, an_alt, a_left, a_right, a_rule, SpellsDerivations, none, and_one, AreSpelled, IsTextOf}
 use Rattle.fy_read.specs.Steps.{begin, finish}
 use Rattle.fy_read.specs.TextLaws.{IsReadAs, PrintedIsRead}
@@ -80,7 +81,7 @@ front {e = e} {text = text} {rest = rest} t qs is spelled begun =
     let b = begun_leads e qs begun in
     front_of rest text begin b.0 finish spelled t.spelled (sym is) b.1 (after_whole t.derivation)
 
-no_size : (names : List Bytes) (d : PlainDerivation) (part rest : Bytes) → (p : IsPrinted names d) → IsWithin d → derivation_text names d ≡ part ++ rest →
+no_size : (names : List Bytes) (d : PlainDerivation) (part rest : Bytes) → (p : IsPrinted names d) → KeepsLimits d → derivation_text names d ≡ part ++ rest →
     ¬ PassesSize part
 no_size names d part rest p within is passes =
     omega (
@@ -91,7 +92,7 @@ no_size names d part rest p within is passes =
       within.few,
     )
 
-no_depth : (names : List Bytes) (d : PlainDerivation) (part rest : Bytes) → (p : IsPrinted names d) → IsWithin d → derivation_text names d ≡ part ++ rest →
+no_depth : (names : List Bytes) (d : PlainDerivation) (part rest : Bytes) → (p : IsPrinted names d) → KeepsLimits d → derivation_text names d ≡ part ++ rest →
     ¬ PassesDepth part rest
 no_depth names d part rest p within is (of_nodes qs e spelled begun above) =
     omega (
@@ -110,7 +111,7 @@ no_depth names d part rest p within is (of_type qs e spelled begun ends all) =
     record { names = names; more = whole.0; spelled = subst (λ ps. SpellsDerivation names d ps []) whole.1 p.text.derivation } in
     omega (arith, all d begins, within.types)
 
-taken : (names : List Bytes) (d : PlainDerivation) → IsPrinted names d → IsWithin d → (fault : ReadError) → IsReadFault (derivation_text names d) fault →
+taken : (names : List Bytes) (d : PlainDerivation) → IsPrinted names d → KeepsLimits d → (fault : ReadError) → IsReadFault (derivation_text names d) fault →
     fault ≡ OutOfMemory
 taken names d p within (BadText k) h = absurd (goes_on names d (derivation_text names d) h.part h.rest p.text h.is h.stops)
 taken names d p within TooLarge h = absurd (no_size names d h.part h.rest p within h.is h.passes)

@@ -9,7 +9,8 @@ use Rattle.fy_types.specs.Types.{PlainType, PlainTypes, no_types, and_type}
 use Rattle.fy_types.specs.Words.{is_name_like, is_word}
 use Rattle.fy_read.specs.Depth.{Deep, deep, one, many, deep_part, deep_field, deep_whole, Nest, outside, within, nest_with, nest_after, typed, typeds, low}
 use Rattle.fy_derive.specs.Derivations.{PlainDerivation, PlainDerivations, by_ns, sub, meets, alt, left, right, rule, no_derivations, and_derivation}
-use Rattle.fy_read.specs.Refusals.{type_nesting, types_nesting, deepest_type, deepest_types}
+use Rattle.fy_types.specs.Nested.{type_nesting, types_nesting}
+use Rattle.fy_derive.specs.Limits.{deepest_type, deepest_of_all}
 use Rattle.fy_read.specs.Shape.{greatest}
 use Rattle.fy_read.specs.Spelling.{Piece, sign, colon, TypeLevel, type, inter, field, primary, meet_of, SpellsType, an_arrow, no_arrow, members, a_field, no_field, ns, atom, group, MoreTypes, no_more, one_more, SpellsDerivation, a_ns, a_sub, a_meet, an_alt, a_left, a_right, a_rule, SpellsDerivations, none, and_one}
 
@@ -140,7 +141,7 @@ mutual
   deepest-types (right d) = deepest-types d
   deepest-types (rule ds) = deepest-all ds
 
-  deepest-all : (ds : PlainDerivations) → deepest_types ds ≡ greatest (all_types ds)
+  deepest-all : (ds : PlainDerivations) → deepest_of_all ds ≡ greatest (all_types ds)
   deepest-all no_derivations = refl
   deepest-all (and_derivation d ds) = omega (arith, greatest-append (types_of d) (all_types ds), deepest-types d, deepest-all ds)
 

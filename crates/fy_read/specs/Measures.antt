@@ -9,7 +9,8 @@ use Rattle.fy_derive.specs.Derivations.{most_nodes, most_nesting}
 use Rattle.fy_read.specs.Opened.{PlainNodes, missing}
 use Rattle.fy_read.specs.OpenTypes.{PlainLevel, PlainLevels, arrows_nesting, greatest_nesting}
 use Rattle.fy_read.specs.Readers.{reached_by}
-use Rattle.fy_read.specs.Refusals.{open_parens, most_type_nesting, most_open_parens}
+use Rattle.fy_read.specs.Refusals.{open_parens, most_open_parens}
+use Rattle.fy_derive.specs.Limits.{most_type_nesting}
 use Rattle.fy_read.specs.Shape.{Want, no_number, a_list, an_index, Shape, shape, first_shape, shape_after, outs, greatest}
 use Rattle.fy_read.specs.Spelling.{Piece}
 use Rattle.fy_read.specs.Steps.{after_all, begin}

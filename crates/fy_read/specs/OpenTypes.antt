@@ -3,7 +3,8 @@ use Rattle.std.specs.Prelude.{◌≡◌, ℕ, ◌+◌, ◌<◌, ◌≤◌, max, 
 use Rattle.fy_types.specs.Types.{PlainType, PlainTypes}
 use Rattle.fy_types.specs.Types as types
 use Rattle.fy_types.specs.Reading.{types_from}
-use Rattle.fy_read.specs.Refusals.{type_nesting, most_type_nesting}
+use Rattle.fy_types.specs.Nested.{type_nesting}
+use Rattle.fy_derive.specs.Limits.{most_type_nesting}
 use Rattle.fy_read.specs.Spelling.{meet_of}
 
 -- what stands before each `->`, the members of the meet behind the last one, and the fields before the part that comes next

@@ -1,10 +1,9 @@
 -- Where a text first can't become a derivation's text, or passes a limit.
 use Rattle.std.specs.Prelude.{◌≡◌, ℕ, zero, suc, ◌+◌, ◌-◌, ◌<◌, ◌≤◌, Bool, true, false, IsTrue, max, List, [], ◌∷◌, ◌++◌, length}
 use Rattle.fy_base.specs.Outside.{Bytes}
-use Rattle.fy_types.specs.Types.{PlainType, PlainTypes}
-use Rattle.fy_types.specs.Types as types
 use Rattle.fy_types.specs.Words.{is_name_byte}
-use Rattle.fy_derive.specs.Derivations.{PlainDerivation, PlainDerivations, by_ns, sub, meets, alt, left, right, rule, no_derivations, and_derivation, nodes, nesting, most_nodes, most_nesting}
+use Rattle.fy_derive.specs.Derivations.{PlainDerivation, PlainDerivations, by_ns, sub, meets, alt, left, right, rule, no_derivations, and_derivation, nodes, most_nodes, most_nesting}
+use Rattle.fy_derive.specs.Limits.{deepest_type, most_type_nesting}
 use Rattle.fy_read.specs.declared.error.ReadError.{ReadError}
 use Rattle.fy_read.specs.declared.error.ReadError.TheVariants.{BadText, TooLarge, TooDeep, OutOfMemory}
 use Rattle.fy_read.specs.Spelling.{Piece, word, sign, open_bracket, close_bracket, open_paren, close_paren, is_loose, SpellsDerivation, AreSpelled, IsTextOf}
@@ -35,34 +34,6 @@ pub record IsStopOf (text : Bytes) (k : ℕ) : Type 0 where
   pub at : k ≡ length part
   pub begins : Begins part
   pub stops : Stops part rest
-
--- the greatest number of nodes on one path of a type
-abbrev mutual
-  pub type_nesting : PlainType → ℕ
-  type_nesting types.ns = 1
-  type_nesting (types.atom a) = 1
-  type_nesting (types.arrow A B) = 1 + max (type_nesting A) (type_nesting B)
-  type_nesting (types.field i A) = 1 + type_nesting A
-  type_nesting (types.meet As) = 1 + types_nesting As
-
-  pub types_nesting : PlainTypes → ℕ
-  types_nesting types.no_types = 0
-  types_nesting (types.and_type A As) = max (type_nesting A) (types_nesting As)
-
--- the nesting of the deepest type that a derivation holds
-abbrev mutual
-  pub deepest_type : PlainDerivation → ℕ
-  deepest_type by_ns = 0
-  deepest_type (sub T d) = max (type_nesting T) (deepest_type d)
-  deepest_type (meets ds) = deepest_types ds
-  deepest_type (alt i d) = deepest_type d
-  deepest_type (left d) = deepest_type d
-  deepest_type (right d) = deepest_type d
-  deepest_type (rule ds) = deepest_types ds
-
-  pub deepest_types : PlainDerivations → ℕ
-  deepest_types no_derivations = 0
-  deepest_types (and_derivation d ds) = max (deepest_type d) (deepest_types ds)
 
 -- the greatest number of nodes on one path among the first n nodes in preorder
 abbrev mutual
@@ -100,9 +71,6 @@ opened_from n (p ∷ ps) = opened_from n ps
 
 abbrev pub open_parens : List Piece → ℕ
 open_parens = opened_from 0
-
-abbrev pub most_type_nesting : ℕ
-most_type_nesting = 1024
 
 abbrev pub most_open_parens : ℕ
 most_open_parens = 1024
@@ -179,9 +147,3 @@ IsReadFault text (BadText k) = IsBadText text k
 IsReadFault text TooLarge = IsTooLargeText text
 IsReadFault text TooDeep = IsTooDeepText text
 IsReadFault text OutOfMemory = Unit {0}
-
--- a derivation that keeps the limits
-pub record IsWithin (d : PlainDerivation) : Type 0 where
-  pub few : nodes d ≤ most_nodes
-  pub shallow : nesting d ≤ most_nesting
-  pub types : deepest_type d ≤ most_type_nesting

@@ -7,8 +7,9 @@ use Rattle.fy_derive.specs.Print.{derivation_text}
 use Rattle.fy_lexer.specs.Tokens.{HasAdded}
 use Rattle.fy_read.specs.declared.error.ReadError.{ReadError}
 use Rattle.fy_read.specs.declared.error.ReadError.TheVariants.{OutOfMemory}
-use Rattle.fy_read.specs.Printable.{IsPrintable}
-use Rattle.fy_read.specs.Refusals.{Begins, IsText, IsWithin, IsReadFault}
+use Rattle.fy_derive.specs.Printable.{IsPrintable}
+use Rattle.fy_read.specs.Refusals.{Begins, IsText, IsReadFault}
+use Rattle.fy_derive.specs.Limits.{KeepsLimits}
 use Rattle.fy_read.specs.Spelling.{IsTextOf}
 use Rattle.fy_read.specs.Steps.{start, finish, steps, ended_fit}
 
@@ -35,5 +36,5 @@ pub record IsReadAs (names : List Bytes) (text : Bytes) (d : PlainDerivation) : 
 -- what is printed of a derivation within the limits is read as that derivation, also where names were added since
 abbrev pub PrintedIsRead : Type 0
 PrintedIsRead =
-    (names later : List Bytes) (d : PlainDerivation) → IsTrue (are_distinct later) → HasAdded names later → IsPrintable names d → IsWithin d →
+    (names later : List Bytes) (d : PlainDerivation) → IsTrue (are_distinct later) → HasAdded names later → IsPrintable names d → KeepsLimits d →
     IsReadAs later (derivation_text names d) d

@@ -2,7 +2,8 @@
 
 ghost use Rattle.std.specs.Prelude.{◌≡◌, ◌+◌, ◌<◌, ◌≤◌, [], IfErr, IfOk, OnOk, length, map};
 ghost use Rattle.fy_read.specs.OpenTypes.{no_level, in_fields, in_arrows, meet_all, whole_type, with_field, with_part, with_domain, inside, greatest_nesting, meet_nesting, arrows_nesting, level_nesting};
-ghost use Rattle.fy_read.specs.Refusals.{type_nesting, most_type_nesting};
+ghost use Rattle.fy_types.specs.Nested.{type_nesting};
+ghost use Rattle.fy_derive.specs.Limits.{most_type_nesting};
 ghost use Rattle.fy_types.specs.Reading.{plain_type, types_in};
 
 use crate::stop::Stop;

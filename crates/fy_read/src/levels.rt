@@ -3,7 +3,8 @@
 ghost use Rattle.std.specs.Prelude.{◌≡◌, ◌+◌, ◌<◌, ◌≤◌, ◌==◌, true, false, IfErr, IfOk, OnOk, not, length};
 ghost use Rattle.fy_read.specs.Levels.{outer_levels};
 ghost use Rattle.fy_read.specs.OpenTypes.{no_levels, whole_type, with_field, with_part, with_domain, with_inner, with_open, with_closed, around as nodes_of, TakesPart, TakesJoint, IsFieldDeep, IsMeetDeep, IsArrowDeep};
-ghost use Rattle.fy_read.specs.Refusals.{type_nesting, most_open_parens};
+ghost use Rattle.fy_types.specs.Nested.{type_nesting};
+ghost use Rattle.fy_read.specs.Refusals.{most_open_parens};
 ghost use Rattle.fy_types.specs.Reading.{plain_type};
 
 use crate::level::Level;

@@ -10,7 +10,8 @@ ghost use Rattle.fy_read.specs.OpenLevels.{levels_of};
 ghost use Rattle.fy_read.specs.ReadSoFar.{HoldsSomehow, IsRead, Reads, ReadsOn, ReadsWord};
 ghost use Rattle.fy_read.specs.Passing.{IsPlain, Refuses, RefusesOn, RefusesWord, EndsDeep};
 ghost use Rattle.fy_derive.specs.Reading.{plain_derivation};
-ghost use Rattle.fy_read.specs.Refusals.{IsReadFault, IsWithin};
+ghost use Rattle.fy_read.specs.Refusals.{IsReadFault};
+ghost use Rattle.fy_derive.specs.Limits.{KeepsLimits};
 ghost use Rattle.fy_read.specs.Spelling.{IsTextOf};
 ghost use Rattle.fy_read.specs.Steps.{at, after_node, begun_by, ended, finish, first_digit, lettered, next_digit, node_text, nothing, signed, spot, start, step};
 ghost use Rattle.fy_read.specs.Stopping.{error_at};
@@ -79,7 +80,7 @@ pub fn read_derivation(
     requires few_names { length names.old ≤ 4000000000 }
     requires short { length text.now ≤ 16777216 }
     ensures ok { IfOk result (λ d. IsTextOf names.new (plain_derivation d) text.now) }
-    ensures within { IfOk result (λ d. IsWithin (plain_derivation d)) }
+    ensures within { IfOk result (λ d. KeepsLimits (plain_derivation d)) }
     ensures err { IfErr result (IsReadFault text.now) }
     ensures names { HasAdded names.old names.new }
 {
@@ -101,7 +102,7 @@ fn whole(alloc: Global, names: &mut Names, text: &[u8]) -> Result<Derivation, Fa
     requires few_names { length names.old ≤ 4000000000 }
     requires short { length text.now ≤ 16777216 }
     ensures ok { IfOk result (λ d. IsTextOf names.new (plain_derivation d) text.now) }
-    ensures within { IfOk result (λ d. IsWithin (plain_derivation d)) }
+    ensures within { IfOk result (λ d. KeepsLimits (plain_derivation d)) }
     ensures err { IfErr result (λ f. IsReadFault text.now (error_at f.stop f.offset)) }
     ensures names { HasAdded names.old names.new }
 {
@@ -245,7 +246,7 @@ impl Reader {
         requires shallow { ¬ EndsDeep self }
         ensures ok { OnOk result (ended (spot_of self) ≡ Some finish) }
         ensures read { IfOk result (λ d. (text : Bytes) → IsRead names.old text self → IsTextOf names.new (plain_derivation d) text) }
-        ensures within { IfOk result (λ d. (text : Bytes) → IsRead names.old text self → IsWithin (plain_derivation d)) }
+        ensures within { IfOk result (λ d. (text : Bytes) → IsRead names.old text self → KeepsLimits (plain_derivation d)) }
         ensures plain { IfErr result IsPlain }
         ensures err { IfErr result (λ e. e ≡ Stop.Misfit → ¬ (ended (spot_of self) ≡ Some finish)) }
         ensures names { HasAdded names.old names.new }

@@ -2,7 +2,7 @@ use Rattle.std.proofs.Common.{◌≡◌, ◌+◌, length, map, sym, ap, ◌∙�
 use Rattle.std.proofs.lemmas.List.{map_push}
 use Rattle.fy_types.specs.Reading.{plain_type}
 use Rattle.fy_read.specs.OpenTypes.{in_fields, greatest_nesting}
-use Rattle.fy_read.specs.Refusals.{type_nesting}
+use Rattle.fy_types.specs.Nested.{type_nesting}
 use Rattle.fy_read.proofs.LevelLemmas.{added_greatest}
 use Rattle.fy_read.proofs.level.Level.add.Goals as goal
 

@@ -1,7 +1,7 @@
 use Rattle.std.proofs.Common.{◌<◌, length, sym, ap, ◌∙◌, subst}
 use Rattle.fy_read.specs.declared.level.Level.{Level}
 use Rattle.fy_read.specs.Levels.{plain_level}
-use Rattle.fy_read.specs.Refusals.{type_nesting}
+use Rattle.fy_types.specs.Nested.{type_nesting}
 use Rattle.fy_read.proofs.LevelLemmas.{nesting-whole}
 use Rattle.fy_read.proofs.levels.Levels.close.Goals as goal
 

@@ -7,7 +7,7 @@ use Rattle.fy_read.specs.Opened.{nodes_of}
 use Rattle.fy_read.specs.OpenLevels.{levels_of}
 use Rattle.fy_read.specs.Readers.{spot_of}
 use Rattle.fy_read.specs.ReadSoFar.{at_piece}
-use Rattle.fy_read.specs.Refusals.{type_nesting}
+use Rattle.fy_types.specs.Nested.{type_nesting}
 use Rattle.fy_read.specs.Steps.{ended, type_word}
 use Rattle.fy_read.proofs.EndLemmas.{nesting_word}
 use Rattle.fy_read.proofs.MadeLemmas.{memory_after}
