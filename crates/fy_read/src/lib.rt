@@ -12,5 +12,5 @@ mod stop;
 mod words;
 
 pub use error::ReadError;
-pub use laws::{printed_is_text, steps_are_texts, texts_are_unique};
+pub use laws::{printed_is_read, printed_is_text, steps_are_texts, texts_are_unique};
 pub use read::read_derivation;
