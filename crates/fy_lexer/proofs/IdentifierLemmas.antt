@@ -1,5 +1,5 @@
 -- The identifiers among tokens have numbers among the names behind their text.
-use Rattle.std.proofs.Common.{◌≡◌, inl, inr, ℕ, Bool, true, false, if◌then◌else◌, IsTrue, List, [], ◌∷◌, ◌++◌, refl, sym, ap, ◌∙◌, subst}
+use Rattle.std.proofs.Common.{◌≡◌, inl, inr, ℕ, Bool, true, false, if◌then◌else◌, IsTrue, List, [], ◌∷◌, ◌++◌, refl, sym, subst}
 use Rattle.std.specs.Prelude.{All}
 use Rattle.std.specs.List.{list_all}
 use Rattle.std.specs.Str.{bytes_eq}
@@ -85,7 +85,7 @@ taken names tokens End place piece s h = absurd s
 taken names tokens (Ident n) place piece s h =
     let later = with_name names piece in
     let one : IsNamed later (number_of names piece) =
-        record { name = piece; numbered = numbered_later names later piece (HasAdded-none later); identifier = s.0 } in
+    record { name = piece; numbered = numbered_later names later piece (HasAdded-none later); identifier = s.0 } in
     pushed (Ident n) place (subst (IsNamed later) (sym s.1) one)
     (record {
       identifiers = identifiers-with_name names piece s.0 h.identifiers;
