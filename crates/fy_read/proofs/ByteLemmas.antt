@@ -88,7 +88,7 @@ more_letters n k u (b ∷ v) h =
 letter_not_blank : (b : ℕ) → is_letter b ≡ true → is_blank b ≡ false
 letter_not_blank b h = grind (arith, nat_tests)
 
-word_letters : (n k : ℕ) (w : Bytes) → is_name_like w ≡ true →
+pub word_letters : (n k : ℕ) (w : Bytes) → is_name_like w ≡ true →
     steps (Some (spot (at n k awaited.Part) (nothing false))) w ≡ Some (spot (at n k awaited.Part) (letters w))
 word_letters n k [] h = absurd cc
 word_letters n k (b ∷ w) h =
@@ -139,7 +139,7 @@ digit_behind n k c v d m h some e high =
     ∙ (chosen_not _ _ _ (digit_test v (10 * v + d) (greatest c) some (omega (arith, e, high)))
     ∙ ap (λ x. Some (spot (at n k (awaited.Count c)) (digits x))) e))
 
-number_bytes : (n k : ℕ) (c : Counted) (m : ℕ) → m < 2 ^ 64 → MayCount c m →
+pub number_bytes : (n k : ℕ) (c : Counted) (m : ℕ) → m < 2 ^ 64 → MayCount c m →
     steps (Some (spot (at n k (awaited.Count c)) (nothing false))) (decimal m) ≡ Some (spot (at n k (awaited.Count c)) (digits m))
 number_bytes n k c m small may =
     decimal_by_steps (λ m ds. MayCount c m → steps (Some (spot (at n k (awaited.Count c)) (nothing false))) ds ≡ Some

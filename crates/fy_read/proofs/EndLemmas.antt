@@ -28,7 +28,8 @@ use Rattle.fy_read.specs.Steps.{Reached, at, Spot, spot, Begun, nothing, letters
 use Rattle.fy_read.specs.Steps as steps
 use Rattle.fy_read.proofs.ByteLemmas.{chosen_so, chosen_not}
 use Rattle.fy_read.proofs.GrammarLemmas.{type_word-text, part_spelled}
-use Rattle.fy_read.proofs.HalfwayLemmas.{numbered_later, stand_inside}
+use Rattle.fy_lexer.proofs.NamesLemmas.{numbered_later}
+use Rattle.fy_read.proofs.HalfwayLemmas.{stand_inside}
 use Rattle.fy_read.proofs.LevelLemmas.{field_room, word_joint}
 use Rattle.fy_read.proofs.LexLemmas.{like_more}
 use Rattle.fy_read.proofs.OpenLemmas.{given_needed}

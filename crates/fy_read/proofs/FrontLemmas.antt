@@ -1,13 +1,13 @@
 -- The pieces of the front of a text are a front of its pieces, of which the last may go on.
-use Rattle.std.proofs.Common.{◌≡◌, ◌⊎◌, inl, inr, ℕ, zero, suc, ◌+◌, ◌-◌, ◌<◌, ◌≤◌, ◌^◌, Bool, true, false, max, List, [], ◌∷◌, ◌++◌, length, refl, ap, sym, ◌∙◌, subst, arith, append_assoc}
-use Rattle.std.specs.Prelude.{Option, Some}
+use Rattle.std.proofs.Common.{◌≡◌, ◌⊎◌, inl, inr, ℕ, ◌+◌, ◌-◌, ◌<◌, ◌≤◌, ◌^◌, Bool, true, false, List, [], ◌∷◌, ◌++◌, refl, ap, sym, ◌∙◌, subst, arith, append_assoc}
+use Rattle.std.specs.Prelude.{Some}
 use Rattle.std.specs.List.{list_all}
 use Rattle.std.proofs.lemmas.Fmt.{decimal_injective}
 use Rattle.std.proofs.lemmas.Bool.Decides.{nat_tests}
 use Rattle.fy_base.specs.Outside.{Bytes}
 use Rattle.fy_types.specs.Words.{is_digit, is_name_byte}
-use Rattle.fy_read.specs.Refusals.{words_from, node_words, opened_from, open_parens, ends_loose, EndsPiece}
-use Rattle.fy_read.specs.Shape.{Want, Shape, shape, first_shape, shape_with, out, outs, greatest}
+use Rattle.fy_read.specs.Refusals.{words_from, node_words, opened_from, open_parens, EndsPiece}
+use Rattle.fy_read.specs.Shape.{Shape, shape, first_shape, shape_with, out, outs, greatest}
 use Rattle.fy_read.specs.Spelling.{Piece, word, number, sign, open_bracket, close_bracket, open_paren, close_paren, colon, arrow, ampersand, is_blank, is_loose, spelling, AreSpelled, at_end, a_blank, a_piece}
 use Rattle.fy_read.specs.Steps.{Reached, after, after_all}
 use Rattle.fy_read.proofs.ByteLemmas.{BeginsOther, loose_begins}

@@ -1,13 +1,10 @@
 -- What the pieces of a text spell with one piece more.
-use Rattle.std.proofs.Common.{◌≡◌, ℕ, zero, suc, ◌+◌, ◌<◌, ◌≤◌, ◌^◌, Bool, true, false, ◌&&◌, if◌then◌else◌, IsTrue, List, [], ◌∷◌, ◌++◌, codes, refl, ap, sym, ◌∙◌, subst, append_assoc, add-one}
-use Rattle.std.specs.Prelude.{Some, None, slice_get}
-use Rattle.std.specs.Str.{bytes_eq}
+use Rattle.std.proofs.Common.{◌≡◌, ℕ, ◌<◌, ◌≤◌, ◌^◌, Bool, false, ◌&&◌, IsTrue, List, [], ◌∷◌, ◌++◌, codes, refl, ap, sym, ◌∙◌, subst, append_assoc}
+use Rattle.std.specs.Prelude.{Some, None}
 use Rattle.std.proofs.lemmas.List.{append-nil}
-use Rattle.std.proofs.lemmas.Slice.Eq.{bytes_eq-Decides}
 use Rattle.fy_base.specs.Outside.{Bytes}
 use Rattle.fy_lexer.specs.Tokens.{HasAdded}
 use Rattle.fy_lexer.proofs.NamesLemmas.{HasAdded-then, HasAdded-none}
-use Rattle.fy_types.specs.Names.{number_of, with_name}
 use Rattle.fy_read.specs.declared.read.Awaited.{Awaited}
 use Rattle.fy_read.specs.declared.read.Awaited.TheVariants as awaited
 use Rattle.fy_derive.specs.Derivations.{PlainDerivation, by_ns, rule, no_derivations}
@@ -146,22 +143,3 @@ whole_text {names = names} {text = text} n d whole h = record {
   spelled = subst (λ bytes. AreSpelled false h.pieces bytes) (append-nil text) (subst (λ ps. AreSpelled false ps (text ++ [])) (append-nil h.pieces)
       (h.spelled [] [] at_end));
 }
-
--- a name has its number in the list that it is in, and in longer ones
-found_step : (names more : List Bytes) (name w : Bytes) (i : ℕ) (b : Bool) → bytes_eq w name ≡ b → slice_get more i ≡ Some w →
-    slice_get (if b then name ∷ names else name ∷ more) (if b then 0 else i + 1) ≡ Some w
-found_step names more name w i true e h = ap Some (sym ((bytes_eq-Decides w name).0 e))
-found_step names more name w i false e h = ap (slice_get (name ∷ more)) (add-one i) ∙ h
-
-numbered : (names : List Bytes) (w : Bytes) → slice_get (with_name names w) (number_of names w) ≡ Some w
-numbered [] w = refl
-numbered (name ∷ names) w = found_step names (with_name names w) name w (number_of names w) (bytes_eq w name) refl (numbered names w)
-
-get-append : (names more : List Bytes) (i : ℕ) (w : Bytes) → slice_get names i ≡ Some w → slice_get (names ++ more) i ≡ Some w
-get-append [] more i w h = absurd cc
-get-append (name ∷ names) more zero w h = h
-get-append (name ∷ names) more (suc i) w h = get-append names more i w h
-
-pub numbered_later : (names later : List Bytes) (w : Bytes) → HasAdded (with_name names w) later → slice_get later (number_of names w) ≡ Some w
-numbered_later names later w added =
-    ap (λ ns. slice_get ns (number_of names w)) added.is ∙ get-append (with_name names w) added.later (number_of names w) w (numbered names w)

@@ -4,6 +4,7 @@ pub mod DepthLemmas
 pub mod EndLemmas
 pub mod FineLemmas
 pub mod FrontLemmas
+pub mod GainLemmas
 pub mod GrammarLemmas
 pub mod HalfwayLemmas
 pub mod KeptLemmas
@@ -13,6 +14,7 @@ pub mod LowLemmas
 pub mod MadeLemmas
 pub mod MeasureLemmas
 pub mod MoveLemmas
+pub mod NamingLemmas
 pub mod NodesLemmas
 pub mod OpenLemmas
 pub mod ParenLemmas

@@ -8,7 +8,7 @@ use Rattle.fy_types.specs.Types.{PlainType, PlainTypes, no_types, and_type}
 use Rattle.fy_types.specs.Types as types
 use Rattle.fy_derive.specs.Derivations.{PlainDerivation, PlainDerivations, by_ns, sub, meets, alt, left, right, rule, no_derivations, and_derivation, count}
 use Rattle.fy_derive.specs.Print.{derivation_text, derivations_text}
-use Rattle.fy_read.proofs.ParenLemmas.{most_open, open_before}
+use Rattle.fy_read.proofs.ParenLemmas.{most_open}
 use Rattle.fy_types.specs.Nested.{type_nesting, types_nesting}
 use Rattle.fy_derive.specs.Limits.{deepest_type, deepest_of_all}
 use Rattle.fy_types.specs.Fields.{IsNamed, AllFields, AllFieldsOf, HasFullMeets, HaveFullMeets}

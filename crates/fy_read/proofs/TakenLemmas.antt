@@ -1,20 +1,19 @@
 -- What is printed of a derivation within the limits is not refused.
-use Rattle.std.proofs.Common.{◌≡◌, ℕ, zero, suc, ◌≤◌, IsTrue, false, List, [], ◌∷◌, ◌++◌, refl, ap, sym, ◌∙◌, subst, arith, append_assoc}
+use Rattle.std.proofs.Common.{◌≡◌, ℕ, zero, suc, false, List, [], ◌∷◌, ◌++◌, refl, ap, sym, ◌∙◌, subst, arith, append_assoc}
 use Rattle.std.specs.Prelude.{Some, slice_get}
 use Rattle.std.proofs.lemmas.List.{append-nil}
 use Rattle.fy_base.specs.Outside.{Bytes}
 use Rattle.fy_lexer.specs.Tokens.{HasAdded}
 use Rattle.fy_types.specs.Types.{PlainType, PlainTypes}
-use Rattle.fy_derive.specs.Derivations.{PlainDerivation, PlainDerivations, most_nodes, most_nesting}
+use Rattle.fy_derive.specs.Derivations.{PlainDerivation, PlainDerivations}
 use Rattle.fy_derive.specs.Print.{derivation_text}
 use Rattle.fy_read.specs.declared.error.ReadError.{ReadError}
 use Rattle.fy_read.specs.declared.error.ReadError.TheVariants.{BadText, TooLarge, TooDeep, OutOfMemory}
-use Rattle.fy_derive.specs.Printable.{IsPrintable}
 use Rattle.fy_read.specs.Refusals.{Stops, BeginsPieces, PassesSize, PassesDepth, of_nodes, of_parens, of_type, IsReadFault, most_open_parens}
 use Rattle.fy_derive.specs.Limits.{KeepsLimits}
 use Rattle.fy_read.specs.Spelling.{Piece, TypeLevel, SpellsType, an_arrow, no_arrow, members, a_field, no_field, ns, atom, group, MoreTypes, no_more, one_more, SpellsDerivation, a_ns, a_sub, a_meet, an_alt, a_left, a_right, a_rule, SpellsDerivations, none, and_one, AreSpelled, IsTextOf}
 use Rattle.fy_read.specs.Steps.{begin, finish}
-use Rattle.fy_read.specs.TextLaws.{IsReadAs, PrintedIsRead}
+use Rattle.fy_read.specs.TextLaws.{PrintedIsRead}
 use Rattle.fy_read.proofs.DepthLemmas.{nesting-begun, nodes-words}
 use Rattle.fy_read.proofs.FineLemmas.{begun_leads}
 use Rattle.fy_read.proofs.FrontLemmas.{IsFront, front_of, front_nodes, front_nesting, front_parens, front_whole}

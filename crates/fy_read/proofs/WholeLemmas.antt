@@ -1,5 +1,5 @@
 -- The bytes of a text, read one by one.
-use Rattle.std.proofs.Common.{◌≡◌, ℕ, suc, ◌+◌, ◌<◌, ◌≤◌, false, List, [], ◌∷◌, ◌++◌, length, take, drop, get_or, refl, ap, sym, ◌∙◌, subst, arith, drop-cons}
+use Rattle.std.proofs.Common.{◌≡◌, ℕ, suc, ◌+◌, ◌<◌, ◌≤◌, false, List, [], ◌∷◌, ◌++◌, length, take, drop, get_or, refl, ap, sym, ◌∙◌, subst, arith, drop-cons, length-append}
 use Rattle.std.specs.Prelude.{Some, None}
 use Rattle.std.proofs.lemmas.List.{take-append-drop, take_more, take_all, append-nil, length-take-le}
 use Rattle.fy_base.specs.Outside.{Bytes}
@@ -10,7 +10,7 @@ use Rattle.fy_read.specs.declared.stop.Stop.TheVariants.{Misfit, TooLarge, TooDe
 use Rattle.fy_read.specs.Passing.{Passes, IsPlain, EndsDeep}
 use Rattle.fy_read.specs.Readers.{spot_of, IsSound}
 use Rattle.fy_read.specs.ReadSoFar.{IsRead}
-use Rattle.fy_read.specs.Refusals.{Stops, IsStopOf, KeepsBefore, IsBadText, IsTooDeepText, IsReadFault}
+use Rattle.fy_read.specs.Refusals.{Stops, IsStopOf, KeepsBefore, KeepsThroughout, IsBadText, IsTooDeepText, IsReadFault}
 use Rattle.fy_read.specs.Steps.{Spot, start, step, steps, ended, finish}
 use Rattle.fy_read.specs.Stopping.{error_at}
 use Rattle.fy_read.proofs.ByteLemmas.{steps-append}
@@ -107,6 +107,18 @@ fine_at {r = r} text k within sound read led room =
     fine_so_far (take k text) (drop k text) sound read led (subst (λ rest. RoomBefore rest r) (sym (drop-cons text k 0 within)) room)
 
 -- ---- the end of the text
+short_front : {text : Bytes} (part rest : Bytes) → text ≡ part ++ rest → length part < length text + 1
+short_front part rest is = omega (arith, ap length is ∙ length-append part rest)
+
+pub keeps_throughout : {names : List Bytes} {r : Reader} (text : Bytes) → IsSound r → IsRead names text r →
+    steps (Some start) text ≡ Some (spot_of r) → ¬ EndsDeep r → KeepsBefore text (length text) → KeepsThroughout text
+keeps_throughout text sound read led room before =
+    let all = keeps_more text text [] (sym (append-nil text)) before (fine_so_far text [] sound read led room) in
+    record {
+      size = λ part rest is. all.size part rest is (short_front part rest is);
+      depth = λ part rest is. all.depth part rest is (short_front part rest is);
+    }
+
 pub keeps_all : (text : Bytes) (k : ℕ) → length text ≤ k → KeepsBefore text k → KeepsBefore text (length text)
 keeps_all text k all before = record {
   size = λ part rest is less. before.size part rest is (omega (arith, less, all));

@@ -1,7 +1,9 @@
 pub mod Spelling
+pub mod FieldNames
 pub mod Refusals
 pub mod Steps
 pub mod Opened
+pub mod Naming
 pub mod Readers
 pub mod Printable
 pub mod OpenTypes

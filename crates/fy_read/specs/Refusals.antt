@@ -1,5 +1,5 @@
 -- Where a text first can't become a derivation's text, or passes a limit.
-use Rattle.std.specs.Prelude.{◌≡◌, ℕ, zero, suc, ◌+◌, ◌-◌, ◌<◌, ◌≤◌, Bool, true, false, IsTrue, max, List, [], ◌∷◌, ◌++◌, length}
+use Rattle.std.specs.Prelude.{◌≡◌, ℕ, zero, suc, ◌+◌, ◌-◌, ◌<◌, Bool, true, false, IsTrue, max, List, [], ◌∷◌, ◌++◌, length}
 use Rattle.fy_base.specs.Outside.{Bytes}
 use Rattle.fy_types.specs.Words.{is_name_byte}
 use Rattle.fy_derive.specs.Derivations.{PlainDerivation, PlainDerivations, by_ns, sub, meets, alt, left, right, rule, no_derivations, and_derivation, nodes, most_nodes, most_nesting}
@@ -113,6 +113,11 @@ pub data PassesDepth (part rest : Bytes) : Type 0 where
 pub record KeepsBefore (text : Bytes) (k : ℕ) : Type 0 where
   pub size : (part rest : Bytes) → text ≡ part ++ rest → length part < k → ¬ PassesSize part
   pub depth : (part rest : Bytes) → text ≡ part ++ rest → length part < k → ¬ PassesDepth part rest
+
+-- no limit is passed in the text, wherever it is cut in two
+pub record KeepsThroughout (text : Bytes) : Type 0 where
+  pub size : (part rest : Bytes) → text ≡ part ++ rest → ¬ PassesSize part
+  pub depth : (part rest : Bytes) → text ≡ part ++ rest → ¬ PassesDepth part rest
 
 -- the first fault of the text is at its first k bytes: no text goes on
 pub record IsBadText (text : Bytes) (k : ℕ) : Type 0 where

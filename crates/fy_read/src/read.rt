@@ -1,7 +1,8 @@
 //! Reading a derivation from its text.
 
 ghost use Rattle.std.specs.Prelude.{◌≡◌, Bool, List, suc, ◌+◌, ◌-◌, ◌<◌, ◌≤◌, false, true, IsTrue, [], ◌∷◌, ◌++◌, length, Some, None, IfOk, IfErr, OnOk};
-ghost use Rattle.fy_lexer.specs.Tokens.{HasAdded};
+ghost use Rattle.fy_read.specs.FieldNames.{NumbersFields, HasAddedFrom};
+ghost use Rattle.fy_read.specs.Naming.{names_ended, names_with, IsOrStays};
 ghost use Rattle.fy_types.specs.Words.{is_digit, is_letter, is_name_byte};
 ghost use Rattle.fy_base.specs.Outside.{Bytes};
 ghost use Rattle.fy_read.specs.Opened.{nodes_of, extra, AreWaiting};
@@ -10,7 +11,7 @@ ghost use Rattle.fy_read.specs.OpenLevels.{levels_of};
 ghost use Rattle.fy_read.specs.ReadSoFar.{HoldsSomehow, IsRead, Reads, ReadsOn, ReadsWord};
 ghost use Rattle.fy_read.specs.Passing.{IsPlain, Refuses, RefusesOn, RefusesWord, EndsDeep};
 ghost use Rattle.fy_derive.specs.Reading.{plain_derivation};
-ghost use Rattle.fy_read.specs.Refusals.{IsReadFault};
+ghost use Rattle.fy_read.specs.Refusals.{IsReadFault, KeepsThroughout};
 ghost use Rattle.fy_derive.specs.Limits.{KeepsLimits};
 ghost use Rattle.fy_read.specs.Spelling.{IsTextOf};
 ghost use Rattle.fy_read.specs.Steps.{at, after_node, begun_by, ended, finish, first_digit, lettered, next_digit, node_text, nothing, signed, spot, start, step};
@@ -69,9 +70,10 @@ struct Reader {
     levels: Levels,
 }
 
-/// The derivation that the text is one of, with the fields' names numbered by the list, which gets new
-/// names at its end. Types are written as in Reynolds, "Design of the Programming Language Forsythe",
-/// CMU-CS-96-146, 1996.
+/// The derivation that the text is one of, with the fields' names numbered by the list, which gets those
+/// that are new at its end, in order of first use. After a refusal, too, it has got nothing but
+/// identifiers of the text, at its end. Types are written as in Reynolds, "Design of the Programming
+/// Language Forsythe", CMU-CS-96-146, 1996.
 pub fn read_derivation(
     alloc: Global,
     names: &mut Names,
@@ -80,9 +82,12 @@ pub fn read_derivation(
     requires few_names { length names.old ≤ 4000000000 }
     requires short { length text.now ≤ 16777216 }
     ensures ok { IfOk result (λ d. IsTextOf names.new (plain_derivation d) text.now) }
+    ensures named { IfOk result (λ d. NumbersFields names.old names.new (plain_derivation d) text.now) }
     ensures within { IfOk result (λ d. KeepsLimits (plain_derivation d)) }
+    ensures keeps { OnOk result (KeepsThroughout text.now) }
     ensures err { IfErr result (IsReadFault text.now) }
-    ensures names { HasAdded names.old names.new }
+    ensures names { HasAddedFrom text.now names.old names.new }
+    ensures few { length names.new ≤ length names.old + length text.now }
 {
     match whole(alloc, names, text) {
         Ok(d) => Ok(d),
@@ -102,9 +107,12 @@ fn whole(alloc: Global, names: &mut Names, text: &[u8]) -> Result<Derivation, Fa
     requires few_names { length names.old ≤ 4000000000 }
     requires short { length text.now ≤ 16777216 }
     ensures ok { IfOk result (λ d. IsTextOf names.new (plain_derivation d) text.now) }
+    ensures named { IfOk result (λ d. NumbersFields names.old names.new (plain_derivation d) text.now) }
     ensures within { IfOk result (λ d. KeepsLimits (plain_derivation d)) }
+    ensures keeps { OnOk result (KeepsThroughout text.now) }
     ensures err { IfErr result (λ f. IsReadFault text.now (error_at f.stop f.offset)) }
-    ensures names { HasAdded names.old names.new }
+    ensures names { HasAddedFrom text.now names.old names.new }
+    ensures few { length names.new ≤ length names.old + length text.now }
 {
     let mut reader = Reader::new(alloc);
     for (offset, byte) in text.iter().enumerate() {
@@ -159,8 +167,8 @@ impl Reader {
         ensures misfit { IfErr result (IsMisfit (step (spot_of self.old) byte)) }
         ensures read { OnOk result (Reads names.old names.new (byte ∷ []) self.old self.new) }
         ensures limits { IfErr result (Refuses names.old (byte ∷ []) self.old) }
-        ensures names { HasAdded names.old names.new }
-        ensures few { length names.new ≤ length names.old + 1 }
+        ensures named { OnOk result (names.new ≡ names_with (spot_of self.old) byte names.old) }
+        ensures names { IsOrStays names.old (names_with (spot_of self.old) byte names.old) names.new }
     {
         match self.begun {
             Begun::Nothing => self.begin_piece(alloc, byte),
@@ -180,8 +188,8 @@ impl Reader {
         ensures misfit { IfErr result (IsMisfit (step (spot_of self.old) byte)) }
         ensures read { OnOk result (Reads names.old names.new (byte ∷ []) self.old self.new) }
         ensures limits { IfErr result (Refuses names.old (byte ∷ []) self.old) }
-        ensures names { HasAdded names.old names.new }
-        ensures few { length names.new ≤ length names.old + 1 }
+        ensures named { OnOk result (names.new ≡ names_with (spot_of self.old) byte names.old) }
+        ensures names { IsOrStays names.old (names_with (spot_of self.old) byte names.old) names.new }
     {
         if is_name_byte(byte) {
             return self.letter(alloc, byte);
@@ -249,8 +257,8 @@ impl Reader {
         ensures within { IfOk result (λ d. (text : Bytes) → IsRead names.old text self → KeepsLimits (plain_derivation d)) }
         ensures plain { IfErr result IsPlain }
         ensures err { IfErr result (λ e. e ≡ Stop.Misfit → ¬ (ended (spot_of self) ≡ Some finish)) }
-        ensures names { HasAdded names.old names.new }
-        ensures few { length names.new ≤ length names.old + 1 }
+        ensures named { OnOk result (names.new ≡ names_ended (spot_of self) names.old) }
+        ensures names { IsOrStays names.old (names_ended (spot_of self) names.old) names.new }
     {
         let mut reader = self;
         reader.end(alloc, names)?;
@@ -272,8 +280,8 @@ impl Reader {
         ensures misfit { IfErr result (IsMisfit (ended (spot_of self.old))) }
         ensures read { OnOk result ((text : Bytes) → IsRead names.old text self.old → HoldsSomehow names.new text self.new) }
         ensures plain { IfErr result IsPlain }
-        ensures names { HasAdded names.old names.new }
-        ensures few { length names.new ≤ length names.old + 1 }
+        ensures named { OnOk result (names.new ≡ names_ended (spot_of self.old) names.old) }
+        ensures names { IsOrStays names.old (names_ended (spot_of self.old) names.old) names.new }
     {
         match self.begun {
             Begun::Nothing => Ok(()),
@@ -355,8 +363,8 @@ impl Reader {
         ensures misfit { IfErr result (IsMisfit (ended (spot_of self.old))) }
         ensures read { OnOk result (Reads names.old names.new [] self.old self.new) }
         ensures plain { IfErr result IsPlain }
-        ensures names { HasAdded names.old names.new }
-        ensures few { length names.new ≤ length names.old + 1 }
+        ensures named { OnOk result (names.new ≡ names_ended (spot_of self.old) names.old) }
+        ensures names { IsOrStays names.old (names_ended (spot_of self.old) names.old) names.new }
     {
         let Awaited::Part = self.awaited else {
             return Err(Stop::Misfit);

@@ -1,7 +1,9 @@
+use Rattle.std.proofs.Common.{inl, refl, sym}
 use Rattle.std.proofs.lemmas.Result.{on_ok_weaker}
 use Rattle.fy_read.specs.Readers.{reached}
 use Rattle.fy_read.proofs.MadeLemmas.{on_ok_both}
 use Rattle.fy_read.proofs.PieceAnswers.{piece_ended, dash_ended, read_nil}
+use Rattle.fy_read.proofs.GainLemmas.{ended-piece, ended-number}
 use Rattle.fy_read.proofs.ReaderAnswers.{read_piece}
 use Rattle.fy_read.proofs.read.Reader.end.Goals as goal
 
@@ -37,3 +39,22 @@ returns-in-Number-clause-read c =
 
 pub returns-in-Dash-clause-misfit : goal.returns-in-Dash-clause-misfit
 returns-in-Dash-clause-misfit c = let s = c.args.self.now in λ is. dash_ended s.letters.items s.is_loose (reached s) c.in-Dash.is
+
+pub returns-in-Nothing-clause-named : goal.returns-in-Nothing-clause-named
+returns-in-Nothing-clause-named c =
+    let s = c.args.self.now in sym (ended-piece s.letters.items s.is_loose (reached s) c.args.names.now c.in-Nothing.is)
+
+pub returns-in-Nothing-clause-names : goal.returns-in-Nothing-clause-names
+returns-in-Nothing-clause-names c = inl refl
+
+pub returns-in-Number-clause-named : goal.returns-in-Number-clause-named
+returns-in-Number-clause-named c =
+    let s = c.args.self.now in
+    on_ok_weaker c.end_number.result
+    (λ h. sym (ended-number s.letters.items s.is_loose (reached s) c.in-Number.value c.args.names.now c.in-Number.is)) c.end_number.ensures.ended
+
+pub returns-in-Number-clause-names : goal.returns-in-Number-clause-names
+returns-in-Number-clause-names c = inl refl
+
+pub returns-in-Dash-clause-names : goal.returns-in-Dash-clause-names
+returns-in-Dash-clause-names c = inl refl

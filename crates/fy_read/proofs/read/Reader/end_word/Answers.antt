@@ -1,7 +1,6 @@
-use Rattle.std.proofs.Common.{◌+◌, ◌≤◌, length, refl, sym, ap, ◌∙◌, subst}
+use Rattle.std.proofs.Common.{inl, inr, length, refl, sym, ap, ◌∙◌}
 use Rattle.std.proofs.lemmas.Result.{on_ok_weaker}
-use Rattle.fy_lexer.specs.Tokens.{HasAdded}
-use Rattle.fy_lexer.proofs.NamesLemmas.{HasAdded-none, length-with_name}
+use Rattle.fy_lexer.proofs.NamesLemmas.{HasAdded-none}
 use Rattle.fy_types.specs.Words.{is_word}
 use Rattle.fy_read.specs.Opened.{nodes_of}
 use Rattle.fy_read.specs.OpenLevels.{levels_of}
@@ -10,6 +9,7 @@ use Rattle.fy_read.specs.ReadSoFar.{at_piece}
 use Rattle.fy_types.specs.Nested.{type_nesting}
 use Rattle.fy_read.specs.Steps.{ended, type_word}
 use Rattle.fy_read.proofs.EndLemmas.{nesting_word}
+use Rattle.fy_read.proofs.GainLemmas.{ended-name, ended-type}
 use Rattle.fy_read.proofs.MadeLemmas.{memory_after}
 use Rattle.fy_read.proofs.PieceAnswers.{like_of, word_of, word_misfit, type_misfit, name_ended, type_ended, name_read, type_read, added_as, named_as, number_as}
 use Rattle.fy_read.proofs.ReaderAnswers.{paren_fit, read_word}
@@ -52,16 +52,33 @@ returns-then-not-is_word-clause-read c =
     ∙ number_as names c.deref-then-not-is_word.ensures.value) e b.is b.holds))
     c.field.ensures.ok
 
-pub returns-then-not-is_word-clause-names : goal.returns-then-not-is_word-clause-names
-returns-then-not-is_word-clause-names c = added_as c.args.names.now c.deref-then-not-is_word.result.now c.number.new.self c.in_ok-number.ensures.names
+pub returns-then-not-is_word-clause-named : goal.returns-then-not-is_word-clause-named
+returns-then-not-is_word-clause-named c =
+    let s = c.args.self.now in
+    let names = c.args.names.now in
+    let other = ap is_word (sym c.deref.ensures.value) ∙ (sym c.is_word.ensures ∙ c.if-not-is_word.true) in
+    let grown = c.in_ok-number.ensures.names ∙ named_as names c.deref-then-not-is_word.ensures.value in
+    on_ok_weaker c.field.result
+    (λ e. grown ∙ sym (ended-name s.letters.items s.is_loose (nodes_of s.nodes)
+    (length (levels_of s.levels).outer) names c.in-Part.is c.requires.begun other)) c.field.ensures.ok
 
-pub returns-then-not-is_word-clause-few : goal.returns-then-not-is_word-clause-few
-returns-then-not-is_word-clause-few c =
-    subst (λ l. length l ≤ length c.args.names.now + 1) (sym c.in_ok-number.ensures.names)
-    (length-with_name c.args.names.now c.deref-then-not-is_word.result.now)
+pub returns-then-not-is_word-clause-names : goal.returns-then-not-is_word-clause-names
+returns-then-not-is_word-clause-names c =
+    let s = c.args.self.now in
+    let names = c.args.names.now in
+    let other = ap is_word (sym c.deref.ensures.value) ∙ (sym c.is_word.ensures ∙ c.if-not-is_word.true) in
+    let grown = c.in_ok-number.ensures.names ∙ named_as names c.deref-then-not-is_word.ensures.value in
+    inr (grown ∙ sym (ended-name s.letters.items s.is_loose (nodes_of s.nodes)
+    (length (levels_of s.levels).outer) names c.in-Part.is c.requires.begun other))
 
 pub returns-in_err-number-clause-names : goal.returns-in_err-number-clause-names
-returns-in_err-number-clause-names c = subst (HasAdded c.args.names.now) (sym c.in_err-number.ensures.err) (HasAdded-none c.args.names.now)
+returns-in_err-number-clause-names c = inl c.in_err-number.ensures.err
+
+pub returns-in_default-clause-names : goal.returns-in_default-clause-names
+returns-in_default-clause-names c = inl refl
+
+pub returns-in_default-type_word-clause-names : goal.returns-in_default-type_word-clause-names
+returns-in_default-type_word-clause-names c = inl refl
 
 pub returns-in_default-type_word-clause-misfit : goal.returns-in_default-type_word-clause-misfit
 returns-in_default-type_word-clause-misfit c =
@@ -97,3 +114,14 @@ returns-then-not-is_word-clause-plain c = memory_plain c.field.result c.field.en
 
 pub returns-clause-plain : goal.returns-clause-plain
 returns-clause-plain c = memory_plain c.word.result c.word.ensures.err
+
+pub returns-clause-named : goal.returns-clause-named
+returns-clause-named c =
+    let s = c.args.self.now in
+    let one = ap is_word (sym c.deref.ensures.value) ∙ (sym c.is_word.ensures ∙ c.if-not-is_word.false) in
+    on_ok_weaker c.word.result
+    (λ e. sym (ended-type s.letters.items s.is_loose (nodes_of s.nodes)
+    (length (levels_of s.levels).outer) c.args.names.now c.in-Part.is c.requires.begun one)) c.word.ensures.ok
+
+pub returns-clause-names : goal.returns-clause-names
+returns-clause-names c = inl refl

@@ -1,4 +1,4 @@
-use Rattle.std.proofs.Common.{length, sym, ◌∙◌}
+use Rattle.std.proofs.Common.{inr, length, sym, ◌∙◌}
 use Rattle.fy_read.specs.Opened.{nodes_of}
 use Rattle.fy_read.specs.OpenLevels.{levels_of}
 use Rattle.fy_derive.specs.Reading.{plain_derivation}
@@ -32,3 +32,12 @@ pub returns-clause-within : goal.returns-clause-within
 returns-clause-within c =
     λ text h. let t = c.in_ok-end.ensures.read text h in
     whole_within (plain_derivation c.in-Some.d) c.in-Node.is (sym c.in-Some.ensures) t.holds
+
+pub returns-clause-names : goal.returns-clause-names
+returns-clause-names c = inr c.in_ok-end.ensures.named
+
+pub returns-in_default-clause-names : goal.returns-in_default-clause-names
+returns-in_default-clause-names c = inr c.in_ok-end.ensures.named
+
+pub returns-in_default-into_whole-clause-names : goal.returns-in_default-into_whole-clause-names
+returns-in_default-into_whole-clause-names c = inr c.in_ok-end.ensures.named

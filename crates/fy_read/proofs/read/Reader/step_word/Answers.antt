@@ -1,4 +1,4 @@
-use Rattle.std.proofs.Common.{[], ◌∷◌, ◌++◌, sym}
+use Rattle.std.proofs.Common.{inl, inr, [], ◌∷◌, ◌++◌, refl, sym, ◌∙◌}
 use Rattle.std.proofs.lemmas.Result.{on_ok_weaker, err_from_is_err_and}
 use Rattle.fy_read.specs.Readers.{reached, spot_of}
 use Rattle.fy_read.specs.Steps.{begun_by, lettered, step}
@@ -6,6 +6,7 @@ use Rattle.fy_read.proofs.EndLemmas.{sound_begun, word_goes_on}
 use Rattle.fy_read.proofs.MadeLemmas.{misfit_same}
 use Rattle.fy_read.proofs.PieceAnswers.{led_same, word_goes, word_then, read_nil}
 use Rattle.fy_read.proofs.PassLemmas.{on_err, plain_passes}
+use Rattle.fy_read.proofs.GainLemmas.{with-goes_on, with-behind, or_stays}
 use Rattle.fy_read.proofs.read.Reader.step_word.Goals as goal
 
 pub letter-requires : goal.letter-requires
@@ -72,3 +73,28 @@ pub returns-clause-limits : goal.returns-clause-limits
 returns-clause-limits c =
     on_err c.begin_piece.result (λ e f text h. f c.end_word.new.names text
     (read_nil (c.in_ok-end_word.ensures.read text h))) c.begin_piece.ensures.limits
+
+pub returns-then-is_name_byte-clause-named : goal.returns-then-is_name_byte-clause-named
+returns-then-is_name_byte-clause-named c =
+    on_ok_weaker c.letter.result
+    (λ h. sym (with-goes_on (spot_of c.args.self.now) c.args.byte c.args.names.now (sym c.if-is_name_byte.ensures))) c.letter.ensures.led
+
+pub returns-then-is_name_byte-clause-names : goal.returns-then-is_name_byte-clause-names
+returns-then-is_name_byte-clause-names c = inl refl
+
+pub returns-in_err-end_word-clause-names : goal.returns-in_err-end_word-clause-names
+returns-in_err-end_word-clause-names c =
+    or_stays (sym (with-behind (spot_of c.args.self.now) c.args.byte c.args.names.now (sym c.if-is_name_byte.ensures)))
+    c.in_err-end_word.ensures.names
+
+pub returns-clause-named : goal.returns-clause-named
+returns-clause-named c =
+    on_ok_weaker c.begin_piece.result
+    (λ h. c.in_ok-end_word.ensures.named
+    ∙ sym (with-behind (spot_of c.args.self.now) c.args.byte c.args.names.now (sym c.if-is_name_byte.ensures)))
+    c.begin_piece.ensures.led
+
+pub returns-clause-names : goal.returns-clause-names
+returns-clause-names c =
+    inr (c.in_ok-end_word.ensures.named
+    ∙ sym (with-behind (spot_of c.args.self.now) c.args.byte c.args.names.now (sym c.if-is_name_byte.ensures)))
