@@ -1,6 +1,6 @@
 //! Runs of the machine over a source and a sink.
 
-ghost use Rattle.std.specs.Prelude.{◌≡◌, ◌≤◌, IsTrue, IfSome, None, length};
+ghost use Rattle.std.specs.Prelude.{◌≡◌, ◌≢◌, ◌≤◌, IsTrue, IfSome, None, length};
 ghost use Rattle.fy_base.specs.Outside.{IsAtEnd, Rose};
 ghost use Rattle.rv_machine.specs.Ends.{IsMachineEnd, RunsTo, Watched, status_at, status_by};
 ghost use Rattle.rv_insn.specs.Step.{Core, instruction_step, status_after};
@@ -41,6 +41,8 @@ fn exchange<I: Source, O: Sink>(
     ensures output_fault { result ≡ Some Ending.OutputFault → Rose (O.faults output.old) (O.faults output.new) }
     ensures input_later { I.faults input.old ≤ I.faults input.new }
     ensures output_later { O.faults output.old ≤ O.faults output.new }
+    ensures input_quiet { result ≢ Some Ending.InputFault → I.faults input.new ≡ I.faults input.old }
+    ensures output_quiet { result ≢ Some Ending.OutputFault → O.faults output.new ≡ O.faults output.old }
 {
     match event {
         Event::Going => None,
@@ -69,7 +71,8 @@ fn exchange<I: Source, O: Sink>(
 /// The end is `Ended`, `Fault`, `Exhausted` or `Trap` exactly as the machine's run says, and
 /// `Spent` exactly where that still goes on after `steps` instructions. `InputFault` and
 /// `OutputFault` come only where that object's count of faults rose in this call; then the last
-/// instruction reads, or puts. The end is never `TooBig`, `Stuck` or `Gone`.
+/// instruction reads, or puts. At every other end that count is as before. The end is never `TooBig`,
+/// `Stuck` or `Gone`.
 pub fn run_watched<I: Source, O: Sink, W: Watch>(
     m: &mut Machine,
     input: &mut I,
@@ -90,6 +93,8 @@ pub fn run_watched<I: Source, O: Sink, W: Watch>(
     ensures output_fault { result.end ≡ Ending.OutputFault → Rose (O.faults output.old) (O.faults output.new) }
     ensures input_later { I.faults input.old ≤ I.faults input.new }
     ensures output_later { O.faults output.old ≤ O.faults output.new }
+    ensures input_quiet { result.end ≢ Ending.InputFault → I.faults input.new ≡ I.faults input.old }
+    ensures output_quiet { result.end ≢ Ending.OutputFault → O.faults output.new ≡ O.faults output.old }
 {
     let mut over = false;
     let mut done = 0;
@@ -124,6 +129,8 @@ pub fn run_machine<I: Source, O: Sink>(
     ensures output_fault { result.end ≡ Ending.OutputFault → Rose (O.faults output.old) (O.faults output.new) }
     ensures input_later { I.faults input.old ≤ I.faults input.new }
     ensures output_later { O.faults output.old ≤ O.faults output.new }
+    ensures input_quiet { result.end ≢ Ending.InputFault → I.faults input.new ≡ I.faults input.old }
+    ensures output_quiet { result.end ≢ Ending.OutputFault → O.faults output.new ≡ O.faults output.old }
 {
     run_watched(m, input, output, &mut Unwatched, steps)
 }

@@ -9,8 +9,8 @@ turns-init g c = record {
   few = omega arith;
   gone = gone_start _ _ _ _ _ _ _ (λ was. cc) c.requires.room;
   room = refl;
-  input_later = omega arith;
-  output_later = omega arith;
+  input_quiet = refl;
+  output_quiet = refl;
 }
 
 pub stride-row-requires-clause-room : goal.stride-row-requires-clause-room
@@ -34,8 +34,8 @@ turns-preserved g c =
           (λ going. let s = c.in_default.ensures.same going in record { core = s.1; left = s.2; over = s.3; held = s.4 })
           (does_of _ _ c.args.m.now.program c.stride-row.new.self.program _ _ _ _ _ _ _ _ (c.stride-row.ensures.program ∙ i.program) c.in_default.ensures.did);
       room = c.stride-row.ensures.room ∙ i.room;
-      input_later = omega (arith, c.exchange.ensures.input_later);
-      output_later = omega (arith, c.exchange.ensures.output_later);
+      input_quiet = c.in_default.ensures.input_quiet (λ fault. cc) ∙ i.input_quiet;
+      output_quiet = c.in_default.ensures.output_quiet (λ fault. cc) ∙ i.output_quiet;
     }
 
 pub returns-clause-did : goal.returns-clause-did

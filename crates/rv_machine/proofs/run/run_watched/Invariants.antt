@@ -10,8 +10,8 @@ invariant-turns g l = record {
   few : l.done ≤ l.steps;
   gone : Gone l.initial.m.program l.initial.m.core l.done l.m.core (g.I.Source.left l.initial.input) (g.I.Source.left l.input) l.over (g.O.Sink.held l.initial.output) (g.O.Sink.held l.output) (g.W.Watch.room l.initial.watch) (g.W.Watch.held l.initial.watch) (g.W.Watch.held l.watch);
   room : g.W.Watch.room l.watch ≡ g.W.Watch.room l.initial.watch;
-  input_later : g.I.Source.faults l.initial.input ≤ g.I.Source.faults l.input;
-  output_later : g.O.Sink.faults l.initial.output ≤ g.O.Sink.faults l.output;
+  input_quiet : g.I.Source.faults l.input ≡ g.I.Source.faults l.initial.input;
+  output_quiet : g.O.Sink.faults l.output ≡ g.O.Sink.faults l.initial.output;
 }
 
 abbrev pub decreases-turns : goal.decreases-turns
