@@ -1,6 +1,6 @@
 //! Runs of the copy rule over a source and a sink.
 
-ghost use Rattle.std.specs.Prelude.{◌≡◌, ◌≤◌, ◌<◌, ◌^◌, IsTrue, IfOk, IfSome, OnErr, Some};
+ghost use Rattle.std.specs.Prelude.{◌≡◌, ◌≢◌, ◌≤◌, ◌<◌, ◌^◌, IsTrue, IfOk, IfSome, OnErr, Some, Ok};
 ghost use Rattle.fy_base.specs.Outside.{IsAtEnd, Rose};
 ghost use Rattle.fy_phrase.specs.Reads.{reads};
 ghost use Rattle.fy_phrase.specs.Sizes.{depth};
@@ -44,6 +44,8 @@ fn turn<I: Source, O: Sink>(
     ensures output_fault { IfOk result (λ end. end ≡ Some Ending.OutputFault → Rose (O.faults output.old) (O.faults output.new)) }
     ensures input_later { I.faults input.old ≤ I.faults input.new }
     ensures output_later { O.faults output.old ≤ O.faults output.new }
+    ensures input_quiet { result ≢ Ok (Some Ending.InputFault) → I.faults input.new ≡ I.faults input.old }
+    ensures output_quiet { result ≢ Ok (Some Ending.OutputFault) → O.faults output.new ≡ O.faults output.old }
 {
     match step(alloc, state)? {
         Progress::Going => Ok(None),
@@ -96,8 +98,8 @@ fn run_ended(end: Ending, k: u64, peak: u64, load: u64) -> CopyRun
 /// The end is `Ended`, `Fault` or `Stuck` exactly as the copy rule says, `TooBig` exactly where the
 /// next focus, of a step that is still allowed, would have more than 1,048,576 nodes or nest more than
 /// 2,048, and `Spent` exactly where the run still goes on after `steps` steps. `InputFault` and `OutputFault` come only where that
-/// object's count of faults rose in this call; then the last step reads, or puts. The end is never
-/// `Exhausted`, `Gone` or `Trap`.
+/// object's count of faults rose in this call; then the last step reads, or puts. At every other end,
+/// and after want of memory, that count is as before. The end is never `Exhausted`, `Gone` or `Trap`.
 ///
 /// # Errors
 ///
@@ -120,6 +122,9 @@ pub fn run_copy<I: Source, O: Sink>(
     ensures output_fault { IfOk result (λ done. done.end ≡ Ending.OutputFault → Rose (O.faults output.old) (O.faults output.new)) }
     ensures input_later { I.faults input.old ≤ I.faults input.new }
     ensures output_later { O.faults output.old ≤ O.faults output.new }
+    ensures input_quiet { IfOk result (λ done. done.end ≢ Ending.InputFault → I.faults input.new ≡ I.faults input.old) }
+    ensures output_quiet { IfOk result (λ done. done.end ≢ Ending.OutputFault → O.faults output.new ≡ O.faults output.old) }
+    ensures memory_quiet { OnErr result ((I.faults input.new ≡ I.faults input.old) × (O.faults output.new ≡ O.faults output.old)) }
 {
     let mut state = start(alloc, p)?;
     let mut over = false;

@@ -26,7 +26,7 @@ returns-in_err-state-clause-memory g c =
     on_err c.from_residual.result (DoesPart p c.args.steps o.left o.left o.held o.held) (does_part p 0 c.args.steps fresh 0 o o o.left o.held (omega arith) (reached_start p fresh o refl refl) refl refl)
 
 pub loop-k-init : goal.loop-k-init
-loop-k-init g c = record { reached = reached_start _ _ _ c.in_ok-state.ensures refl; input_later = omega arith; output_later = omega arith }
+loop-k-init g c = record { reached = reached_start _ _ _ c.in_ok-state.ensures refl; input_quiet = refl; output_quiet = refl }
 
 pub returns-in_err-end-clause-memory : goal.returns-in_err-end-clause-memory
 returns-in_err-end-clause-memory g c =
@@ -57,8 +57,8 @@ loop-k-preserved g c =
     record {
       reached = subst P (sym (c.max-peak.ensures ∙ ap (λ (load : ℕ). max c.loop-k.peak load) c.load_of-in-loop-k.ensures))
           (reached_next p c.loop-k.k (seen c.loop-k.state) (seen c.turn.new.state) c.loop-k.peak first o u c.loop-k.invariant.reached (subst X c.in_default.is c.in_ok-end.ensures.did));
-      input_later = omega (arith, c.turn.ensures.input_later, c.loop-k.invariant.input_later);
-      output_later = omega (arith, c.turn.ensures.output_later, c.loop-k.invariant.output_later);
+      input_quiet = c.in_ok-end.ensures.input_quiet (λ fault. let going = c.in_default.is in cc) ∙ c.loop-k.invariant.input_quiet;
+      output_quiet = c.in_ok-end.ensures.output_quiet (λ fault. let going = c.in_default.is in cc) ∙ c.loop-k.invariant.output_quiet;
     }
 
 pub returns-then-is_over-clause-did : goal.returns-then-is_over-clause-did
