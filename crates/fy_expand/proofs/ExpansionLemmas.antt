@@ -61,9 +61,10 @@ limited-ok q p w h =
     let small : Result Tree ExpandError = if nat_lt 65536 (size_of q) then Err TooLarge else few in
     let one = test-ok (nat_lt 512 (nesting q)) TooDeep small p h in
     let two = test-ok (nat_lt 65536 (size_of q)) TooLarge few p one.1 in
-    let three = test-ok (nat_lt 65536 (visits_of q)) TooManyVisits (Ok q) p two.1 in
-    (same-ok q p (Ok q) refl three.1,
-    record { shallow = ltb-false 512 (nesting q) one.0; small = ltb-false 65536 (size_of q) two.0; few_visits = ltb-false 65536 (visits_of q) three.0; written = w })
+    let three = test-ok (nat_lt 65536 (visits_of q)) TooManyVisits (Ok q) p two.1 in (
+      same-ok q p (Ok q) refl three.1,
+      record { shallow = ltb-false 512 (nesting q) one.0; small = ltb-false 65536 (size_of q) two.0; few_visits = ltb-false 65536 (visits_of q) three.0; written = w },
+    )
 
 -- there is no fault, and the phrase is the whole of the program
 core_of-ok : (tree : written.Tree) (p : Tree) → core_of tree ≡ Ok p → (None ≡ fault program_scope tree) × (whole tree ≡ p) × KeepsCoreLimits (whole tree)
