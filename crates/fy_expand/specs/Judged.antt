@@ -1,7 +1,6 @@
 -- How a text is judged: its core phrase, or the refusal of the first stage that refuses. The stages are its length, its tokens, its syntax
 -- and nesting, its expansion, and the core limits.
-use Rattle.std.specs.Prelude.{◌≡◌, ◌≢◌, ◌<◌, ◌≤◌, Result, Ok, Err, List, length, ◌⊎◌}
-use Rattle.std.specs.List.{Any}
+use Rattle.std.specs.Prelude.{◌≡◌, ◌≢◌, ◌<◌, ◌≤◌, Result, Ok, Err, List, length}
 use Rattle.fy_base.specs.Outside.{Bytes}
 use Rattle.fy_base.specs.declared.data.Place.{Place}
 use Rattle.fy_types.specs.Names.{first_names}
@@ -12,6 +11,7 @@ use Rattle.fy_lexer.specs.Tokens.{IsTokensOf, AreWithin, IsFaultOf}
 use Rattle.fy_syntax.specs.Trees as written
 use Rattle.fy_syntax.specs.Spells.{IsProgram}
 use Rattle.fy_syntax.specs.Nesting.{nesting}
+use Rattle.fy_places.specs.Begins.{IsSyntaxFault, IsDepthFault}
 use Rattle.fy_phrase.specs.Tree.{Tree}
 use Rattle.fy_expand.specs.declared.error.ExpandError.{ExpandError}
 use Rattle.fy_expand.specs.Expansion.{core_of}
@@ -21,7 +21,7 @@ pub data Refusal : Type 0 where
   -- over 1,048,576 bytes
   length_refused : Refusal
   tokens_refused : LexError → Refusal
-  -- no program is spelled, or none that nests as little as is allowed; the place is that of some token
+  -- at the first token with which no program of the allowed nesting begins: no program at all, or only deeper ones
   syntax_refused : Place → Refusal
   depth_refused : Place → Refusal
   -- a fault, or a core limit
@@ -39,32 +39,16 @@ pub record IsAllowed (tokens : List Token) (tree : written.Tree) : Type 0 where
   pub spelled : IsProgram tree tokens
   pub nests : nesting tree ≤ 256
 
--- the place of some token
-abbrev pub IsPlaceIn : List Token → Place → Type 0
-IsPlaceIn tokens at = Any (λ t. t.place ≡ at) tokens
-
 -- the text is judged so
 pub data IsJudged : Bytes → Result Tree Refusal → Type 0 where
   too_long : {text : Bytes} → 1048576 < length text → IsJudged text (Err length_refused)
   no_tokens : {text : Bytes} {e : LexError} → length text ≤ 1048576 → IsFaultOf first_names text e → e ≢ OutOfMemory →
       IsJudged text (Err (tokens_refused e))
   no_program : {text : Bytes} {tokens : List Token} {at : Place} → HasTokens text tokens →
-      ((tree : written.Tree) → ¬ IsAllowed tokens tree) → IsPlaceIn tokens at → IsJudged text (Err (syntax_refused at))
+      IsSyntaxFault 256 tokens at → IsJudged text (Err (syntax_refused at))
   too_deep : {text : Bytes} {tokens : List Token} {at : Place} → HasTokens text tokens →
-      ((tree : written.Tree) → ¬ IsAllowed tokens tree) → IsPlaceIn tokens at → IsJudged text (Err (depth_refused at))
+      IsDepthFault 256 tokens at → IsJudged text (Err (depth_refused at))
   not_expanded : {text : Bytes} {tokens : List Token} {tree : written.Tree} {e : ExpandError} → HasTokens text tokens →
       IsAllowed tokens tree → core_of tree ≡ Err e → IsJudged text (Err (expansion_refused e))
   expanded : {text : Bytes} {tokens : List Token} {tree : written.Tree} {p : Tree} → HasTokens text tokens →
       IsAllowed tokens tree → core_of tree ≡ Ok p → IsJudged text (Ok p)
-
--- the refusal is of the syntax with its nesting, whose place is that of some token
-abbrev pub IsOfSyntax : Refusal → Type 0
-IsOfSyntax length_refused = ⊥
-IsOfSyntax (tokens_refused error) = ⊥
-IsOfSyntax (syntax_refused place) = Unit {0}
-IsOfSyntax (depth_refused place) = Unit {0}
-IsOfSyntax (expansion_refused error) = ⊥
-
--- two refusals are the same, or both are of the syntax with its nesting
-abbrev pub AreAlike : Refusal → Refusal → Type 0
-AreAlike why other = (why ≡ other) ⊎ (IsOfSyntax why × IsOfSyntax other)

@@ -9,17 +9,16 @@ ghost use Rattle.fy_phrase.specs.PhraseNames.{AllNames, HasFullTypes};
 ghost use Rattle.fy_phrase.specs.Tree.{Tree};
 ghost use Rattle.fy_types.specs.Fields.{IsNamed};
 ghost use Rattle.fy_types.specs.Names.{first_names};
-ghost use Rattle.fy_expand.specs.Judged.{AreAlike, IsJudged, Refusal};
+ghost use Rattle.fy_expand.specs.Judged.{IsJudged, Refusal};
 
-/// A text is judged one way: it has at most one core phrase, and then no refusal; of two refusals either both are of the
-/// syntax with its nesting, or they are the same.
+/// A text is judged one way: it has at most one core phrase, and then no refusal, and at most one refusal.
 pub fn texts_are_judged_one_way()
     ensures phrase { (text : Bytes) (phrase other : Tree)
         → IsJudged text (Ok phrase) → IsJudged text (Ok other) → phrase ≡ other }
     ensures apart { (text : Bytes) (phrase : Tree) (why : Refusal)
         → IsJudged text (Ok phrase) → ¬ IsJudged text (Err why) }
     ensures refusal { (text : Bytes) (why other : Refusal)
-        → IsJudged text (Err why) → IsJudged text (Err other) → AreAlike why other }
+        → IsJudged text (Err why) → IsJudged text (Err other) → why ≡ other }
 {}
 
 /// The core phrase of a judged text keeps the core limits, each meet in the types that it is written with has two members or

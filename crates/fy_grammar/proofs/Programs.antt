@@ -1,22 +1,23 @@
 -- Programs: what reading all tokens says of them.
-use Rattle.std.proofs.Common.{◌≡◌, ◌≤◌, suc, true, false, List, [], ◌∷◌, ◌++◌, map, append_assoc, refl, sym, ap, subst, ◌∙◌, arith}
+use Rattle.std.proofs.Common.{◌≡◌, true, false, List, [], ◌∷◌, ◌++◌, append_assoc, refl, sym, ap, subst, ◌∙◌}
 use Rattle.std.specs.Prelude.{Ok, Err, ◌≢◌}
-use Rattle.std.specs.List.{All, Contains}
-use Rattle.std.proofs.lemmas.List.Elements.{All-tail}
+use Rattle.std.specs.List.{All}
+use Rattle.std.proofs.lemmas.List.Elements.{All-head, All-tail}
 use Rattle.fy_base.specs.declared.data.Place.{Place}
 use Rattle.fy_lexer.specs.declared.token.Token.{Token}
 use Rattle.fy_lexer.specs.declared.token.TokenKind.{TokenKind}
 use Rattle.fy_lexer.specs.declared.token.TokenKind.TheVariants as kind
 use Rattle.fy_syntax.specs.Trees.{Tree}
-use Rattle.fy_syntax.specs.Nesting.{nesting}
 use Rattle.fy_syntax.specs.Signs.{front, token, Level}
 use Rattle.fy_syntax.specs.Spells.{SpellsBefore, IsProgram}
 use Rattle.fy_syntax.specs.Reader.{Fault, read_phrase}
-use Rattle.fy_syntax.proofs.Complete.{complete}
+use Rattle.fy_syntax.proofs.TokenLemmas.{stopped}
 use Rattle.fy_syntax.proofs.Unique.{unambiguous}
-use Rattle.fy_grammar.specs.Program.{IsEnded, IsTheProgram, IsRefusedAt, is_over, is_end}
+use Rattle.fy_places.specs.Begins.{IsSyntaxFault, IsDepthFault}
+use Rattle.fy_places.proofs.Exact.{wrong_exact, left_exact, deep_exact}
+use Rattle.fy_grammar.specs.Program.{IsEnded, IsTheProgram, deepest, is_over, is_end}
 use Rattle.fy_grammar.proofs.Holding.{Holds, holds_ok, holds_err}
-use Rattle.fy_grammar.proofs.SignsSound.{Lasts, Fails, stopped}
+use Rattle.fy_grammar.proofs.SignsSound.{Lasts, Fails}
 use Rattle.fy_grammar.proofs.TermsSound.{Spelled, read_sound}
 
 -- what is left of the tokens, with their end
@@ -43,25 +44,13 @@ lasts all = record {
   };
 }
 
-contains_at : (before : List Token) (t : Token) (ts : List Token) → Contains (map (λ (u : Token). u.place) (before ++ t ∷ ts)) t.place
-contains_at [] t ts = (0, omega arith, refl)
-contains_at (b ∷ before) t ts = let (k, lt, e) = contains_at before t ts in (suc k, omega arith, e)
-
 not_empty : (us before : List Token) (at : Place) → us ≡ before ++ token kind.End at ∷ [] → us ≡ [] → ⊥
 not_empty us [] at e f = cc
 not_empty us (b ∷ before) at e f = cc
 
-placed : (all us : List Token) → IsTail all us → Contains (map (λ (u : Token). u.place) all) (front us)
-placed all [] h = absurd (not_empty [] h.ended.before h.ended.at h.ended.is refl)
-placed all (t ∷ us) h = subst (λ (l : List Token). Contains (map (λ (u : Token). u.place) l) t.place) (sym h.is) (contains_at h.part t us)
-
 -- reading all tokens
 read_all : (tokens : List Token) → IsEnded tokens → Holds (Spelled (IsTail tokens) Level.phrase 255 tokens) (Fails (IsTail tokens)) (read_phrase 255 tokens)
 read_all tokens h = (read_sound (IsTail tokens) (lasts tokens) 255 Level.phrase).sound tokens (record { ended = h; part = []; is = refl })
-
--- a program within the nesting is read whole
-program_read : (tokens : List Token) (tree : Tree) (p : IsProgram tree tokens) → nesting tree ≤ 256 → read_phrase 255 tokens ≡ Ok (tree, token kind.End p.0 ∷ [])
-program_read tokens tree p n = complete 255 p.1 n (omega arith)
 
 over_is : (us : List Token) → is_over us ≡ true → us ≡ token kind.End (front us) ∷ []
 over_is [] e = absurd cc
@@ -78,21 +67,33 @@ program_found tokens rest tree h e f =
     let p : IsProgram tree tokens = (front rest, subst (λ us. SpellsBefore Level.phrase tree tokens us) (over_is rest f) s.0) in
     record { spelled = p; within = s.1; only = λ other q. unambiguous.of_programs tokens other tree q p }
 
-more_left : (rest : List Token) (at : Place) → is_over rest ≡ false → rest ≡ token kind.End at ∷ [] → ⊥
-more_left rest at e f = let k : is_over rest ≡ true = ap is_over f in cc
+-- what is left has its end, so it isn't empty
+never_empty : (tokens rest : List Token) → IsTail tokens rest → rest ≡ [] → ⊥
+never_empty tokens rest h e = not_empty rest h.ended.before h.ended.at h.ended.is e
 
-pub program_refused : (tokens rest : List Token) (tree : Tree) → IsEnded tokens → read_phrase 255 tokens ≡ Ok (tree, rest) → is_over rest ≡ false → IsRefusedAt tokens (front rest)
-program_refused tokens rest tree h e f =
-    let s = holds_ok (Spelled (IsTail tokens) Level.phrase 255 tokens) (Fails (IsTail tokens)) (read_phrase 255 tokens) (tree, rest) e (read_all tokens h) in
-    record {
-      none = λ other q n. more_left rest q.0 f (let k : Ok (tree, rest) ≡ Ok (other, token kind.End q.0 ∷ []) = sym e ∙ program_read tokens other q n in let l : (tree, rest) ≡ (other, token kind.End q.0 ∷ []) = cc in ap (λ (x : Tree × List Token). x.1) l);
-      placed = placed tokens rest s.2;
-    }
+-- where more than the end is left, the next token isn't the end
+not_end : (bad : Token) (rest before : List Token) (at : Place) → bad ∷ rest ≡ before ++ token kind.End at ∷ [] → All (λ t. t.kind ≢ kind.End) before → is_over (bad ∷ rest) ≡ false → bad.kind ≢ kind.End
+not_end bad rest [] at e h f = λ k. (let o : is_over (bad ∷ rest) ≡ true = ap is_over e in cc)
+not_end bad rest (b ∷ before) at e h f = λ k. (let s : bad ≡ b = cc in All-head (λ t. t.kind ≢ kind.End) b before h (ap (λ (t : Token). t.kind) (sym s) ∙ k))
 
-pub program_stopped : (tokens : List Token) (fault : Fault) → IsEnded tokens → read_phrase 255 tokens ≡ Err fault → IsRefusedAt tokens (front (stopped fault))
-program_stopped tokens fault h e =
-    let s = holds_err (Spelled (IsTail tokens) Level.phrase 255 tokens) (Fails (IsTail tokens)) (read_phrase 255 tokens) fault e (read_all tokens h) in
-    record {
-      none = λ other q n. (let k : Err fault ≡ Ok (other, token kind.End q.0 ∷ []) = sym e ∙ program_read tokens other q n in cc);
-      placed = placed tokens (stopped fault) s;
-    }
+-- what is left of all tokens, where reading them gives a tree, and where it stops
+left_behind : (tokens rest : List Token) (tree : Tree) → IsEnded tokens → read_phrase 255 tokens ≡ Ok (tree, rest) → IsTail tokens rest
+left_behind tokens rest tree h e = (holds_ok (Spelled (IsTail tokens) Level.phrase 255 tokens) (Fails (IsTail tokens)) (read_phrase 255 tokens) (tree, rest) e (read_all tokens h)).2
+
+left_stopped : (tokens : List Token) (fault : Fault) → IsEnded tokens → read_phrase 255 tokens ≡ Err fault → IsTail tokens (stopped fault)
+left_stopped tokens fault h e = holds_err (Spelled (IsTail tokens) Level.phrase 255 tokens) (Fails (IsTail tokens)) (read_phrase 255 tokens) fault e (read_all tokens h)
+
+-- the three ways to be no program
+pub program_left : (tokens rest : List Token) (tree : Tree) → IsEnded tokens → read_phrase 255 tokens ≡ Ok (tree, rest) → is_over rest ≡ false → IsSyntaxFault deepest tokens (front rest)
+program_left tokens [] tree h e f = absurd (never_empty tokens [] (left_behind tokens [] tree h e) refl)
+program_left tokens (bad ∷ rest) tree h e f =
+    let k = (left_behind tokens (bad ∷ rest) tree h e).ended in
+    left_exact 255 tokens rest bad tree e (not_end bad rest k.before k.at k.is k.no_other f)
+
+pub program_wrong : (tokens rest : List Token) → IsEnded tokens → read_phrase 255 tokens ≡ Err (Fault.wrong rest) → IsSyntaxFault deepest tokens (front rest)
+program_wrong tokens [] h e = absurd (never_empty tokens [] (left_stopped tokens (Fault.wrong []) h e) refl)
+program_wrong tokens (bad ∷ rest) h e = wrong_exact 255 tokens rest bad e
+
+pub program_deep : (tokens rest : List Token) → IsEnded tokens → read_phrase 255 tokens ≡ Err (Fault.deep rest) → IsDepthFault deepest tokens (front rest)
+program_deep tokens [] h e = absurd (never_empty tokens [] (left_stopped tokens (Fault.deep []) h e) refl)
+program_deep tokens (bad ∷ rest) h e = deep_exact 255 tokens rest bad e

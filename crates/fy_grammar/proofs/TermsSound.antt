@@ -1,5 +1,5 @@
 -- What is read is spelled so, within the nesting.
-use Rattle.std.proofs.Common.{◌≡◌, ◌≤◌, ◌+◌, ℕ, zero, suc, true, false, List, [], ◌∷◌, length, refl, sym, ap, subst, ◌∙◌, arith}
+use Rattle.std.proofs.Common.{◌≡◌, ◌≤◌, ℕ, zero, suc, true, false, List, [], ◌∷◌, length, refl, sym, ap, subst, ◌∙◌, arith}
 use Rattle.std.specs.Prelude.{Option, Some, Ok}
 use Rattle.fy_base.specs.declared.data.Place.{Place}
 use Rattle.fy_lexer.specs.declared.token.Token.{Token}
@@ -9,16 +9,18 @@ use Rattle.fy_lexer.specs.declared.token.Keyword.TheVariants as word
 use Rattle.fy_lexer.specs.declared.token.Symbol.{Symbol}
 use Rattle.fy_lexer.specs.declared.token.Symbol.TheVariants as symbol
 use Rattle.fy_syntax.specs.Trees.{TypeTrees, Tree, Trees, Defs, Links}
-use Rattle.fy_syntax.specs.Nesting.{own, below, trees_nesting, trees_below, defs_nesting, links_below}
+use Rattle.fy_syntax.specs.Nesting.{below, trees_nesting, trees_below, defs_nesting, links_below}
 use Rattle.fy_syntax.specs.Signs.{front, token, symbol_at, word_at, ident_at, atom_word, Level, TypeLevel}
 use Rattle.fy_syntax.specs.Spells.{SpellsType, MoreTypes, MoreDecls, Dots, SpellsBefore, MoreTrees, MoreDefs, MoreLinks, MoreArguments, merge_of, sequence_of, chain_of, prefixed_of, apply_of, select_of}
 use Rattle.fy_syntax.specs.Reader.{Read, nested, behind, begins_with, starts, expect, expect_word, name_at, data_at, types_at, decl_at, decls_at, dots_at, prefixes_at, OneDef, Inner, trees_at, sequence_at, phrase_at, group_at, seq_at, primary_by_kind, primary_at, select_at, arguments_at, apply_at, prefixed_at, operator_at, links_at, product_at, sum_at, relation_at, both_at, either_at, assign_at, def_at, defs_at, lam_at, let_at, letrec_at, let_type_at, new_at, escape_at, accept_at, cond_at, while_at, loop_at, ident_term, term_by_kind, term_at, inner, read_type, read_term, read_at}
-use Rattle.fy_syntax.proofs.Fronts.{merge_nested, sequence_nested, chain_below, prefixed_below, apply_below, select_below, own_one}
-use Rattle.fy_syntax.proofs.Complete.{depth_at}
+use Rattle.fy_syntax.proofs.Fronts.{merge_nested, sequence_nested, chain_below, prefixed_below, apply_below, select_below}
+use Rattle.fy_syntax.proofs.TypesComplete.{types_deeper}
+use Rattle.fy_syntax.proofs.TokenLemmas.{begins_is, operator_is}
+use Rattle.fy_syntax.proofs.Complete.{depth_at, nested_depth}
 use Rattle.fy_grammar.specs.Program.{is_end}
 use Rattle.fy_grammar.proofs.Holding.{Holds, holds_bind, holds_mapped, holds_if, holds_nested, holds_link}
-use Rattle.fy_grammar.proofs.SignsSound.{Lasts, Fails, IsBehind, IsNamed, IsDatum, begins_is, lasts_symbol, expect_sound, expect_word_sound, name_sound, data_sound, prefixes_sound, operator_is, lasts_operator}
-use Rattle.fy_grammar.proofs.TypesSound.{SpelledType, SpelledTypes, SpelledDecl, SpelledDecls, TypeSound, types_sound, read_type_sound, types_deeper, decl_sound, decls_sound}
+use Rattle.fy_grammar.proofs.SignsSound.{Lasts, Fails, IsBehind, IsNamed, IsDatum, lasts_symbol, expect_sound, expect_word_sound, name_sound, data_sound, prefixes_sound, lasts_operator}
+use Rattle.fy_grammar.proofs.TypesSound.{SpelledType, SpelledTypes, SpelledDecl, SpelledDecls, TypeSound, types_sound, read_type_sound, decl_sound, decls_sound}
 
 -- what was read at a level is spelled before what is left
 abbrev pub Spelled : (List Token → Type 0) → Level → ℕ → List Token → Tree × List Token → Type 0
@@ -29,21 +31,6 @@ pub record TreeSound (E : List Token → Type 0) (l : Level) (d : ℕ) (item : L
 
 pub record InnerSound (E : List Token → Type 0) (d : ℕ) (i : Option Inner) : Type 0 where
   pub sound : (g : Inner) → i ≡ Some g → (e : ℕ) × (suc e ≤ d) × TypeSound E TypeLevel.type e g.type × TreeSound E Level.term e g.term
-
--- the nesting of a phrase, with its own node
-nested_depth : (n : ℕ) (l : Level) (t : Tree) {ts r : List Token} → SpellsBefore l t ts r → depth_at l t ≤ n → below t + own t ≤ n
-nested_depth n Level.phrase t x h = h
-nested_depth n Level.sequence t x h = h
-nested_depth n Level.term t x h = omega (arith, own_one x (omega arith))
-nested_depth n Level.either t x h = omega (arith, own_one x (omega arith))
-nested_depth n Level.both t x h = omega (arith, own_one x (omega arith))
-nested_depth n Level.relation t x h = omega (arith, own_one x (omega arith))
-nested_depth n Level.sum t x h = omega (arith, own_one x (omega arith))
-nested_depth n Level.product t x h = omega (arith, own_one x (omega arith))
-nested_depth n Level.prefixed t x h = omega (arith, own_one x (omega arith))
-nested_depth n Level.apply t x h = omega (arith, own_one x (omega arith))
-nested_depth n Level.select t x h = omega (arith, own_one x (omega arith))
-nested_depth n Level.primary t x h = omega (arith, own_one x (omega arith))
 
 -- phrases behind a symbol each
 abbrev pub SpelledTrees : (List Token → Type 0) → Symbol → Level → ℕ → List Token → Trees × List Token → Type 0

@@ -11,15 +11,16 @@ use Rattle.fy_lexer.specs.declared.token.Keyword.TheVariants as word
 use Rattle.fy_lexer.specs.declared.token.Symbol.{Symbol}
 use Rattle.fy_lexer.specs.declared.token.Symbol.TheVariants as symbol
 use Rattle.fy_syntax.specs.Trees.{TypeTree, TypeTrees, DeclTree}
-use Rattle.fy_syntax.specs.Nesting.{type_below, types_below, types_nesting, decls_nesting}
+use Rattle.fy_syntax.specs.Nesting.{type_below, types_below, decls_nesting}
 use Rattle.fy_syntax.specs.Signs.{front, token, symbol_at, word_at, ident_at, atom_word, TypeLevel}
 use Rattle.fy_syntax.specs.Spells.{Fields, SpellsType, MoreTypes, MoreDecls, field_of, meet_of}
 use Rattle.fy_syntax.specs.Reader.{Read, mapped, behind, begins_with, expect, name_at, is_symbol_kind, fields_at, fields_step, types_at, type_group, type_by_kind, type_primary, type_field, type_inter, type_type, type_inner, read_type, decl_at, decls_at}
 use Rattle.fy_syntax.proofs.SignLemmas.{kind_is_symbol}
+use Rattle.fy_syntax.proofs.TokenLemmas.{begins_is}
 use Rattle.fy_syntax.proofs.TypesComplete.{meet_below, field_below}
 use Rattle.fy_grammar.specs.Program.{is_end}
 use Rattle.fy_grammar.proofs.Holding.{Holds, holds_bind, holds_mapped, holds_if, holds_nested}
-use Rattle.fy_grammar.proofs.SignsSound.{Lasts, Fails, IsBehind, IsNamed, begins_is, lasts_symbol, expect_sound, name_sound}
+use Rattle.fy_grammar.proofs.SignsSound.{Lasts, Fails, IsBehind, IsNamed, lasts_symbol, expect_sound, name_sound}
 
 -- what was read at a level is spelled before what is left
 abbrev pub SpelledType : (List Token → Type 0) → TypeLevel → ℕ → List Token → TypeTree × List Token → Type 0
@@ -146,11 +147,6 @@ read_type_sound E a d = type_type_sound E a d (type_inner d) (type_inner_sound E
 
 pub read_field_sound : (E : List Token → Type 0) → Lasts E → (d : ℕ) → TypeSound E TypeLevel.field d (type_field (type_inner d))
 read_field_sound E a d = type_field_sound E a d (type_inner d) (type_inner_sound E a d)
-
--- alternatives are one node deeper than what is below them
-pub types_deeper : (more : TypeTrees) (d : ℕ) → types_below more ≤ d → types_nesting more ≤ suc d
-types_deeper TypeTrees.no_types d h = omega arith
-types_deeper (TypeTrees.and_type a more) d h = omega (arith, types_deeper more d (omega arith))
 
 -- declarations
 pub record SpelledDecl (E : List Token → Type 0) (d : ℕ) (ts : List Token) (x : DeclTree × List Token) : Type 0 where

@@ -1,6 +1,6 @@
 -- The program that tokens spell, and why they spell none.
-use Rattle.std.specs.Prelude.{◌≡◌, ◌≢◌, ℕ, ◌≤◌, Bool, true, false, List, [], ◌∷◌, ◌++◌, map}
-use Rattle.std.specs.List.{All, Contains}
+use Rattle.std.specs.Prelude.{◌≡◌, ◌≢◌, ℕ, ◌≤◌, Bool, true, false, List, [], ◌∷◌, ◌++◌}
+use Rattle.std.specs.List.{All}
 use Rattle.fy_base.specs.declared.data.Place.{Place}
 use Rattle.fy_lexer.specs.declared.token.Token.{Token}
 use Rattle.fy_lexer.specs.declared.token.TokenKind.{TokenKind}
@@ -9,6 +9,7 @@ use Rattle.fy_syntax.specs.Trees.{Tree}
 use Rattle.fy_syntax.specs.Nesting.{nesting}
 use Rattle.fy_syntax.specs.Signs.{token}
 use Rattle.fy_syntax.specs.Spells.{IsProgram}
+use Rattle.fy_places.specs.Begins.{IsSyntaxFault, IsDepthFault}
 use Rattle.fy_grammar.specs.declared.error.ParseError.{ParseError}
 use Rattle.fy_grammar.specs.declared.error.ParseError.TheVariants.{Syntax, TooDeep, OutOfMemory}
 
@@ -39,13 +40,8 @@ pub record IsTheProgram (tokens : List Token) (tree : Tree) : Type 0 where
   pub within : nesting tree ≤ deepest
   pub only : (other : Tree) → IsProgram other tokens → other ≡ tree
 
--- the tokens spell no tree within the nesting, and this is the place of one of them
-pub record IsRefusedAt (tokens : List Token) (place : Place) : Type 0 where
-  pub none : (tree : Tree) → IsProgram tree tokens → nesting tree ≤ deepest → ⊥
-  pub placed : Contains (map (λ t. t.place) tokens) place
-
--- why each error comes; want of memory may come anywhere
+-- why each error comes, and where: at the first token with which no program within the nesting begins; want of memory may come anywhere
 abbrev pub IsRefusal : List Token → ParseError → Type 0
-IsRefusal tokens (Syntax place) = IsRefusedAt tokens place
-IsRefusal tokens (TooDeep place) = IsRefusedAt tokens place
+IsRefusal tokens (Syntax place) = IsSyntaxFault deepest tokens place
+IsRefusal tokens (TooDeep place) = IsDepthFault deepest tokens place
 IsRefusal tokens OutOfMemory = Unit {0}

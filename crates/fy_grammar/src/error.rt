@@ -9,10 +9,11 @@ use thiserror::Error;
 /// Why tokens spell no tree of nesting at most 256.
 #[derive(Clone, Copy, PartialEq, Eq, Debug, Error)]
 pub enum ParseError {
-    /// No tree is spelled, at the place of a token that can't follow those before it.
+    /// No tree is spelled, at the place of the first token such that no program begins with the tokens up to it.
     #[error("syntax")]
     Syntax(Place),
-    /// No tree of nesting at most 256 is spelled, at the place of a token that nests deeper.
+    /// No tree of nesting at most 256 is spelled, at the place of the first token such that only deeper programs begin with
+    /// the tokens up to it.
     #[error("too deep")]
     TooDeep(Place),
     /// Memory was wanting.

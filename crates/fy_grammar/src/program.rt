@@ -19,9 +19,10 @@ const LEFT: u32 = 255;
 /// (Reynolds, "Design of the Programming Language Forsythe", CMU-CS-96-146, 1996). It is the only tree that they
 /// spell. The list ends with `End` and has no other.
 ///
-/// It is refused exactly where no tree of nesting at most 256 is spelled, at the place of one of the tokens: `Syntax`
-/// where a token can't follow those before it, and `TooDeep` where it would nest deeper than 256.
-#[tactic(auto, using(crate::proofs::Programs::program_refused, crate::proofs::Programs::program_stopped))]
+/// It is refused exactly where no tree of nesting at most 256 is spelled, at the place of the first token such that no
+/// program of nesting at most 256 begins with the tokens up to it: `TooDeep` where some deeper program begins with them,
+/// else `Syntax`.
+#[tactic(auto, using(crate::proofs::Programs::program_left))]
 pub fn parse(alloc: Global, tokens: &[Token]) -> Result<Surface, ParseError>
     requires { IsEnded tokens.now }
     ensures ok { IfOk result (λ tree. IsTheProgram tokens.now (tree_of tree)) }

@@ -25,37 +25,41 @@ behind_same w before t other u (inl h) = inl (record { lists = ap (λ l. w ∷ l
 behind_same w before t other u (inr (inl h)) = inr (inl (record { more = h.more; is = ap (λ l. w ∷ l) h.is }))
 behind_same w before t other u (inr (inr h)) = inr (inr (record { more = h.more; is = ap (λ l. w ∷ l) h.is }))
 
-compare : (before : List Token) (t : Token) (r other : List Token) (u : Token) (q : List Token) → before ++ t ∷ r ≡ other ++ u ∷ q → Compared before t other u
-compare [] t r [] u q e = inl (record { lists = refl; tokens = (let h : t ≡ u = cc in h) })
-compare [] t r (v ∷ other) u q e = inr (inl (record { more = other; is = (let h : t ≡ v = cc in ap (λ w. w ∷ other) (sym h)) }))
-compare (w ∷ before) t r [] u q e = inr (inr (record { more = before; is = (let h : w ≡ u = cc in ap (λ x. x ∷ before) h) }))
-compare (w ∷ before) t r (v ∷ other) u q e =
+compare : (before : List Token) (t : Token) (rest other : List Token) (u : Token) (other_rest : List Token) → before ++ t ∷ rest ≡ other ++ u ∷ other_rest → Compared before t other u
+compare [] t rest [] u other_rest e = inl (record { lists = refl; tokens = (let h : t ≡ u = cc in h) })
+compare [] t rest (v ∷ other) u other_rest e = inr (inl (record { more = other; is = (let h : t ≡ v = cc in ap (λ w. w ∷ other) (sym h)) }))
+compare (w ∷ before) t rest [] u other_rest e = inr (inr (record { more = before; is = (let h : w ≡ u = cc in ap (λ x. x ∷ before) h) }))
+compare (w ∷ before) t rest (v ∷ other) u other_rest e =
     let h : w ≡ v = cc in
-    let k : before ++ t ∷ r ≡ other ++ u ∷ q = cc in
-    subst (λ v. Compared (w ∷ before) t (v ∷ other) u) h (behind_same w before t other u (compare before t r other u q k))
+    let k : before ++ t ∷ rest ≡ other ++ u ∷ other_rest = cc in
+    subst (λ v. Compared (w ∷ before) t (v ∷ other) u) h (behind_same w before t other u (compare before t rest other u other_rest k))
 
 -- what begins with more tokens begins with fewer
-fewer_begin : (depth : ℕ) (before : List Token) (t : Token) (longer : List Token) → GoesOn before t longer → BeginsWithin depth longer → BeginsWithin depth (before ++ t ∷ [])
-fewer_begin depth before t longer h w =
+pub fewer_begin : (depth : ℕ) (before more : List Token) → BeginsWithin depth (before ++ more) → BeginsWithin depth before
+fewer_begin depth before more w =
     let b = w.begins in
     record {
       begins = record {
         program = b.program;
         whole = b.whole;
-        more = kinds h.more ++ b.more;
+        more = kinds more ++ b.more;
         spelled = b.spelled;
-        is = b.is ∙ ap (λ l. l ++ b.more) (ap kinds (h.is ∙ sym (append_assoc before (t ∷ []) h.more)) ∙ kinds-append (before ++ t ∷ []) h.more) ∙ append_assoc (kinds (before ++ t ∷ [])) (kinds h.more) b.more;
+        is = b.is ∙ ap (λ l. l ++ b.more) (kinds-append before more) ∙ append_assoc (kinds before) (kinds more) b.more;
       };
       within = w.within;
     }
+
+begins_to : (depth : ℕ) (before : List Token) (t : Token) (longer : List Token) → GoesOn before t longer → BeginsWithin depth longer → BeginsWithin depth (before ++ t ∷ [])
+begins_to depth before t longer h w =
+    fewer_begin depth (before ++ t ∷ []) h.more (subst (λ l. BeginsWithin depth l) (h.is ∙ sym (append_assoc before (t ∷ []) h.more)) w)
 
 first_bad_same : (depth : ℕ) (tokens before other : List Token) (t u : Token) → IsFirstBad depth tokens before t → IsFirstBad depth tokens other u → IsSame before other t u
 first_bad_same depth tokens before other t u f g = go (compare before t f.after other u g.after (sym f.is ∙ g.is))
   where
     go : Compared before t other u → IsSame before other t u
     go (inl same) = same
-    go (inr (inl longer)) = absurd (f.none (fewer_begin depth before t other longer g.begun))
-    go (inr (inr longer)) = absurd (g.none (fewer_begin depth other u before longer f.begun))
+    go (inr (inl longer)) = absurd (f.none (begins_to depth before t other longer g.begun))
+    go (inr (inr longer)) = absurd (g.none (begins_to depth other u before longer f.begun))
 
 -- a program within the nesting begins with itself, up to each of its tokens
 pub program_not_bad : (depth : ℕ) (tokens before : List Token) (bad : Token) (tree : Tree) → IsProgram tree tokens → nesting tree ≤ depth → IsFirstBad depth tokens before bad → ⊥

@@ -28,7 +28,7 @@ pub record BeginsWithin (depth : ℕ) (tokens : List Token) : Type 0 where
 pub record IsFirstBad (depth : ℕ) (tokens before : List Token) (bad : Token) : Type 0 where
   pub after : List Token
   pub is : tokens ≡ before ++ bad ∷ after
-  -- and so with each shorter beginning
+  -- so no earlier token is bad
   pub begun : BeginsWithin depth before
   pub none : ¬ BeginsWithin depth (before ++ bad ∷ [])
 

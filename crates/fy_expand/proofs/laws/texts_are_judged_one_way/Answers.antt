@@ -1,4 +1,4 @@
-use Rattle.fy_expand.proofs.JudgedLemmas.{one_phrase, phrase_or_refusal, refusals_alike}
+use Rattle.fy_expand.proofs.JudgedLemmas.{one_phrase, phrase_or_refusal, one_refusal}
 use Rattle.fy_expand.proofs.laws.texts_are_judged_one_way.Goals as goal
 
 pub returns-clause-phrase : goal.returns-clause-phrase
@@ -8,4 +8,4 @@ pub returns-clause-apart : goal.returns-clause-apart
 returns-clause-apart c text phrase why h k = phrase_or_refusal text phrase why h k
 
 pub returns-clause-refusal : goal.returns-clause-refusal
-returns-clause-refusal c text why other h k = refusals_alike text why other h k
+returns-clause-refusal c text why other h k = one_refusal text why other h k
