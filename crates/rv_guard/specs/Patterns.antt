@@ -8,9 +8,11 @@ use Rattle.rv_insn.specs.declared.instructions.BranchOp.TheVariants.{Bne, Bltu, 
 use Rattle.rv_guard.specs.declared.pieces.Piece.{Piece}
 use Rattle.rv_guard.specs.declared.pieces.Piece.TheVariants.{FarJump, StackCheck, TableCheck, Entry, ServiceCall, FaultCall, Single}
 
--- the instructions of a piece. A branch with the offset 0 repeats itself while its condition holds
+-- the table of patterns: the instructions of a piece. A branch with the offset 0 repeats itself while its condition holds
 abbrev pub instructions_of : Piece → List Insn
+-- far jump: goes to its own address, plus 4096 times `high` with sign, plus `low`
 instructions_of (FarJump link high low) = Auipc 31 high ∷ Jalr link 31 low ∷ []
+-- stack check: v bytes from r on lie in the stack, and r is a multiple of 8
 instructions_of (StackCheck r high low) =
     Branch Bltu r 2 (pos 0)
     ∷ Branch Bltu 3 r (pos 0)
@@ -21,6 +23,7 @@ instructions_of (StackCheck r high low) =
     ∷ Imm Andi 31 r (pos 7)
     ∷ Branch Bne 31 0 (pos 0)
     ∷ []
+-- table check: r is the address of a word of the table
 instructions_of (TableCheck r high low) =
     Branch Bltu r 4 (pos 0)
     ∷ Lui 31 high
@@ -29,6 +32,7 @@ instructions_of (TableCheck r high low) =
     ∷ Imm Andi 31 r (pos 7)
     ∷ Branch Bne 31 0 (pos 0)
     ∷ []
+-- entry: goes to the far jump at r bytes, rounded down to a multiple of 8, behind where the code begins
 instructions_of (Entry r high low) =
     Imm Andi 31 r (negsuc 7)
     ∷ Lui 30 high
@@ -38,7 +42,9 @@ instructions_of (Entry r high low) =
     ∷ Reg Add 31 31 30
     ∷ Jalr 0 31 (pos 0)
     ∷ []
+-- service: end, put, take or exhausted, by its number
 instructions_of (ServiceCall number) = Imm Addi 17 0 (pos number) ∷ Ecall ∷ []
+-- fault: of this kind, at the place with the number v
 instructions_of (FaultCall kind high low) =
     Imm Addi 10 0 (pos kind)
     ∷ Lui 11 high
@@ -46,6 +52,7 @@ instructions_of (FaultCall kind high low) =
     ∷ Imm Addi 17 0 (pos 3)
     ∷ Ecall
     ∷ []
+-- no pattern
 instructions_of (Single insn) = insn ∷ []
 
 -- how many words a piece has
