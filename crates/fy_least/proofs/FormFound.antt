@@ -4,6 +4,7 @@ use Rattle.std.proofs.lemmas.Bool.{and_from}
 use Rattle.std.proofs.lemmas.List.{length-append}
 use Rattle.std.proofs.lemmas.Option.{slice_get-map}
 use Rattle.fy_base.specs.declared.data.Place.{Place}
+use Rattle.fy_base.specs.Outside.{Bytes}
 use Rattle.fy_types.specs.declared.types.Atom.TheVariants.{Bool as Truth}
 use Rattle.fy_types.specs.Types.{PlainType, atom, arrow, field as field_type, meet, no_types, and_type}
 use Rattle.fy_types.specs.Paths.{PlainPath, PlainPaths, end, call, pick, no_paths, and_path, append, called, picked, paths}
@@ -14,6 +15,7 @@ use Rattle.fy_types.specs.Limits.{all_nesting, IsWithinLimits}
 use Rattle.fy_types.specs.Limits.{nesting as nesting_of}
 use Rattle.fy_types.specs.Reading.{plain_paths, types_from}
 use Rattle.fy_types.specs.Nested.{type_nesting}
+use Rattle.fy_types.specs.Fields.{IsNamed, AllFormFields}
 use Rattle.fy_types.proofs.Order.{IsPathBelow-refl, ArePathsBelow-refl, ArePathsBelow-trans}
 use Rattle.fy_types.proofs.Laws.{append-left, append-right, append-greatest, append-none, called-append, called-below, picked-append, picked-below}
 use Rattle.fy_types.proofs.OnceLemmas.{below-once}
@@ -33,15 +35,21 @@ use Rattle.fy_derive.proofs.RuleLemmas.{same_type-refl}
 use Rattle.fy_least.specs.declared.found.Found.{Found}
 use Rattle.fy_least.specs.Blame.{if_empty, blame_of}
 use Rattle.fy_least.specs.Counts.{no_forms, and_form}
-use Rattle.fy_least.specs.Derived.{rule_of, rule_of_both, derived_if, ConcludesBelow, deepest_type, most_made_nesting}
+use Rattle.fy_least.specs.Derived.{rule_of, rule_of_both, derived_if, ConcludesBelow, most_made_nesting}
+use Rattle.fy_derive.specs.Limits.{deepest_type}
+use Rattle.fy_derive.specs.Printable.{IsPrintable}
 use Rattle.fy_least.specs.Layers.{met, IsLayered}
-use Rattle.fy_least.specs.Written.{deepest_written}
+use Rattle.fy_phrase.specs.CoreLimits.{deepest_written}
 use Rattle.fy_least.specs.Forms.{variable_rule, IsApplied, IsPicked, IsDefined, IsMerged, is_recursive, IsChosen}
+use Rattle.fy_least.specs.Writable.{IsWritable}
 use Rattle.fy_least.specs.Visited.{IsFound, IsMade, blame_at, has_atom, derivation_of, as_atom}
 use Rattle.fy_least.proofs.BelowLemmas.{more-below, test-below}
-use Rattle.fy_least.proofs.FoundLemmas.{made-nesting, taken, taken-atom, none-found, one-found, two-found, made-found, blame-same, passed-derived, none-derived}
+use Rattle.fy_least.proofs.FoundLemmas.{made-nesting, taken, taken-atom, found-fields, none-found, one-found, two-found, made-found, blame-same, passed-derived, none-derived}
 use Rattle.fy_least.proofs.CountLemmas.{within-append, nodes-append}
+use Rattle.fy_least.proofs.FormFields.{paths-fields, once-fields, join-fields, call-fields, selection-fields, others-fields}
 use Rattle.fy_least.proofs.LayerLemmas.{ns-layered, none-layered, bare-layered, one-layered, two-layered, defined-layered, three-layered, merge-layered, if-layered}
+use Rattle.fy_least.proofs.LeastFields.{least-fields, part-writable, both-writable}
+use Rattle.fy_least.proofs.PrintableLemmas.{made-printable, arrow-printable, none-printable, bare-printable, one-printable, two-printable, defined-printable, three-printable, merge-printable, if-printable}
 
 -- a variable
 known : (G : List PlainPaths) (k : ℕ) (H : List PlainType) → forms_of H ≡ G → option_map paths (slice_get H k) ≡ slice_get G k
@@ -62,7 +70,12 @@ pub var-found : (G : List PlainPaths) (k : ℕ) (at : Place) (f : Found) → IsM
 var-found G k at f made e =
     none-found G (var k at) at f (variable_rule (slice_get G k)) made refl refl refl (λ m. refl) e (derived (slice_get G k) refl)
     (few (slice_get G k)) (shallow (slice_get G k)) refl (plain (slice_get G k)) (layers (slice_get G k))
+    (prints (slice_get G k))
   where
+    prints : (o : Option PlainPaths) (names : List Bytes) → IsPrintable names (variable_rule o)
+    prints None names = tt
+    prints (Some P) names = none-printable names
+
     layers : (o : Option PlainPaths) → IsLayered met (variable_rule o)
     layers None = ns-layered
     layers (Some P) = none-layered
@@ -137,8 +150,19 @@ app-found G p q at f g r hf hg made x =
       made-nesting (plain_paths g.paths) x.0 x.2 (subst IsWithinLimits (sym hg.paths) hg.kept),
       made-nesting (once (rests_of_call (plain_paths g.paths) (plain_paths f.paths))) x.1 x.3 made.within,
     ))
-    (two-layered (arrow x.0 x.1) x.0 (derivation_of f) (derivation_of g) hf.layered hg.layered)
+    (two-layered (arrow x.0 x.1) x.0 (derivation_of f) (derivation_of g) hf.layered hg.layered) prints
   where
+    prints : (names : List Bytes) → IsWritable names G (app p q at) →
+        IsPrintable names (rule_of_both (sub (arrow x.0 x.1) (derivation_of f)) (sub x.0 (derivation_of g)))
+    prints names text =
+        let each = both-writable names G G p q text.around text.around text.named text.full text.few in
+        let given = made-printable names (plain_paths g.paths) x.0 x.2 (found-fields names G q g hg each.1) in
+        let rests = call-fields (IsNamed names) (plain_paths g.paths) (plain_paths f.paths) (found-fields names G p f hf each.0) in
+        let back = made-printable names (once (rests_of_call (plain_paths g.paths) (plain_paths f.paths))) x.1 x.3
+        (once-fields (IsNamed names) (rests_of_call (plain_paths g.paths) (plain_paths f.paths)) rests) in
+        two-printable names (arrow x.0 x.1) x.0 (derivation_of f) (derivation_of g) (arrow-printable names x.0 x.1 given back) given
+        (hf.printable names each.0) (hg.printable names each.1)
+
     test : least_type G (app p q at) ≡ once (rests_of_call (plain_paths g.paths) (plain_paths f.paths))
     test =
         ap (λ Q. once (rests_of_call Q (least_type G p))) (sym hg.paths) ∙ ap (λ P. once (rests_of_call (plain_paths g.paths) P)) (sym hf.paths)
@@ -170,6 +194,8 @@ field-found G i p at part f h made e =
       one-premise H (field i p at) p nothing (derivation_of part) x.0 (field_type i x.0) n refl x.1 refl,
       picked-below i x.2,
     )) (omega arith) (omega arith) (omega (arith, h.types)) (bare-layered (derivation_of part) h.layered)
+    (λ names text. bare-printable names (derivation_of part)
+    (h.printable names (part-writable names G p text.around text.named.1 text.full text.few)))
 
 pick-below : (i : ℕ) (p : PlainPath) (P : PlainPaths) → ArePathsBelow (and_path p P) (picked i (rest_of_field i p))
 pick-below i (end a) P = none_left
@@ -201,8 +227,15 @@ sel-found G i p at part f h made x =
       subst (λ P. ArePathsBelow (paths x.0) P) same (ArePathsBelow-refl (paths x.0)),
     )) (omega arith) (omega arith)
     (omega (arith, h.types, made-nesting (rests_of_field i (plain_paths part.paths)) x.0 x.1 made.within))
-    (one-layered (field_type i x.0) (derivation_of part) h.layered)
+    (one-layered (field_type i x.0) (derivation_of part) h.layered) prints
   where
+    prints : (names : List Bytes) → IsWritable names G (sel p i at) → IsPrintable names (rule_of (sub (field_type i x.0) (derivation_of part)))
+    prints names text =
+        let inner = part-writable names G p text.around text.named.1 text.full text.few in
+        let rests = selection-fields (IsNamed names) i (plain_paths part.paths) (found-fields names G p part h inner) in
+        let back = made-printable names (rests_of_field i (plain_paths part.paths)) x.0 x.1 rests in
+        one-printable names (field_type i x.0) (derivation_of part) ((text.named.0, back.0), back.1) (h.printable names inner)
+
     same : paths x.0 ≡ rests_of_field i (least_type G p)
     same = x.1.0 ∙ ap (rests_of_field i) h.paths
 
@@ -227,8 +260,18 @@ let-found G d p q at f g r hf hg made x =
       y.2,
     )) (omega arith) (omega arith)
     (omega (arith, hf.types, hg.types, made-nesting (plain_paths f.paths) x.0 x.1 (subst IsWithinLimits (sym hf.paths) hf.kept)))
-    (defined-layered x.0 (derivation_of f) (derivation_of g) hf.layered hg.layered)
+    (defined-layered x.0 (derivation_of f) (derivation_of g) hf.layered hg.layered) prints
   where
+    prints : (names : List Bytes) → IsWritable names G (let_in d p q at) →
+        IsPrintable names (rule_of_both (sub x.0 (derivation_of f)) (derivation_of g))
+    prints names text =
+        let fields = least-fields (IsNamed names) p G text.around text.named.0 in
+        let each = both-writable names G (plain_paths f.paths ∷ G) p q text.around
+        (subst (AllFormFields (IsNamed names)) (sym hf.paths) fields, text.around) text.named text.full text.few in
+        defined-printable names x.0 (derivation_of f) (derivation_of g)
+        (made-printable names (plain_paths f.paths) x.0 x.1 (found-fields names G p f hf each.0))
+        (hf.printable names each.0) (hg.printable names each.1)
+
     inner : IsFound (least_type G p ∷ G) q g
     inner = subst (λ P. IsFound (P ∷ G) q g) hf.paths hg
 
@@ -256,6 +299,10 @@ rec-found G d T p at P part f same within h made e =
     )))
     (few (is_recursive part P)) (shallow (is_recursive part P)) (omega (arith, types (is_recursive part P), h.types))
     (if-layered (is_recursive part P) (rule_of (sub T (derivation_of part))) (one-layered T (derivation_of part) h.layered))
+    (λ names text. if-printable names (is_recursive part P) (rule_of (sub T (derivation_of part)))
+    (one-printable names T (derivation_of part) (text.named.0, text.full.0)
+    (h.printable names (part-writable names (paths T ∷ G) p (paths-fields (IsNamed names) T text.named.0, text.around)
+    text.named.1 text.full.1 text.few))))
   where
     types : (b : Bool) → deepest_type (derived_if b (rule_of (sub T (derivation_of part)))) ≤ max (type_nesting T) (deepest_type (derivation_of part))
     types true = omega arith
@@ -334,8 +381,19 @@ merge-found G p q at f g r hf hg made choice =
     (ap (λ P. merge_of (kind_of q) P (plain_paths g.paths)) hf.paths ∙ ap (merge_of (kind_of q) (least_type G p)) hg.paths) made)
     refl refl refl (λ m. refl) refl refl
     (derived (kind_of q) refl choice) (few (kind_of q) choice) (shallow (kind_of q) choice) (types (kind_of q) choice)
-    (layers (kind_of q) choice)
+    (layers (kind_of q) choice) (λ names text. prints names text (kind_of q) choice)
   where
+    prints : (names : List Bytes) → IsWritable names G (merge p q at) → (o : Option Kind) → IsMerged o f g (derivation_of r) →
+        IsPrintable names (derivation_of r)
+    prints names text None e = subst (IsPrintable names) (sym e) tt
+    prints names text (Some k) x =
+        let each = both-writable names G G p q text.around text.around text.named text.full text.few in
+        let kept = others-fields (IsNamed names) k (plain_paths f.paths) (found-fields names G p f hf each.0) in
+        subst (IsPrintable names) (sym x.2)
+        (merge-printable names x.0 (derivation_of f) (derivation_of g)
+        (made-printable names (others k (plain_paths f.paths)) x.0 x.1 kept)
+        (hf.printable names each.0) (hg.printable names each.1))
+
     layers : (o : Option Kind) → IsMerged o f g (derivation_of r) → IsLayered met (derivation_of r)
     layers None e = subst (IsLayered met) (sym e) ns-layered
     layers (Some k) x = subst (IsLayered met) (sym x.2) (merge-layered x.0 (derivation_of f) (derivation_of g) hf.layered hg.layered)
@@ -410,7 +468,25 @@ cond-found G b p q at c f g r hc hf hg made choice =
       few choice,
     ))
     (omega (arith, hc.shallow, hf.shallow, hg.shallow, shallow choice)) (types choice) (layers choice)
+    (λ names text. prints names text choice)
   where
+    prints : (names : List Bytes) → IsWritable names G (cond b p q at) → IsChosen c f g (derivation_of r) → IsPrintable names (derivation_of r)
+    prints names text (inl x) = subst (IsPrintable names) (sym x.1) tt
+    prints names text (inr y) =
+        let x = y.1 in
+        let test : IsWritable names G b =
+        record { around = text.around; named = text.named.0; full = text.full.0; few = omega (arith, text.few) } in
+        let yes : IsWritable names G p =
+        record { around = text.around; named = text.named.1; full = text.full.1; few = omega (arith, text.few) } in
+        let other : IsWritable names G q =
+        record { around = text.around; named = text.named.2; full = text.full.2; few = omega (arith, text.few) } in
+        let both = join-fields (IsNamed names) (plain_paths f.paths) (plain_paths g.paths)
+        (found-fields names G p f hf yes) (found-fields names G q g hg other) in
+        let type = made-printable names (join_of (plain_paths f.paths) (plain_paths g.paths)) x.0 x.1 both in
+        subst (IsPrintable names) (sym x.2)
+        (three-printable names (atom Truth) x.0 x.0 (derivation_of c) (derivation_of f) (derivation_of g) (tt, tt) type type
+        (hc.printable names test) (hf.printable names yes) (hg.printable names other))
+
     layers : IsChosen c f g (derivation_of r) → IsLayered met (derivation_of r)
     layers (inl x) = subst (IsLayered met) (sym x.1) ns-layered
     layers (inr y) =

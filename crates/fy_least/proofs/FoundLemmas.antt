@@ -2,12 +2,15 @@
 use Rattle.std.proofs.Common.{ℕ, suc, ◌+◌, ◌*◌, ◌≤◌, ◌≡◌, max, Bool, true, false, ◌&&◌, List, [], ◌∷◌, ◌++◌, length, Some, refl, sym, ap, ◌∙◌, subst, arith}
 use Rattle.std.proofs.lemmas.List.{length-append}
 use Rattle.fy_base.specs.declared.data.Place.{Place}
+use Rattle.fy_base.specs.Outside.{Bytes}
 use Rattle.fy_types.specs.declared.types.Atom.{Atom}
 use Rattle.fy_types.specs.Types.{PlainType, ns, atom}
 use Rattle.fy_types.specs.Paths.{PlainPaths, no_paths, paths}
 use Rattle.fy_types.specs.PathOrder.{ArePathsBelow, none_left}
 use Rattle.fy_types.specs.Limits.{IsWithinLimits}
 use Rattle.fy_types.specs.Nested.{IsTypeOf, type_nesting}
+use Rattle.fy_types.specs.Fields.{IsNamed, AllFormFields}
+use Rattle.fy_types.specs.Reading.{plain_paths}
 use Rattle.fy_types.proofs.Order.{ArePathsBelow-refl, ArePathsBelow-trans}
 use Rattle.fy_types.proofs.OnceLemmas.{both_true}
 use Rattle.fy_phrase.specs.Tree.{Tree}
@@ -24,13 +27,18 @@ use Rattle.fy_least.specs.Blame.{if_empty, blame_of}
 use Rattle.fy_least.specs.Layers.{met, IsLayered}
 use Rattle.fy_least.specs.Limits.{earlier_joins, written_in}
 use Rattle.fy_least.specs.Counts.{nodes_of_visits, AreWithin, no_forms, AreVisitsWithin, no_visits}
-use Rattle.fy_least.specs.Derived.{rule_of, rule_of_both, derived_if, ConcludesBelow, deepest_type, most_made_nesting}
-use Rattle.fy_least.specs.Written.{deepest_written}
+use Rattle.fy_least.specs.Derived.{rule_of, rule_of_both, derived_if, ConcludesBelow, most_made_nesting}
+use Rattle.fy_derive.specs.Limits.{deepest_type}
+use Rattle.fy_derive.specs.Printable.{IsPrintable}
+use Rattle.fy_phrase.specs.CoreLimits.{deepest_written}
+use Rattle.fy_least.specs.Writable.{IsWritable}
 use Rattle.fy_least.specs.Visited.{IsFound, IsMade, blame_at, has_atom, derivation_of, as_atom}
 use Rattle.fy_least.specs.Rules.{have_atoms}
 use Rattle.fy_least.proofs.BelowLemmas.{has-below, below-test}
 use Rattle.fy_least.proofs.CountLemmas.{within-append, nodes-append, visit-nodes, visit-within}
 use Rattle.fy_least.proofs.LayerLemmas.{one-layered, two-layered, if-layered}
+use Rattle.fy_least.proofs.LeastFields.{least-fields}
+use Rattle.fy_least.proofs.PrintableLemmas.{one-printable, two-printable, if-printable}
 
 -- a derivation that is subsumed to a type above the least type
 sub-judged : (H : List PlainType) (p : Tree) (d : PlainDerivation) (A B : PlainType) (n : ℕ) → judged d (n + 1) H p ≡ concludes A →
@@ -70,8 +78,8 @@ pub made-found : (G : List PlainPaths) (q : Tree) (at : Place) (parts : ℕ) (f 
     ((m : ℕ) → visits m G q ≡ visit m G q ∷ vs m) → ((m : ℕ) → AreVisitsWithin (vs m)) → ((m : ℕ) → parts ≡ nodes_of_visits (vs m)) →
     ConcludesBelow G q (derivation_of f) → ((m : ℕ) → nodes (derivation_of f) + 3 ≤ 4 * suc (length (vs m))) →
     derivations.nesting (derivation_of f) + 1 ≤ 3 * nesting q → deepest_type (derivation_of f) ≤ max (deepest_written q) most_made_nesting →
-    IsLayered met (derivation_of f) → IsFound G q f
-made-found G q at parts f vs made blame early written split within total derived few shallow types layered = record {
+    IsLayered met (derivation_of f) → ((names : List Bytes) → IsWritable names G q → IsPrintable names (derivation_of f)) → IsFound G q f
+made-found G q at parts f vs made blame early written split within total derived few shallow types layered printable = record {
   paths = made.paths;
   blame = made.blame ∙ blame;
   within = λ m. subst AreVisitsWithin (sym (split m)) (visit-within m G q (vs m) early written made.within (within m));
@@ -85,7 +93,14 @@ made-found G q at parts f vs made blame early written split within total derived
   kept = made.within;
   types = types;
   layered = layered;
+  printable = printable;
 }
+
+-- the fields of the paths that are found are those of the phrase and of its context
+pub found-fields : (names : List Bytes) (G : List PlainPaths) (p : Tree) (f : Found) → IsFound G p f → IsWritable names G p →
+    AllFormFields (IsNamed names) (plain_paths f.paths)
+found-fields names G p f h w =
+    subst (AllFormFields (IsNamed names)) (sym h.paths) (least-fields (IsNamed names) p G w.around w.named)
 
 pub blame-same : (G : List PlainPaths) (p : Tree) (f : Found) (at : Place) → IsFound G p f →
     blame_at f at ≡ if_empty (least_type G p) (blame_of G p) at
@@ -95,11 +110,13 @@ blame-same G p f at h = ap (λ P. if_empty P f.blame at) h.paths ∙ ap (λ x. i
 pub none-found : (G : List PlainPaths) (q : Tree) (at : Place) (f : Found) (d : PlainDerivation) →
     IsMade (least_type G q) at 0 f → at ≡ blame_of G q → earlier_joins G q ≡ [] → written_in q ≡ [] →
     ((m : ℕ) → visits m G q ≡ visit m G q ∷ []) → derivation_of f ≡ d → ConcludesBelow G q d → nodes d ≡ 1 →
-    derivations.nesting d ≡ 1 → nesting q ≡ 1 → deepest_type d ≡ 0 → IsLayered met d → IsFound G q f
-none-found G q at f d made blame early written split e derived few shallow deep plain layered =
+    derivations.nesting d ≡ 1 → nesting q ≡ 1 → deepest_type d ≡ 0 → IsLayered met d →
+    ((names : List Bytes) → IsPrintable names d) → IsFound G q f
+none-found G q at f d made blame early written split e derived few shallow deep plain layered printable =
     made-found G q at 0 f (λ m. []) made blame early (subst AreWithin (sym written) no_forms) split (λ m. no_visits) (λ m. refl)
     (subst (ConcludesBelow G q) (sym e) derived) (λ m. omega (arith, ap nodes e, few)) (omega (arith, ap derivations.nesting e, shallow, deep))
     (omega (arith, ap deepest_type e, plain)) (subst (IsLayered met) (sym e) layered)
+    (λ names w. subst (IsPrintable names) (sym e) (printable names))
 
 -- a form of one part, whose derivation has at most two nodes more
 pub one-found : (G G' : List PlainPaths) (p q : Tree) (at : Place) (part f : Found) (d : PlainDerivation) → IsFound G' p part →
@@ -107,12 +124,14 @@ pub one-found : (G G' : List PlainPaths) (p q : Tree) (at : Place) (part f : Fou
     earlier_joins G q ≡ [] → AreWithin (written_in q) → ((m : ℕ) → visits m G q ≡ visit m G q ∷ visits (m + 1) G' p) →
     nesting q ≡ 1 + nesting p → derivation_of f ≡ d → ConcludesBelow G q d →
     nodes d ≤ 2 + nodes (derivation_of part) → derivations.nesting d ≤ 2 + derivations.nesting (derivation_of part) →
-    deepest_type d ≤ max (deepest_written q) most_made_nesting → IsLayered met d → IsFound G q f
-one-found G G' p q at part f d h made blame early written split deep e derived few shallow types layered =
+    deepest_type d ≤ max (deepest_written q) most_made_nesting → IsLayered met d →
+    ((names : List Bytes) → IsWritable names G q → IsPrintable names d) → IsFound G q f
+one-found G G' p q at part f d h made blame early written split deep e derived few shallow types layered printable =
     made-found G q (blame_at part at) part.total f (λ m. visits (m + 1) G' p) made (blame-same G' p part at h ∙ sym blame) early written split
     (λ m. h.within (m + 1)) (λ m. h.total (m + 1)) (subst (ConcludesBelow G q) (sym e) derived)
     (λ m. omega (arith, h.few (m + 1), ap nodes e, few)) (omega (arith, h.shallow, deep, ap derivations.nesting e, shallow))
     (subst (λ d. deepest_type d ≤ max (deepest_written q) most_made_nesting) (sym e) types) (subst (IsLayered met) (sym e) layered)
+    (λ names w. subst (IsPrintable names) (sym e) (printable names w))
 
 -- a form of two parts, whose derivation has at most four nodes more
 pub two-found : (G G' : List PlainPaths) (p q t : Tree) (at : Place) (f g r : Found) (d : PlainDerivation) (k : ℕ → ℕ) → IsFound G p f →
@@ -123,8 +142,9 @@ pub two-found : (G G' : List PlainPaths) (p q t : Tree) (at : Place) (f g r : Fo
     nesting t ≡ 1 + max (nesting p) (nesting q) → derivation_of r ≡ d → ConcludesBelow G t d →
     nodes d ≤ 4 + nodes (derivation_of f) + nodes (derivation_of g) →
     derivations.nesting d ≤ 3 + max (derivations.nesting (derivation_of f)) (derivations.nesting (derivation_of g)) →
-    deepest_type d ≤ max (deepest_written t) most_made_nesting → IsLayered met d → IsFound G t r
-two-found G G' p q t at f g r d k hf hg made blame early written split deep e derived few shallow types layered =
+    deepest_type d ≤ max (deepest_written t) most_made_nesting → IsLayered met d →
+    ((names : List Bytes) → IsWritable names G t → IsPrintable names d) → IsFound G t r
+two-found G G' p q t at f g r d k hf hg made blame early written split deep e derived few shallow types layered printable =
     made-found G t (blame_at f (blame_at g at)) (f.total + g.total) r (λ m. visits (m + 1) G p ++ visits (k m) G' q) made
     (blame-same G p f (blame_at g at) hf ∙ (ap (if_empty (least_type G p) (blame_of G p)) (blame-same G' q g at hg) ∙ sym blame))
     early (subst AreWithin (sym written) no_forms) split
@@ -134,6 +154,7 @@ two-found G G' p q t at f g r d k hf hg made blame early written split deep e de
     (λ m. omega (arith, hf.few (m + 1), hg.few (k m), length-append (visits (m + 1) G p) (visits (k m) G' q), ap nodes e, few))
     (omega (arith, hf.shallow, hg.shallow, deep, ap derivations.nesting e, shallow))
     (subst (λ d. deepest_type d ≤ max (deepest_written t) most_made_nesting) (sym e) types) (subst (IsLayered met) (sym e) layered)
+    (λ names w. subst (IsPrintable names) (sym e) (printable names w))
 
 -- a rule whose one premise is an atom
 pub atom-found : (G G' : List PlainPaths) (p q : Tree) (b : Binder) (w g : Atom) (at : Place) (part f : Found) → IsFound G' p part →
@@ -142,9 +163,10 @@ pub atom-found : (G G' : List PlainPaths) (p q : Tree) (b : Binder) (w g : Atom)
     nesting q ≡ 1 + nesting p → deepest_written q ≡ deepest_written p → premises q ≡ Some ((b, p) ∷ []) →
     ((H : List PlainType) → forms_of H ≡ G → forms_of (under b [] H) ≡ G') →
     ((H : List PlainType) → conclusion H q (atom w ∷ []) ≡ Some (atom g)) →
+    ((names : List Bytes) → IsWritable names G q → IsWritable names G' p) →
     IsMade (if_passed (has_atom part w) (one_end g)) (blame_at part at) part.total f →
     derivation_of f ≡ derived_if (has_atom part w) (rule_of (as_atom w part)) → IsFound G q f
-atom-found G G' p q b w g at part f h least blame early written split deep spelled asked inside gives made e =
+atom-found G G' p q b w g at part f h least blame early written split deep spelled asked inside gives writable made e =
     one-found G G' p q at part f (derived_if (has_atom part w) (rule_of (as_atom w part))) h
     (subst (λ P. IsMade P (blame_at part at) part.total f) (sym test) made) blame early (subst AreWithin (sym written) no_forms) split deep e
     (passed-derived G q (has_atom part w) (one_end g) (rule_of (as_atom w part)) test
@@ -155,6 +177,8 @@ atom-found G G' p q b w g at part f h least blame early written split deep spell
     )))
     (few-of (has_atom part w)) (shallow-of (has_atom part w)) (omega (arith, types-of (has_atom part w), h.types, spelled))
     (if-layered (has_atom part w) (rule_of (as_atom w part)) (one-layered (atom w) (derivation_of part) h.layered))
+    (λ names text. if-printable names (has_atom part w) (rule_of (as_atom w part))
+    (one-printable names (atom w) (derivation_of part) (tt, tt) (h.printable names (writable names text))))
   where
     types-of : (c : Bool) → deepest_type (derived_if c (rule_of (as_atom w part))) ≤ max 1 (deepest_type (derivation_of part))
     types-of true = omega arith
@@ -191,9 +215,10 @@ pub atoms-found : (G G' : List PlainPaths) (p q t : Tree) (c : Binder) (w v a : 
     premises t ≡ Some ((nothing, p) ∷ (c, q) ∷ []) →
     ((H : List PlainType) (A : PlainType) → forms_of H ≡ G → forms_of (under c (A ∷ []) H) ≡ G') →
     ((H : List PlainType) → conclusion H t (atom w ∷ atom v ∷ []) ≡ Some (atom a)) →
+    ((names : List Bytes) → IsWritable names G t → IsWritable names G p × IsWritable names G' q) →
     IsMade (if_passed (have_atoms f g w v) (one_end a)) (blame_at f (blame_at g at)) (f.total + g.total) r →
     derivation_of r ≡ derived_if (have_atoms f g w v) (rule_of_both (as_atom w f) (as_atom v g)) → IsFound G t r
-atoms-found G G' p q t c w v a at f g r k hf hg least blame early written split deep spelled asked inside gives made e =
+atoms-found G G' p q t c w v a at f g r k hf hg least blame early written split deep spelled asked inside gives writable made e =
     two-found G G' p q t at f g r (derived_if (have_atoms f g w v) (rule_of_both (as_atom w f) (as_atom v g))) k hf hg
     (subst (λ P. IsMade P (blame_at f (blame_at g at)) (f.total + g.total) r) (sym test) made) blame early written split deep e
     (passed-derived G t (have_atoms f g w v) (one_end a) (rule_of_both (as_atom w f) (as_atom v g)) test
@@ -206,6 +231,11 @@ atoms-found G G' p q t c w v a at f g r k hf hg least blame early written split 
     (few-of (have_atoms f g w v)) (shallow-of (have_atoms f g w v)) (omega (arith, types-of (have_atoms f g w v), hf.types, hg.types, spelled))
     (if-layered (have_atoms f g w v) (rule_of_both (as_atom w f) (as_atom v g))
     (two-layered (atom w) (atom v) (derivation_of f) (derivation_of g) hf.layered hg.layered))
+    (λ names text.
+    let each = writable names text in
+    if-printable names (have_atoms f g w v) (rule_of_both (as_atom w f) (as_atom v g))
+    (two-printable names (atom w) (atom v) (derivation_of f) (derivation_of g) (tt, tt) (tt, tt)
+    (hf.printable names each.0) (hg.printable names each.1)))
   where
     types-of : (b : Bool) → deepest_type (derived_if b (rule_of_both (as_atom w f) (as_atom v g)))
         ≤ max 1 (max (deepest_type (derivation_of f)) (deepest_type (derivation_of g)))

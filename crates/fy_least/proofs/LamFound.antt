@@ -1,14 +1,16 @@
 -- What is found of abstractions.
-use Rattle.std.proofs.Common.{ℕ, suc, ◌+◌, ◌*◌, ◌≤◌, ◌≡◌, max, cond, List, [], ◌∷◌, ◌++◌, length, replicate, Option, option_map, Some, refl, sym, ap, ◌∙◌, subst, arith, zero-add}
+use Rattle.std.proofs.Common.{ℕ, zero, suc, ◌+◌, ◌*◌, ◌≤◌, ◌≡◌, max, cond, List, [], ◌∷◌, ◌++◌, length, replicate, Option, option_map, Some, refl, sym, ap, ◌∙◌, subst, arith, zero-add}
 use Rattle.std.proofs.lemmas.Bool.{le-leb}
 use Rattle.std.proofs.lemmas.List.{length-append}
 use Rattle.fy_base.specs.declared.data.Place.{Place}
+use Rattle.fy_base.specs.Outside.{Bytes}
 use Rattle.fy_types.specs.Types.{PlainType, PlainTypes, arrow, meet, no_types, and_type}
 use Rattle.fy_types.specs.Paths.{PlainPaths, append, called, paths, all_paths}
 use Rattle.fy_types.specs.PathOrder.{ArePathsBelow}
 use Rattle.fy_types.specs.Limits.{IsWithinLimits}
 use Rattle.fy_types.specs.Once.{once}
 use Rattle.fy_types.specs.Reading.{plain_paths, types_from}
+use Rattle.fy_types.specs.Fields.{IsNamed, AllFieldsOf}
 use Rattle.fy_types.proofs.Order.{ArePathsBelow-refl}
 use Rattle.fy_types.proofs.Laws.{append-none}
 use Rattle.fy_types.proofs.OnceLemmas.{below-once}
@@ -24,15 +26,22 @@ use Rattle.fy_least.specs.declared.found.Found.{Found}
 use Rattle.fy_least.specs.Blame.{blame_of}
 use Rattle.fy_least.specs.Limits.{forms}
 use Rattle.fy_least.specs.Counts.{nodes_of_visits, AreWithin, no_forms, and_form, AreVisitsWithin, no_visits}
-use Rattle.fy_least.specs.Derived.{ConcludesBelow, deepest_type, deepest_of_all, most_made_nesting}
+use Rattle.fy_least.specs.Derived.{ConcludesBelow, most_made_nesting}
+use Rattle.fy_derive.specs.Limits.{deepest_type, deepest_of_all}
+use Rattle.fy_derive.specs.Printable.{IsPrintable, ArePrintable}
 use Rattle.fy_least.specs.Layers.{met, ruled, IsLayered, one_sub, an_alt, AreLayered, no_layers, and_layers}
-use Rattle.fy_least.specs.Written.{deepest_written}
+use Rattle.fy_phrase.specs.CoreLimits.{types_count, visits_of, deepest_written}
+use Rattle.fy_phrase.specs.PhraseNames.{AllNames, HasFullTypes}
 use Rattle.fy_least.specs.Many.{AreFoundUnder, no_alternatives, and_alternative, total_of, blame_at_first, called_bodies, AreOnce, AreAlternatives, no_more, and_more, meet_of_all, IsAbstracted}
+use Rattle.fy_least.specs.Writable.{AllContextFields, IsWritable}
 use Rattle.fy_least.specs.Visited.{IsFound, IsMade, derivation_of}
 use Rattle.fy_least.proofs.DistinctLemmas.{once-distinct, distinct-least}
-use Rattle.fy_least.proofs.FoundLemmas.{made-nesting, taken, none-derived, made-found, blame-same}
+use Rattle.fy_least.proofs.FoundLemmas.{made-nesting, taken, found-fields, none-derived, made-found, blame-same}
 use Rattle.fy_least.proofs.CountLemmas.{within-append, nodes-append}
 use Rattle.fy_least.proofs.LayerLemmas.{meet-layered}
+use Rattle.fy_least.proofs.FormFields.{paths-fields}
+use Rattle.fy_least.proofs.PrintableLemmas.{made-printable, meet-printable}
+use Rattle.fy_least.proofs.VisitLemmas.{visits-some}
 
 -- the paths, the limits, the nodes and the blame under all alternatives
 pub bodies-same : {G : List PlainPaths} {b : Tree} {As : PlainTypes} {fs : List Found} → AreFoundUnder G b As fs →
@@ -83,6 +92,29 @@ under-layered : {G : List PlainPaths} {b : Tree} {As : PlainTypes} {fs : List Fo
     AreAlternatives i fs ds → AreLayered ruled ds
 under-layered no_alternatives no_more = no_layers
 under-layered (and_alternative w h r) (and_more B e s) = and_layers (an_alt (one_sub h.layered)) (under-layered r s)
+
+under-count : {G : List PlainPaths} {b : Tree} {As : PlainTypes} {fs : List Found} {i : ℕ} {ds : PlainDerivations} → AreFoundUnder G b As fs →
+    AreAlternatives i fs ds → count ds ≡ types_count As
+under-count no_alternatives no_more = refl
+under-count (and_alternative w h r) (and_more B e s) = omega (arith, under-count r s)
+
+times-some : (n v : ℕ) → 1 ≤ v → n ≤ n * v
+times-some n zero some = absurd (omega arith)
+times-some n (suc v) some = omega arith
+
+under-printable : {G : List PlainPaths} {b : Tree} {As : PlainTypes} {fs : List Found} {i : ℕ} {ds : PlainDerivations} → AreFoundUnder G b As fs →
+    AreAlternatives i fs ds → (names : List Bytes) → AllContextFields (IsNamed names) G → AllFieldsOf (IsNamed names) As →
+    AllNames (IsNamed names) b → HasFullTypes b → suc (types_count As * visits_of b) ≤ 65536 → i + types_count As ≤ 65536 →
+    ArePrintable names ds
+under-printable no_alternatives no_more names around fields named full few low = tt
+under-printable {G = G} {b = b} (and_alternative {A = A} {As = As} {f = f} w h r) (and_more {i = i} B e s) names around fields named full few low =
+    let within = paths-fields (IsNamed names) A fields.0 in
+    let text : IsWritable names (paths A ∷ G) b =
+    record { around = (within, around); named = named; full = full; few = omega (arith, few) } in
+    let type = made-printable names (plain_paths f.paths) B e (found-fields names (paths A ∷ G) b f h text) in (
+      (omega arith, (type.0, type.1, h.printable names text)),
+      under-printable r s names around fields.1 named full (omega (arith, few)) (omega arith),
+    )
 
 meet-types : (ds : PlainDerivations) → deepest_type (meet_of_all ds) ≤ deepest_of_all ds
 meet-types no_derivations = omega arith
@@ -196,3 +228,7 @@ lam-found G d As b at fs r hs made x =
     (omega (arith, under-shallow hs x.1, meet-shallow x.0, ap derivations.nesting x.2))
     (omega (arith, under-types hs x.1, meet-types x.0, ap deepest_type x.2))
     (subst (IsLayered met) (sym x.2) (meet-layered x.0 (under-layered hs x.1)))
+    (λ names text. subst (IsPrintable names) (sym x.2)
+    (let few = times-some (types_count As) (visits_of b) (visits-some b) in
+    meet-printable names x.0 (omega (arith, under-count hs x.1, text.few, few))
+    (under-printable hs x.1 names text.around text.named.0 text.named.1 text.full.1 text.few (omega (arith, text.few, few)))))

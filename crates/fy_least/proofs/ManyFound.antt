@@ -3,6 +3,7 @@ use Rattle.std.proofs.Common.{ℕ, ◌+◌, ◌*◌, ◌≤◌, ◌≡◌, max, 
 use Rattle.std.proofs.lemmas.List.{length-append}
 use Rattle.std.proofs.lemmas.Bool.{and_from}
 use Rattle.fy_base.specs.declared.data.Place.{Place}
+use Rattle.fy_base.specs.Outside.{Bytes}
 use Rattle.fy_types.specs.declared.types.Atom.TheVariants.{Int}
 use Rattle.fy_types.specs.Types.{PlainType, atom}
 use Rattle.fy_types.specs.Paths.{PlainPaths, no_paths, paths}
@@ -10,6 +11,7 @@ use Rattle.fy_types.specs.PathOrder.{ArePathsBelow}
 use Rattle.fy_types.specs.Bounds.{join_of}
 use Rattle.fy_types.specs.Limits.{IsWithinLimits}
 use Rattle.fy_types.specs.Nested.{type_nesting}
+use Rattle.fy_types.specs.Fields.{IsNamed, AllFormFields}
 use Rattle.fy_types.proofs.Order.{ArePathsBelow-refl, ArePathsBelow-trans}
 use Rattle.fy_types.proofs.BoundLemmas.{join_of-left, join_of-right}
 use Rattle.fy_phrase.specs.Tree.{Tree, Trees, no_trees, and_tree, case}
@@ -30,12 +32,19 @@ use Rattle.fy_least.specs.declared.found.Found.{Found}
 use Rattle.fy_least.specs.Blame.{if_empty, blame_of, blame_among}
 use Rattle.fy_least.specs.Limits.{earlier_joins, joins_before_last}
 use Rattle.fy_least.specs.Counts.{nodes_of_forms, nodes_of_visits, AreWithin, no_forms, and_form, AreVisitsWithin, no_visits, and_visit}
-use Rattle.fy_least.specs.Derived.{ConcludesBelow, deepest_type, deepest_of_all, most_made_nesting}
-use Rattle.fy_least.specs.Written.{deepest_of_parts}
+use Rattle.fy_least.specs.Derived.{ConcludesBelow, most_made_nesting}
+use Rattle.fy_derive.specs.Limits.{deepest_type, deepest_of_all}
+use Rattle.fy_derive.specs.Printable.{IsPrintable, ArePrintable}
+use Rattle.fy_phrase.specs.CoreLimits.{parts_visits, deepest_of_parts}
+use Rattle.fy_phrase.specs.PhraseNames.{AllNamesOf, HaveFullTypes}
 use Rattle.fy_least.specs.Many.{AreFound, no_parts, and_part, total_of, blame_at_some, joined, joined_with, joins_before, earlier_joined, case_forms, all_at, IsCased, IsCase}
+use Rattle.fy_least.specs.Writable.{AllContextFields, IsWritable}
 use Rattle.fy_least.specs.Visited.{IsFound, has_atom, derivation_of, as_atom}
 use Rattle.fy_least.proofs.FoundLemmas.{made-nesting, taken, taken-atom, none-derived, blame-same}
 use Rattle.fy_least.proofs.CountLemmas.{within-append, nodes-append}
+use Rattle.fy_least.proofs.LeastFields.{all-fields}
+use Rattle.fy_least.proofs.PrintableLemmas.{IsPrintableType, made-printable}
+use Rattle.fy_least.proofs.VisitLemmas.{visits-some}
 
 -- the joins of the parts
 joined-with : {G : List PlainPaths} {ps : Trees} {fs : List Found} → AreFound G ps fs → (P : PlainPaths) → joined_with P fs ≡ join_behind G P ps
@@ -124,6 +133,19 @@ parts-layered : {G : List PlainPaths} {ps : Trees} {fs : List Found} → AreFoun
 parts-layered no_parts A = no_layers
 parts-layered (and_part h r) A = and_layers (one_sub h.layered) (parts-layered r A)
 
+-- the parts' derivations at one type are written as texts, and are no more than their visits
+parts-low : {G : List PlainPaths} {ps : Trees} {fs : List Found} → AreFound G ps fs → (A : PlainType) → count (all_at A fs) ≤ parts_visits ps
+parts-low no_parts A = omega arith
+parts-low (and_part {p = p} h r) A = omega (arith, visits-some p, parts-low r A)
+
+parts-printable : {G : List PlainPaths} {ps : Trees} {fs : List Found} → AreFound G ps fs → (A : PlainType) (names : List Bytes) →
+    IsPrintableType names A → AllContextFields (IsNamed names) G → AllNamesOf (IsNamed names) ps → HaveFullTypes ps → parts_visits ps ≤ 65536 →
+    ArePrintable names (all_at A fs)
+parts-printable no_parts A names type around named full few = tt
+parts-printable {G = G} (and_part {p = p} h r) A names type around named full few =
+    let text : IsWritable names G p = record { around = around; named = named.0; full = full.0; few = omega (arith, few) } in
+    ((type.0, type.1, h.printable names text), parts-printable r A names type around named.1 full.1 (omega (arith, few)))
+
 parts-count : {G : List PlainPaths} {ps : Trees} {fs : List Found} → AreFound G ps fs → (A : PlainType) → count (all_at A fs) ≡ length (of_parts ps)
 parts-count no_parts A = refl
 parts-count (and_part h r) A = omega (arith, parts-count r A)
@@ -211,8 +233,26 @@ case-found G e ps at c r fs hc hs made choice = record {
   kept = last-within (earlier_joins G (case e ps at)) (least_type G (case e ps at)) (subst AreWithin (counted G e ps at c fs hc hs) made.within);
   types = omega (arith, hc.types, types-of fs hs made.within choice);
   layered = layers fs hs choice;
+  printable = λ names text. prints names text fs hs choice;
 }
   where
+    prints : (names : List Bytes) → IsWritable names G (case e ps at) → (gs : List Found) → AreFound G ps gs →
+        IsCased c gs (derivation_of r) → IsPrintable names (derivation_of r)
+    prints names text [] h x = subst (IsPrintable names) (sym x) tt
+    prints names text (g ∷ gs) h (inl x) = subst (IsPrintable names) (sym x.1) tt
+    prints names text (g ∷ gs) h (inr x) =
+        let index : IsWritable names G e =
+        record { around = text.around; named = text.named.0; full = text.full.0; few = omega (arith, text.few) } in
+        let join = subst (AllFormFields (IsNamed names)) (sym (joined-all h)) (all-fields (IsNamed names) ps G text.around text.named.1) in
+        let type = made-printable names (joined (g ∷ gs)) x.1 x.2 join in
+        subst (IsPrintable names) (sym x.3) (
+          omega (arith, text.few, parts-low h x.1),
+          (
+            (tt, tt, hc.printable names index),
+            parts-printable h x.1 names type text.around text.named.1 text.full.1 (omega (arith, text.few)),
+          ),
+        )
+
     layers : (gs : List Found) → AreFound G ps gs → IsCased c gs (derivation_of r) → IsLayered met (derivation_of r)
     layers [] h x = subst (IsLayered met) (sym x) ns-layered
     layers (g ∷ gs) h (inl x) = subst (IsLayered met) (sym x.1) ns-layered

@@ -2,6 +2,7 @@
 use Rattle.std.proofs.lemmas.Bool.{or_left, or_right}
 use Rattle.std.proofs.Common.{ℕ, ◌+◌, ◌≤◌, ◌≡◌, max, Bool, true, false, ◌&&◌, List, ◌∷◌, inl, inr, refl, sym, ap, ◌∙◌, subst, arith, if◌then◌else◌}
 use Rattle.fy_base.specs.declared.data.Place.{Place}
+use Rattle.fy_base.specs.Outside.{Bytes}
 use Rattle.fy_base.specs.declared.data.Datum.{Datum}
 use Rattle.fy_base.specs.declared.data.UnOp.{UnOp}
 use Rattle.fy_base.specs.declared.data.BinOp.{BinOp}
@@ -27,12 +28,17 @@ use Rattle.fy_derive.specs.Typing.{of_data}
 use Rattle.fy_derive.specs.Least.{one_end, if_passed, has, some_data, has_operands, has_assignment, command_of, least_type}
 use Rattle.fy_derive.proofs.CompleteLemmas.{no-premise, same_atom, when, operator-fits, assignment-fits, command-concludes}
 use Rattle.fy_least.specs.declared.found.Found.{Found}
-use Rattle.fy_least.specs.Derived.{rule_of, rule_of_both, derived_if, ConcludesBelow, deepest_type, most_made_nesting}
+use Rattle.fy_least.specs.Derived.{rule_of, rule_of_both, derived_if, ConcludesBelow, most_made_nesting}
+use Rattle.fy_derive.specs.Limits.{deepest_type}
+use Rattle.fy_derive.specs.Printable.{IsPrintable}
 use Rattle.fy_least.specs.Layers.{met, IsLayered}
-use Rattle.fy_least.specs.Written.{deepest_written}
+use Rattle.fy_phrase.specs.CoreLimits.{deepest_written}
 use Rattle.fy_least.specs.Rules.{have_atoms, end_of_command, serves_operator, serves_assignment, IsOperated, IsAssigned}
+use Rattle.fy_least.specs.Writable.{IsWritable}
 use Rattle.fy_least.specs.Visited.{IsFound, IsMade, blame_at, has_atom, derivation_of, as_atom}
 use Rattle.fy_least.proofs.LayerLemmas.{ns-layered, none-layered, two-layered}
+use Rattle.fy_least.proofs.LeastFields.{part-writable, both-writable}
+use Rattle.fy_least.proofs.PrintableLemmas.{none-printable, two-printable}
 use Rattle.fy_least.proofs.FoundLemmas.{none-found, two-found, atom-found, atoms-found, atoms-derived, none-derived}
 
 -- a rule without premises
@@ -41,18 +47,18 @@ pub lit-found : (G : List PlainPaths) (v : Datum) (at : Place) (f : Found) → I
 lit-found G v at f made e =
     none-found G (lit v at) at f (rule no_derivations) made refl refl refl (λ m. refl) e
     (λ H i n. (atom (datum_atom v), no-premise H (lit v at) (atom (datum_atom v)) n refl refl, ArePathsBelow-refl (one_end (datum_atom v)))) refl refl
-    refl refl none-layered
+    refl refl none-layered none-printable
 
 pub skip-found : (G : List PlainPaths) (at : Place) (f : Found) → IsMade (one_end Comm) at 0 f →
     derivation_of f ≡ rule no_derivations → IsFound G (skip at) f
 skip-found G at f made e =
     none-found G (skip at) at f (rule no_derivations) made refl refl refl (λ m. refl) e
-    (λ H i n. (atom Comm, no-premise H (skip at) (atom Comm) n refl refl, ArePathsBelow-refl (one_end Comm))) refl refl refl refl none-layered
+    (λ H i n. (atom Comm, no-premise H (skip at) (atom Comm) n refl refl, ArePathsBelow-refl (one_end Comm))) refl refl refl refl none-layered none-printable
 
 pub mark-found : (G : List PlainPaths) (k : MarkKind) (at : Place) (f : Found) → IsMade no_paths at 0 f → derivation_of f ≡ by_ns →
     IsFound G (mark k at) f
 mark-found G k at f made e =
-    none-found G (mark k at) at f by_ns made refl refl refl (λ m. refl) e (none-derived G (mark k at) refl) refl refl refl refl ns-layered
+    none-found G (mark k at) at f by_ns made refl refl refl (λ m. refl) e (none-derived G (mark k at) refl) refl refl refl refl ns-layered (λ names. tt)
 
 -- rules of one premise
 pub unary-found : (G : List PlainPaths) (op : UnOp) (p : Tree) (at : Place) (part f : Found) → IsFound G p part →
@@ -61,12 +67,14 @@ pub unary-found : (G : List PlainPaths) (op : UnOp) (p : Tree) (at : Place) (par
 unary-found G op p at part f h =
     atom-found G G p (unary op p at) nothing (operand_atom op) (unary_atom op) at part f h refl refl refl refl (λ m. refl) refl refl refl (λ H i. i)
     (λ H. when (is_atom (operand_atom op) (atom (operand_atom op))) (atom (unary_atom op)) (same_atom (operand_atom op)))
+    (λ names text. part-writable names G p text.around text.named text.full text.few)
 
 pub forever-found : (G : List PlainPaths) (p : Tree) (at : Place) (part f : Found) → IsFound G p part →
     IsMade (if_passed (has_atom part Comm) (one_end Compl)) (blame_at part at) part.total f →
     derivation_of f ≡ derived_if (has_atom part Comm) (rule_of (as_atom Comm part)) → IsFound G (forever p at) f
 forever-found G p at part f h =
     atom-found G G p (forever p at) nothing Comm Compl at part f h refl refl refl refl (λ m. refl) refl refl refl (λ H i. i) (λ H. refl)
+    (λ names text. part-writable names G p text.around text.named text.full text.few)
 
 pub escape-found : (G : List PlainPaths) (d : ℕ) (p : Tree) (at : Place) (part f : Found) → IsFound (one_end Compl ∷ G) p part →
     IsMade (if_passed (has_atom part Comm) (one_end Comm)) (blame_at part at) part.total f →
@@ -74,6 +82,7 @@ pub escape-found : (G : List PlainPaths) (d : ℕ) (p : Tree) (at : Place) (part
 escape-found G d p at part f h =
     atom-found G (one_end Compl ∷ G) p (escape d p at) (given (atom Compl)) Comm Comm at part f h refl refl refl refl (λ m. refl) refl refl refl
     (λ H i. ap (λ X. one_end Compl ∷ X) i) (λ H. refl)
+    (λ names text. part-writable names (one_end Compl ∷ G) p ((tt, tt), text.around) text.named text.full text.few)
 
 pub accept-found : (G : List PlainPaths) (d : ℕ) (D : DataTy) (p : Tree) (at : Place) (part f : Found) → IsFound (one_end (data_atom D) ∷ G) p part →
     IsMade (if_passed (has_atom part Comm) (one_end (acceptor_atom D))) (blame_at part at) part.total f →
@@ -81,6 +90,7 @@ pub accept-found : (G : List PlainPaths) (d : ℕ) (D : DataTy) (p : Tree) (at :
 accept-found G d D p at part f h =
     atom-found G (one_end (data_atom D) ∷ G) p (accept d D p at) (given (atom (data_atom D))) Comm (acceptor_atom D) at part f h
     refl refl refl refl (λ m. refl) refl refl refl (λ H i. ap (λ X. one_end (data_atom D) ∷ X) i) (λ H. refl)
+    (λ names text. part-writable names (one_end (data_atom D) ∷ G) p ((tt, tt), text.around) text.named text.full text.few)
 
 pub put-found : (G : List PlainPaths) (kind : PutKind) (p : Tree) (at : Place) (part f : Found) → IsFound G p part →
     IsMade (if_passed (has_atom part (put_atom kind)) (one_end Comm)) (blame_at part at) part.total f →
@@ -88,12 +98,14 @@ pub put-found : (G : List PlainPaths) (kind : PutKind) (p : Tree) (at : Place) (
 put-found G kind p at part f h =
     atom-found G G p (put kind p at) nothing (put_atom kind) Comm at part f h refl refl refl refl (λ m. refl) refl refl refl (λ H i. i)
     (λ H. when (is_atom (put_atom kind) (atom (put_atom kind))) (atom Comm) (same_atom (put_atom kind)))
+    (λ names text. part-writable names G p text.around text.named text.full text.few)
 
 pub read-found : (G : List PlainPaths) (p : Tree) (at : Place) (part f : Found) → IsFound G p part →
     IsMade (if_passed (has_atom part IntAcc) (one_end Comm)) (blame_at part at) part.total f →
     derivation_of f ≡ derived_if (has_atom part IntAcc) (rule_of (as_atom IntAcc part)) → IsFound G (read p at) f
 read-found G p at part f h =
     atom-found G G p (read p at) nothing IntAcc Comm at part f h refl refl refl refl (λ m. refl) refl refl refl (λ H i. i) (λ H. refl)
+    (λ names text. part-writable names G p text.around text.named text.full text.few)
 
 -- rules of two premises
 pub while-found : (G : List PlainPaths) (p q : Tree) (at : Place) (f g r : Found) → IsFound G p f → IsFound G q g →
@@ -102,7 +114,7 @@ pub while-found : (G : List PlainPaths) (p q : Tree) (at : Place) (f g r : Found
 while-found G p q at f g r hf hg =
     atoms-found G G p q (while_do p q at) nothing Truth Comm Comm at f g r (λ m. m + 1 + sizes.nodes p) hf hg refl refl refl refl (λ m. refl) refl
     refl refl
-    (λ H A i. i) (λ H. refl)
+    (λ H A i. i) (λ H. refl) (λ names text. both-writable names G G p q text.around text.around text.named text.full text.few)
 
 pub command-same : (x : Bool) (Q : PlainPaths) → if_passed x (command_of Q)
     ≡ if_passed (x && has Q (if has Q Compl then Compl else Comm)) (one_end (if has Q Compl then Compl else Comm))
@@ -132,6 +144,7 @@ seq-found G p q at f g r hf hg =
     atoms-found G G p q (seq p q at) nothing Comm (end_of_command g) (end_of_command g) at f g r (λ m. m + 1 + sizes.nodes p) hf hg
     (command-at G q g (has (least_type G p) Comm) hg) refl refl refl (λ m. refl) refl refl refl (λ H A i. i)
     (λ H. command-concludes Comm (end_of_command g) (command-is (has_atom g Compl)))
+    (λ names text. both-writable names G G p q text.around text.around text.named text.full text.few)
 
 pub new-found : (G : List PlainPaths) (d : ℕ) (D : DataTy) (p q : Tree) (at : Place) (f g r : Found) → IsFound G p f →
     IsFound (paths (cell_type D) ∷ G) q g →
@@ -146,6 +159,7 @@ new-found G d D p q at f g r hf hg =
     (command-at (paths (cell_type D) ∷ G) q g (has (least_type G p) (data_atom D)) hg) refl refl refl (λ m. refl) refl refl refl
     (λ H A i. ap (λ X. paths (cell_type D) ∷ X) i)
     (λ H. command-concludes (data_atom D) (end_of_command g) (command-is (has_atom g Compl)))
+    (λ names text. both-writable names G (paths (cell_type D) ∷ G) p q text.around ((tt, (tt, tt)), text.around) text.named text.full text.few)
 
 data-some : (t : DataTy → Bool) (D : DataTy) → t D ≡ true → some_data t ≡ true
 data-some t data_type.Int e = or_left _ _ e
@@ -159,7 +173,7 @@ pub binary-found : (G : List PlainPaths) (op : BinOp) (p q : Tree) (at : Place) 
 binary-found G op p q at f g r hf hg made choice =
     two-found G G p q (binary op p q at) at f g r (derivation_of r) (λ m. m + 1 + sizes.nodes p) hf hg
     (subst (λ P. IsMade P (blame_at f (blame_at g at)) (f.total + g.total) r) (sym test) made) refl refl refl (λ m. refl) refl refl
-    (derived choice) (few choice) (shallow choice) (types choice) (layers choice)
+    (derived choice) (few choice) (shallow choice) (types choice) (layers choice) (λ names text. prints names text choice)
   where
     test : least_type G (binary op p q at) ≡ if_passed (serves_operator op f g) (one_end (binary_atom op))
     test =
@@ -186,6 +200,14 @@ binary-found G op p q at f g r hf hg made choice =
               (sym (test ∙ ap (λ b. if_passed b (one_end (binary_atom op))) (serves D x.1))) (ArePathsBelow-refl (one_end (binary_atom op))),
         ))
 
+    prints : (names : List Bytes) → IsWritable names G (binary op p q at) → IsOperated op f g (derivation_of r) → IsPrintable names (derivation_of r)
+    prints names text (inl x) = subst (IsPrintable names) (sym x.1) tt
+    prints names text (inr x) =
+        let each = both-writable names G G p q text.around text.around text.named text.full text.few in
+        subst (IsPrintable names) (sym x.2)
+        (two-printable names (atom (data_atom x.0)) (atom (data_atom x.0)) (derivation_of f) (derivation_of g) (tt, tt) (tt, tt)
+        (hf.printable names each.0) (hg.printable names each.1))
+
     layers : IsOperated op f g (derivation_of r) → IsLayered met (derivation_of r)
     layers (inl x) = subst (IsLayered met) (sym x.1) ns-layered
     layers (inr x) = subst (IsLayered met) (sym x.2)
@@ -211,7 +233,7 @@ pub assign-found : (G : List PlainPaths) (p q : Tree) (at : Place) (f g r : Foun
 assign-found G p q at f g r hf hg made choice =
     two-found G G p q (assign p q at) at f g r (derivation_of r) (λ m. m + 1 + sizes.nodes p) hf hg
     (subst (λ P. IsMade P (blame_at f (blame_at g at)) (f.total + g.total) r) (sym test) made) refl refl refl (λ m. refl) refl refl
-    (derived choice) (few choice) (shallow choice) (types choice) (layers choice)
+    (derived choice) (few choice) (shallow choice) (types choice) (layers choice) (λ names text. prints names text choice)
   where
     test : least_type G (assign p q at) ≡ if_passed (serves_assignment f g) (one_end Comm)
     test =
@@ -236,6 +258,14 @@ assign-found G p q at f g r hf hg made choice =
           subst (λ P. ArePathsBelow (one_end Comm) P)
               (sym (test ∙ ap (λ b. if_passed b (one_end Comm)) (serves D x.1))) (ArePathsBelow-refl (one_end Comm)),
         ))
+
+    prints : (names : List Bytes) → IsWritable names G (assign p q at) → IsAssigned f g (derivation_of r) → IsPrintable names (derivation_of r)
+    prints names text (inl x) = subst (IsPrintable names) (sym x.1) tt
+    prints names text (inr x) =
+        let each = both-writable names G G p q text.around text.around text.named text.full text.few in
+        subst (IsPrintable names) (sym x.2)
+        (two-printable names (atom (acceptor_atom x.0)) (atom (data_atom x.0)) (derivation_of f) (derivation_of g) (tt, tt) (tt, tt)
+        (hf.printable names each.0) (hg.printable names each.1))
 
     layers : IsAssigned f g (derivation_of r) → IsLayered met (derivation_of r)
     layers (inl x) = subst (IsLayered met) (sym x.1) ns-layered

@@ -1,12 +1,12 @@
 -- Derivations that are made of others.
-use Rattle.std.specs.Prelude.{ℕ, ◌≤◌, ◌≡◌, max, Bool, List, if◌then◌else◌}
+use Rattle.std.specs.Prelude.{ℕ, ◌≡◌, Bool, List, if◌then◌else◌}
 use Rattle.fy_types.specs.declared.types.Atom.TheVariants.{Bool as Truth}
 use Rattle.fy_types.specs.Types.{PlainType, atom, arrow, field}
 use Rattle.fy_types.specs.Paths.{PlainPaths, paths}
 use Rattle.fy_types.specs.PathOrder.{ArePathsBelow}
-use Rattle.fy_types.specs.Nested.{type_nesting, IsTypeOf}
+use Rattle.fy_types.specs.Nested.{IsTypeOf}
 use Rattle.fy_phrase.specs.Tree.{Tree}
-use Rattle.fy_derive.specs.Derivations.{PlainDerivation, PlainDerivations, by_ns, sub, meets, alt, left, right, rule, no_derivations, and_derivation, nodes, nesting, most_nodes, most_nesting}
+use Rattle.fy_derive.specs.Derivations.{PlainDerivation, by_ns, sub, meets, left, right, rule, no_derivations, and_derivation}
 use Rattle.fy_derive.specs.Judging.{judged, concludes}
 use Rattle.fy_derive.specs.Least.{forms_of, least_type}
 
@@ -53,30 +53,6 @@ abbrev pub ConcludesBelow : List PlainPaths → Tree → PlainDerivation → Typ
 ConcludesBelow G p d = (H : List PlainType) → forms_of H ≡ G → (n : ℕ) →
     (A : PlainType) × (judged d n H p ≡ concludes A) × ArePathsBelow (paths A) (least_type G p)
 
-abbrev mutual
-  -- the nesting of the deepest type in a derivation
-  pub deepest_type : PlainDerivation → ℕ
-  deepest_type by_ns = 0
-  deepest_type (sub T d) = max (type_nesting T) (deepest_type d)
-  deepest_type (meets ds) = deepest_of_all ds
-  deepest_type (alt i d) = deepest_type d
-  deepest_type (left d) = deepest_type d
-  deepest_type (right d) = deepest_type d
-  deepest_type (rule ds) = deepest_of_all ds
-
-  pub deepest_of_all : PlainDerivations → ℕ
-  deepest_of_all no_derivations = 0
-  deepest_of_all (and_derivation d ds) = max (deepest_type d) (deepest_of_all ds)
-
 -- the nesting of the types that are made of path forms within the limits: twice 480 and one more, behind an arrow or a field
 abbrev pub most_made_nesting : ℕ
 most_made_nesting = 962
-
-abbrev pub most_type_nesting : ℕ
-most_type_nesting = 1024
-
--- the limits on a derivation and on the types in it
-pub record KeepsLimits (d : PlainDerivation) : Type 0 where
-  pub few : nodes d ≤ most_nodes
-  pub shallow : nesting d ≤ most_nesting
-  pub types : deepest_type d ≤ most_type_nesting

@@ -1,9 +1,8 @@
 -- What finding answers.
-use Rattle.std.specs.Prelude.{◌≤◌, ◌≡◌, [], length, None, Result, Ok, Err}
+use Rattle.std.specs.Prelude.{◌≡◌, [], None, Result, Ok, Err}
 use Rattle.fy_types.specs.declared.types.Atom.TheVariants.{Comm}
 use Rattle.fy_types.specs.Types.{atom}
 use Rattle.fy_phrase.specs.Tree.{Tree}
-use Rattle.fy_phrase.specs.Sizes.{nesting}
 use Rattle.fy_derive.specs.declared.derivation.Derivation.{Derivation}
 use Rattle.fy_derive.specs.Typing.{HasType}
 use Rattle.fy_derive.specs.Judging.{conclusion_of, refusal}
@@ -13,15 +12,6 @@ use Rattle.fy_least.specs.declared.error.FindError.{FindError}
 use Rattle.fy_least.specs.declared.error.FindError.TheVariants.{NoType, TypeTooLarge, OutOfMemory}
 use Rattle.fy_least.specs.Blame.{blame_of}
 use Rattle.fy_least.specs.Limits.{KeepTypeLimits, PassTypeLimits}
-use Rattle.fy_least.specs.Derived.{most_type_nesting}
-use Rattle.fy_least.specs.Written.{deepest_written}
-
--- the limits on a core phrase that the limits on its derivation rest on: its nesting, its visits, and the nesting of the types of its
--- recursions, which a derivation repeats
-pub record KeepsCoreLimits (p : Tree) : Type 0 where
-  pub shallow : nesting p ≤ 512
-  pub few : length (visits 0 [] p) ≤ 65536
-  pub written : deepest_written p ≤ most_type_nesting
 
 -- a derivation of a command that judging accepts; or a refusal: of a type that passes a limit, else of a phrase that is no command,
 -- with its place

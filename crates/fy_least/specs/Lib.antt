@@ -13,4 +13,4 @@ pub mod Refused
 pub mod Rules
 pub mod Scopes
 pub mod Visited
-pub mod Written
+pub mod Writable

@@ -1,6 +1,7 @@
 -- What is found of a visit.
 use Rattle.std.specs.Prelude.{ℕ, ◌+◌, ◌*◌, ◌<◌, ◌≤◌, ◌≡◌, ◌⊎◌, max, Bool, List, length}
 use Rattle.fy_base.specs.declared.data.Place.{Place}
+use Rattle.fy_base.specs.Outside.{Bytes}
 use Rattle.fy_types.specs.declared.types.Atom.{Atom}
 use Rattle.fy_types.specs.Types.{atom}
 use Rattle.fy_types.specs.Paths.{PlainPaths}
@@ -8,17 +9,20 @@ use Rattle.fy_types.specs.Reading.{plain_paths}
 use Rattle.fy_types.specs.Limits.{all_nodes, IsWithinLimits, IsTooLarge}
 use Rattle.fy_phrase.specs.Tree.{Tree}
 use Rattle.fy_phrase.specs.Sizes.{nesting}
+use Rattle.fy_phrase.specs.CoreLimits.{deepest_written}
 use Rattle.fy_derive.specs.Derivations.{PlainDerivation, sub, nodes}
 use Rattle.fy_derive.specs.Derivations as derivations
 use Rattle.fy_derive.specs.Reading.{plain_derivation}
 use Rattle.fy_derive.specs.Least.{has, least_type, visits}
+use Rattle.fy_derive.specs.Limits.{deepest_type}
+use Rattle.fy_derive.specs.Printable.{IsPrintable}
 use Rattle.fy_least.specs.declared.found.Found.{Found}
 use Rattle.fy_least.specs.Blame.{if_empty, blame_of}
 use Rattle.fy_least.specs.Layers.{met, IsLayered}
 use Rattle.fy_least.specs.Limits.{most_together}
 use Rattle.fy_least.specs.Counts.{nodes_of_visits, AreVisitsWithin}
-use Rattle.fy_least.specs.Derived.{ConcludesBelow, deepest_type, most_made_nesting}
-use Rattle.fy_least.specs.Written.{deepest_written}
+use Rattle.fy_least.specs.Derived.{ConcludesBelow, most_made_nesting}
+use Rattle.fy_least.specs.Writable.{IsWritable}
 
 -- the least type, where the phrase is blamed, and the nodes of all least types; and a derivation of a type below the least type, with
 -- room for one subsumption more
@@ -34,6 +38,7 @@ pub record IsFound (G : List PlainPaths) (p : Tree) (f : Found) : Type 0 where
   pub kept : IsWithinLimits (least_type G p)
   pub types : deepest_type (plain_derivation f.derivation) ≤ max (deepest_written p) most_made_nesting
   pub layered : IsLayered met (plain_derivation f.derivation)
+  pub printable : (names : List Bytes) → IsWritable names G p → IsPrintable names (plain_derivation f.derivation)
 
 -- a visit that has the paths and the blame, and whose parts have so many nodes in their least types
 pub record IsMade (P : PlainPaths) (at : Place) (parts : ℕ) (f : Found) : Type 0 where

@@ -3,10 +3,11 @@ use Rattle.std.proofs.lemmas.Result.{err_from_is_err_and}
 use Rattle.fy_phrase.specs.Reads.{reads}
 use Rattle.fy_derive.specs.Derivations.{nodes, nesting, most_nodes, most_nesting}
 use Rattle.fy_derive.specs.Judging.{conclusion_of, refusal}
-use Rattle.fy_least.specs.Derived.{deepest_type, most_type_nesting}
+use Rattle.fy_derive.specs.Limits.{deepest_type, most_type_nesting}
+use Rattle.fy_derive.specs.Printable.{IsPrintable}
 use Rattle.fy_least.specs.Layers.{subsumed, IsLayered}
 use Rattle.fy_least.proofs.ArmLemmas.{scope-outermost}
-use Rattle.fy_least.proofs.FindLemmas.{found-kept, found-accepted, found-untyped, found-refused, found-few, found-shallow, found-types, found-layered}
+use Rattle.fy_least.proofs.FindLemmas.{found-kept, found-accepted, found-untyped, found-refused, found-few, found-shallow, found-types, found-printable, found-layered}
 use Rattle.fy_least.proofs.finder.find.Goals as goal
 
 pub returns-in_err-found-clause-found : goal.returns-in_err-found-clause-found
@@ -33,6 +34,12 @@ returns-in_ok-to_atom-clause-limits c =
       shallow = subst (λ d. nesting d ≤ most_nesting) (sym c.in_ok-to_atom.ensures) (found-shallow p f h l);
       types = subst (λ d. deepest_type d ≤ most_type_nesting) (sym c.in_ok-to_atom.ensures) (found-types p f h l);
     }
+
+pub returns-in_ok-to_atom-clause-printable : goal.returns-in_ok-to_atom-clause-printable
+returns-in_ok-to_atom-clause-printable c =
+    let h = rw scope-outermost at c.in_ok-found.ensures.ok in
+    λ l full names named. subst (IsPrintable names) (sym c.in_ok-to_atom.ensures)
+    (found-printable (reads c.args.p.now) c.in_ok-found.found h l full names named)
 
 pub returns-in_ok-to_atom-clause-layered : goal.returns-in_ok-to_atom-clause-layered
 returns-in_ok-to_atom-clause-layered c =
