@@ -1,9 +1,9 @@
 -- Each meet in the types that a program's core phrase is written with has two members or more.
-use Rattle.std.proofs.Common.{◌≡◌, ℕ, zero, suc, ◌/◌, ◌==◌, if◌then◌else◌, Bool, true, false, List, [], ◌∷◌, length, take, drop, Option, Some, None}
+use Rattle.std.proofs.Common.{ℕ, zero, suc, ◌/◌, ◌==◌, if◌then◌else◌, Bool, true, false, List, [], ◌∷◌, length, take, drop, Option, Some, None}
 use Rattle.fy_base.specs.Outside.{Bytes}
 use Rattle.fy_base.specs.declared.data.Place.{Place}
 use Rattle.fy_types.specs.declared.types.Atom.TheVariants as atom
-use Rattle.fy_types.specs.Types.{PlainType, PlainTypes}
+use Rattle.fy_types.specs.Types.{PlainType}
 use Rattle.fy_types.specs.Subtyping.{both_of}
 use Rattle.fy_types.specs.Fields.{AreSome, HasFullMeets, HaveFullMeets}
 use Rattle.fy_syntax.specs.declared.surface.Prefixed.{Prefixed}

@@ -1,5 +1,5 @@
 -- What holds of the core phrase of a judged text.
-use Rattle.std.proofs.Common.{◌≡◌, ℕ, List, Ok, codes, inl, inr, refl, sym, subst}
+use Rattle.std.proofs.Common.{List, Ok, codes, inl, inr, refl, sym, subst}
 use Rattle.fy_base.specs.Outside.{Bytes}
 use Rattle.fy_types.specs.Fields.{IsNamed}
 use Rattle.fy_types.specs.Names.{first_names}

@@ -54,9 +54,10 @@ const MAX_VISITS: u64 = 65536;
 ///
 /// A variant with a place is the first fault in the order of the text. Where none stands, `TooDeep` comes exactly where the
 /// core phrase nests more than 512, else `TooLarge` exactly where it has over 65,536 nodes, those of its types counted, else
-/// `TooManyVisits` exactly where its visits are more than 65,536. The phrase is closed and within these limits, and each binder
-/// carries the number of binders around it. Where some tokens spell the tree, each of its lists of parts has one, and each merge
-/// has a right operand of its kind. The language is that of Reynolds, "Design of the Programming Language Forsythe"
+/// `TooManyVisits` exactly where its visits are more than 65,536. The phrase is closed and within these limits, its recursions are
+/// written with types that nest at most 258, and each binder carries the number of binders around it. Each name in it is `len` or
+/// stands in the tree. Where some tokens spell the tree, each of its lists of parts has one, each merge has a right operand of
+/// its kind, and each meet in the types that it is written with has two members or more. The language is that of Reynolds, "Design of the Programming Language Forsythe"
 /// (CMU-CS-96-146, 1996), with a concrete syntax of this project's own.
 pub fn expand(alloc: Global, tree: &Surface) -> Result<Phrase, ExpandError>
     ensures ok { IfOk result (λ p. core_of (tree_of tree.now) ≡ Ok (reads p)) }
