@@ -1,23 +1,23 @@
 -- From what a command did and how the call concluded to its answer.
-use Rattle.std.proofs.Common.{◌≡◌, ◌≢◌, ℕ, ◌≤◌, List, [], ◌++◌, sym, ap, ◌∙◌, refl, subst, inl, inr, take, arith, append_assoc}
+use Rattle.std.proofs.Common.{◌≡◌, ◌≢◌, ℕ, ◌≤◌, [], ◌++◌, sym, ap, ◌∙◌, refl, subst, inl, inr, take, arith, append_assoc, Some, None}
 use Rattle.std.proofs.lemmas.List.{append-nil}
-use Rattle.std.specs.Prelude.{Any}
 use Rattle.std.specs.declared.option.Option.{Option}
 use Rattle.std.specs.declared.result.Result.{Result}
 use Rattle.std.specs.declared.result.Result.TheVariants.{Ok, Err}
-use Rattle.fy_base.specs.Outside.{Bytes, appended, GainedPart, Rose}
+use Rattle.fy_base.specs.Outside.{Bytes, Folder, appended, GainedPart, Rose}
 use Rattle.fy_tool.specs.World.{Contents, Counts, Later}
 use Rattle.fy_tool.specs.Note.{ended_lines}
 use Rattle.fy_tool.specs.declared.world.Stop.{Stop}
-use Rattle.fy_tool.specs.declared.world.Stop.TheVariants.{Files, Input, Output, Notes, Memory}
+use Rattle.fy_tool.specs.declared.world.Stop.TheVariants.{Fetch, Keep, Input, Output, Notes, Memory}
 use Rattle.fy_words.specs.Order.{Order}
 use Rattle.fy_tool.specs.Due.{Due}
-use Rattle.fy_tool.specs.Answers.{FilesPart, InputPart, Part, Caused, Serves, Concludes, last_line, all_reads_of, all_keeps_of, Answers}
-use Rattle.fy_tool.proofs.Contents.{later_more, gained_both}
+use Rattle.fy_tool.specs.Answers.{FilesPart, InputPart, Part, Serves, Concludes, last_line, IsLastLine, all_reads_of, all_keeps_of, Answers}
+use Rattle.fy_tool.proofs.Contents.{gained_both}
+use Rattle.fy_tool.proofs.Counting.{later_more, later_counted, caused_later, others_later}
 
 -- the last note touches nothing else
-part_files : (due : Due) (b c d : Contents) (stop : Stop) → d ≡ record c { notes = d.notes } → Part due b c stop → FilesPart due.kept b.files d.files
-part_files due b c d stop e p = subst (λ f. FilesPart due.kept b.files f) (sym (ap (λ (x : Contents). x.files) e)) p.files
+part_files : (due : Due) (b c d : Contents) (stop : Stop) → d ≡ record c { notes = d.notes } → Part due b c stop → FilesPart due.kept stop b.files d.files
+part_files due b c d stop e p = subst (λ f. FilesPart due.kept stop b.files f) (sym (ap (λ (x : Contents). x.files) e)) p.files
 
 part_output : (due : Due) (b c d : Contents) (stop : Stop) → d ≡ record c { notes = d.notes } → Part due b c stop → GainedPart b.output d.output due.output
 part_output due b c d stop e p = subst (λ o. GainedPart b.output o due.output) (sym (ap (λ (x : Contents). x.output) e)) p.output
@@ -25,24 +25,27 @@ part_output due b c d stop e p = subst (λ o. GainedPart b.output o due.output) 
 part_input : (due : Due) (b c d : Contents) (stop : Stop) → d ≡ record c { notes = d.notes } → Part due b c stop → InputPart due.running b.input d.input
 part_input due b c d stop e p = subst (λ i. InputPart due.running b.input i) (sym (ap (λ (x : Contents). x.input) e)) p.input
 
-any_map : (P Q : Bytes → Type 0) (names : List Bytes) → ((name : Bytes) → P name → Q name) → Any P names → Any Q names
-any_map P Q names f a = (a.0, a.1, a.2, a.3, f a.1 a.4)
-
-rose_later : (a b c : ℕ) → Rose a b → b ≤ c → Rose a c
-rose_later a b c r h = omega arith
+-- and where memory was wanting, the files are as before
+lost_files : (due : Due) (b c d : Contents) → d ≡ record c { notes = d.notes } → Part due b c Memory → FilesPart due.kept Notes b.files d.files
+lost_files due b c d e p = files_same due.kept Notes b.files d.files (ap (λ (x : Contents). x.files) e ∙ p.unchanged refl)
+  where
+    files_same : (kept : Option (Bytes × Bytes)) (stop : Stop) (before now : Option Folder) → now ≡ before → FilesPart kept stop before now
+    files_same None stop before now same = same
+    files_same (Some kept) stop before now same = inl same
 
 rose_earlier : (a b c : ℕ) → a ≤ b → Rose b c → Rose a c
 rose_earlier a b c h r = omega arith
 
-caused_later : (reads keeps : List Bytes) (stop : Stop) (k k1 k2 : Counts) → Later k1 k2 → Caused reads keeps stop k k1 → Caused reads keeps stop k k2
-caused_later reads keeps Files k k1 k2 l c = elim c [
-  | inl a ↦ inl (any_map _ _ reads (λ name r. rose_later _ _ _ r (l.fetches name)) a)
-  | inr a ↦ inr (any_map _ _ keeps (λ name r. rose_later _ _ _ r (l.keeps name)) a)
-]
-caused_later reads keeps Input k k1 k2 l c = rose_later _ _ _ c l.input
-caused_later reads keeps Output k k1 k2 l c = rose_later _ _ _ c l.output
-caused_later reads keeps Notes k k1 k2 l c = rose_later _ _ _ c l.notes
-caused_later reads keeps Memory k k1 k2 l c = tt
+-- what is known of the last line since the call began
+last_line_of : (bytes : Bytes) (stop : Stop) (k k1 k2 : Counts) → Later k k1 → IsLastLine bytes stop k1 k2 → IsLastLine bytes stop k k2
+last_line_of bytes stop k k1 k2 l (inl all) = inl all
+last_line_of bytes stop k k1 k2 l (inr (part, rose)) = inr (part, rose_earlier _ _ _ l.notes rose)
+
+abbrev failed : Stop → Result ℕ Stop
+failed stop = Err stop
+
+abbrev done : ℕ → Result ℕ Stop
+done code = Ok code
 
 -- a stop that isn't want of memory
 answer_outside : (order : Option Order) (b c d : Contents) (k k1 k2 : Counts) (stop : Stop) (status : ℕ) → stop ≢ Memory → Serves order b c k k1 (Err stop) → Concludes (Err stop) c d k1 k2 status → Answers order b d k k2 status
@@ -56,7 +59,9 @@ answer_outside order b c d k k1 k2 stop status other w e =
       fed = w.fed;
       is_due = w.is_due;
       stop = stop;
-      caused = λ _. (other, caused_later (all_reads_of order) (all_keeps_of order) stop k k1 k2 e.never_less w.caused);
+      caused = λ _. (other, caused_later (all_reads_of order) (all_keeps_of order) stop k k1 k2 e.later w.counted.caused);
+      others = λ _. others_later stop k k1 k2 e.others w.counted.others;
+      quiet = λ not_seven. absurd (not_seven last.0);
       due_done = λ not_seven _. absurd (not_seven last.0);
       outside = λ _.
           let p = w.did in
@@ -67,15 +72,15 @@ answer_outside order b c d k k1 k2 stop status other w e =
             output = part_output w.due b c d stop e.rest p;
             notes = record {
               first = p.notes.part;
-              second = last.1.part;
-              gained = gained_both b.notes c.notes d.notes p.notes.part last.1.part p.notes.gained last.1.gained;
+              second = last.1.bytes;
+              gained = gained_both b.notes c.notes d.notes p.notes.part last.1.bytes p.notes.gained last.1.gained;
               begins = inl p.notes.begins;
-              ends = last.1.begins;
+              ends = last_line_of last.1.bytes stop k k1 k2 (later_counted (all_reads_of order) (all_keeps_of order) k k1 (failed stop) w.counted) last.1.is;
             };
           };
       memory = λ nine. absurd (let seven : status ≡ 7 = last.0 in omega arith);
       ready = λ _ nine. absurd (let seven : status ≡ 7 = last.0 in omega arith);
-      never_less = later_more k k1 k2 w.never_less e.never_less;
+      never_less = later_more k k1 k2 (later_counted (all_reads_of order) (all_keeps_of order) k k1 (failed stop) w.counted) e.later;
     }
 
 -- a status of the command's own
@@ -89,13 +94,15 @@ answer_done order b c d k k1 k2 code status w e =
       input = w.input;
       fed = w.fed;
       is_due = w.is_due;
-      stop = Files;
+      stop = Notes;
       caused = λ seven. absurd (w.own.0 (sym last.0 ∙ seven));
+      others = λ seven. absurd (w.own.0 (sym last.0 ∙ seven));
+      quiet = λ _. last.2 ∙ w.counted;
       due_done = λ _ _. (last.0 ∙ w.did.0, e.rest ∙ ap (λ n. record { files = c.files; input = c.input; output = c.output; notes = n }) last.1 ∙ w.did.1);
       outside = λ seven. absurd (w.own.0 (sym last.0 ∙ seven));
       memory = λ nine. absurd (w.own.1 (sym last.0 ∙ nine));
       ready = λ _ nine. absurd (w.own.1 (sym last.0 ∙ nine));
-      never_less = later_more k k1 k2 w.never_less e.never_less;
+      never_less = later_more k k1 k2 (later_counted (all_reads_of order) (all_keeps_of order) k k1 (done code) w.counted) e.later;
     }
 
 -- want of memory
@@ -109,14 +116,16 @@ answer_memory order b c d k k1 k2 status w e =
       fed = w.fed;
       is_due = w.is_due;
       stop = Notes;
-      caused = λ seven. (λ clash. cc, rose_earlier _ _ _ w.never_less.notes (e.lost refl seven).0);
+      caused = λ seven. (λ clash. cc, rose_earlier _ _ _ w.counted.later.notes (e.lost refl seven).0);
+      others = λ seven. others_later Notes k k1 k2 e.others (ap (λ (c : Counts). record c { notes = k1.notes }) w.counted.others);
+      quiet = λ not_seven. (e.memory refl not_seven).2 ∙ w.counted.others;
       due_done = λ not_seven not_nine. absurd (not_nine (e.memory refl not_seven).0);
       outside = λ seven.
           let p = w.did in
           let lost = (e.lost refl seven).1 in
           let whole = p.whole refl in
           record {
-            files = part_files w.due b c d Memory e.rest p;
+            files = lost_files w.due b c d e.rest p;
             input = part_input w.due b c d Memory e.rest p;
             asks = λ clash. cc;
             output = part_output w.due b c d Memory e.rest p;
@@ -131,7 +140,7 @@ answer_memory order b c d k k1 k2 status w e =
                   is = ap (λ t. ended_lines (take whole.count w.due.notes) ++ t) lost.begins.is ∙ sym (append_assoc _ lost.part lost.begins.rest);
                 },
               );
-              ends = record { rest = []; is = refl };
+              ends = inl refl;
             };
           };
       memory = λ nine.
@@ -147,13 +156,14 @@ answer_memory order b c d k k1 k2 status w e =
             notes = gained_both b.notes c.notes d.notes _ (last_line Memory) whole.gained last;
           };
       ready = λ first nine. ap (λ (x : Contents). x.output) e.rest ∙ w.ready first refl;
-      never_less = later_more k k1 k2 w.never_less e.never_less;
+      never_less = later_more k k1 k2 (later_counted (all_reads_of order) (all_keeps_of order) k k1 (failed Memory) w.counted) e.later;
     }
 
 -- how any work is answered
 pub answered : (order : Option Order) (b c d : Contents) (k k1 k2 : Counts) (work : Result ℕ Stop) (status : ℕ) → Serves order b c k k1 work → Concludes work c d k1 k2 status → Answers order b d k k2 status
 answered order b c d k k1 k2 (Ok code) status w e = answer_done order b c d k k1 k2 code status w e
-answered order b c d k k1 k2 (Err Files) status w e = answer_outside order b c d k k1 k2 Files status (λ clash. cc) w e
+answered order b c d k k1 k2 (Err Fetch) status w e = answer_outside order b c d k k1 k2 Fetch status (λ clash. cc) w e
+answered order b c d k k1 k2 (Err Keep) status w e = answer_outside order b c d k k1 k2 Keep status (λ clash. cc) w e
 answered order b c d k k1 k2 (Err Input) status w e = answer_outside order b c d k k1 k2 Input status (λ clash. cc) w e
 answered order b c d k k1 k2 (Err Output) status w e = answer_outside order b c d k k1 k2 Output status (λ clash. cc) w e
 answered order b c d k k1 k2 (Err Notes) status w e = answer_outside order b c d k k1 k2 Notes status (λ clash. cc) w e

@@ -1,21 +1,8 @@
 -- What the objects hold, step by step.
-use Rattle.std.proofs.Common.{◌≡◌, [], ◌++◌, sym, ap, ◌∙◌, refl, arith, append_assoc, Some, None}
+use Rattle.std.proofs.Common.{◌≡◌, [], ◌++◌, sym, ap, ◌∙◌, refl, append_assoc, Some, None}
 use Rattle.std.proofs.lemmas.List.{append-nil}
 use Rattle.std.specs.declared.option.Option.{Option}
 use Rattle.fy_base.specs.Outside.{Bytes, appended, Gained, GainedPart}
-use Rattle.fy_tool.specs.World.{Counts, Later}
-
-pub later_more : (a b c : Counts) → Later a b → Later b c → Later a c
-later_more a b c h k = record {
-  fetches = λ name. let x = h.fetches name in let y = k.fetches name in omega arith;
-  keeps = λ name. let x = h.keeps name in let y = k.keeps name in omega arith;
-  input = let x = h.input in let y = k.input in omega arith;
-  output = let x = h.output in let y = k.output in omega arith;
-  notes = let x = h.notes in let y = k.notes in omega arith;
-}
-
-pub later_same : (a : Counts) → Later a a
-later_same a = record { fetches = λ name. omega arith; keeps = λ name. omega arith; input = omega arith; output = omega arith; notes = omega arith }
 
 pub appended-appended : (held : Option Bytes) (x y : Bytes) → appended (appended held x) y ≡ appended held (x ++ y)
 appended-appended None x y = refl

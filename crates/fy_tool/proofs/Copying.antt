@@ -1,18 +1,15 @@
 -- The run of a phrase by the copy rule over the objects of a call.
-use Rattle.std.proofs.Common.{◌≡◌, ◌≢◌, ◌≤◌, ℕ, zero, suc, ◌+◌, ◌-◌, Bool, true, false, List, [], ◌∷◌, ◌++◌, sym, ap, ◌∙◌, refl, subst, arith, inl, inr, Some, None}
+use Rattle.std.proofs.Common.{◌≡◌, ◌≢◌, ◌≤◌, ℕ, zero, suc, ◌+◌, ◌-◌, Bool, true, false, sym, ap, ◌∙◌, refl, subst, arith, inl, inr, Some, None}
 use Rattle.std.specs.Prelude.{◌⊎◌}
 use Rattle.std.specs.Option.{ForSome, option_map}
 use Rattle.std.specs.declared.option.Option.{Option}
-use Rattle.std.specs.declared.result.Result.{Result}
 use Rattle.std.specs.declared.result.Result.TheVariants.{Ok, Err}
-use Rattle.fy_base.specs.Outside.{Bytes, Gave, appended, Gained, GainedPart}
+use Rattle.fy_base.specs.Outside.{Bytes, appended, Gained, GainedPart}
 use Rattle.fy_base.specs.declared.data.Ending.{Ending}
 use Rattle.fy_base.specs.declared.data.Ending.TheVariants as ends
 use Rattle.fy_phrase.specs.Tree.{Tree}
 use Rattle.fy_phrase.specs.Sizes.{fits}
-use Rattle.fy_phrase.specs.Copy as copy
-use Rattle.fy_phrase.specs.Copy.{CopyMove, goes, puts, takes, faults, sticks, Standing, going, ended, faulted, stuck, copy_step, settled, ticked, start_run, copy_after, peak_load}
-use Rattle.fy_phrase.proofs.Runs.{after_zero, after_suc}
+use Rattle.fy_phrase.specs.Copy.{CopyMove, goes, puts, takes, faults, sticks, Standing, going, ended, faulted, stuck, copy_step, copy_after, peak_load}
 use Rattle.fy_copy.specs.Moves.{IsTooBig}
 use Rattle.fy_copy.specs.Ends.{IsGoingBelow, IsHeldBelow, EndsSo, HasPut, taken_after, RunsTo, DoesPart, IsCopyEnd}
 use Rattle.fy_copy.specs.declared.run.CopyRun.{CopyRun}
@@ -21,38 +18,17 @@ use Rattle.fy_derive.specs.Safety.{IsNeverStuck}
 use Rattle.fy_tool.specs.World.{Contents}
 use Rattle.fy_tool.specs.Note.{texts, ended_lines}
 use Rattle.fy_tool.specs.Due.{Copying, of_phrase, IsOwnCopyEnd, IsCopyRun, status_of, copy_notes, copied}
-use Rattle.fy_tool.specs.Answers.{Asks}
+use Rattle.fy_tool.specs.Answers.{IsLeftBy, Asks}
 use Rattle.fy_tool.specs.Working.{HasCopied}
 use Rattle.fy_tool.specs.declared.world.Stop.{Stop}
 use Rattle.fy_tool.specs.declared.world.Stop.TheVariants.{Input, Output, Notes, Memory}
 use Rattle.fy_tool.proofs.Contents.{appended-nil, nothing, all_gained}
-use Rattle.fy_tool.proofs.Executing.{Takes, first_taken, then_takes, gave_by}
 use Rattle.fy_tool.proofs.Parts.{but_notes, tell_all}
 
--- ---- what a run takes of its input
-
-settled_takes : (m : CopyMove) (r : copy.CopyRun) → Takes r.input (settled m r).input
-settled_takes (goes s) r = record { taken = []; is = refl }
-settled_takes (puts text s) r = record { taken = []; is = refl }
-settled_takes (takes go) r = first_taken r.input
-settled_takes (faults kind at) r = record { taken = []; is = refl }
-settled_takes sticks r = record { taken = []; is = refl }
-
-ticked_takes : (s : Standing) (r : copy.CopyRun) → Takes r.input (ticked s r).input
-ticked_takes going r = settled_takes (copy_step r.state) r
-ticked_takes ended r = record { taken = []; is = refl }
-ticked_takes (faulted kind at) r = record { taken = []; is = refl }
-ticked_takes stuck r = record { taken = []; is = refl }
-
-copy_takes : (p : Tree) (input : Bytes) (n : ℕ) → Takes input (copy_after p input n).input
-copy_takes p input zero = record { taken = []; is = sym (ap (λ w. w.input) (after_zero (start_run p input))) }
-copy_takes p input (suc n) =
-    subst (λ rest. Takes input rest) (sym (ap (λ w. w.input) (after_suc n (start_run p input))))
-    (then_takes _ _ _ (copy_takes p input n) (ticked_takes (copy_after p input n).standing (copy_after p input n)))
-
--- a source gave what a run took
-copy_gave : (p : Tree) (input : Bytes) (k : ℕ) (before now : Option Bytes) → ForSome before (λ left. input ≡ left) → now ≡ option_map (λ _. (copy_after p input k).input) before → (taken : Bytes) × Gave before now taken
-copy_gave p input k before now told is = let t = copy_takes p input k in (t.taken, gave_by before now input (copy_after p input k).input t.taken told is t.is)
+-- the run of which the input was taken is within the limit, too
+few_taken : (end : Ending) (n : ℕ) → taken_after end n ≤ n
+few_taken ends.InputFault n = omega arith
+few_taken _ n = omega arith
 
 -- ---- how a run of a phrase that is never stuck ends
 
@@ -124,12 +100,16 @@ copying_by p limit input = record { phrase = p; input = input; limit = limit }
 abbrev pub Ran : Tree → ℕ → CopyRun → Contents → Contents → Type 0
 Ran p limit done h c = RunsTo p limit done h.input c.input h.output c.output
 
+-- what it left of its input
+left_by : (p : Tree) (limit : ℕ) (h c : Contents) (done : CopyRun) → done.steps ≤ limit → (r : Ran p limit done h c) → IsLeftBy (of_phrase (copying_by p limit r.fed)) h.input c.input
+left_by p limit h c done le r = record { steps = taken_after done.end done.steps; within = let few = few_taken done.end done.steps in omega arith; rest = r.rest }
+
 gained_part : (before now : Option Bytes) (output : Bytes) → Gained before now output → GainedPart before now output
 gained_part before now output gained = subst (λ x. GainedPart before x output) (sym gained) (all_gained before output)
 
 -- a part of what is due was done, where the run made n steps or more
 part_done : (p : Tree) (limit n : ℕ) (input : Bytes) (h c : Contents) (stop : Stop) → IsNeverStuck p → n ≤ limit → IsGoingBelow p input n → IsHeldBelow p input n → ForSome h.input (λ left. input ≡ left)
-    → (taken : Bytes) × Gave h.input c.input taken → GainedPart h.output c.output (copy_after p input n).output → c ≡ record h { input = c.input; output = c.output }
+    → IsLeftBy (of_phrase (copying_by p limit input)) h.input c.input → GainedPart h.output c.output (copy_after p input n).output → c ≡ record h { input = c.input; output = c.output }
     → (stop ≡ Input → Asks (Some (of_phrase (copying_by p limit input)))) → HasCopied p limit h c (Err stop)
 part_done p limit n input h c stop safe le below held told taken output rest asks =
     let copying = copying_by p limit input in
@@ -157,7 +137,7 @@ part_done p limit n input h c stop safe le below held told taken output rest ask
 pub copied_unfinished : (p : Tree) (limit : ℕ) (h c : Contents) (stop : Stop) → IsNeverStuck p → stop ≡ Memory → DoesPart p limit h.input c.input h.output c.output → c ≡ record h { input = c.input; output = c.output }
     → HasCopied p limit h c (Err stop)
 copied_unfinished p limit h c stop safe memory part rest =
-    part_done p limit part.made part.fed h c stop safe part.within part.going part.held part.told (copy_gave p part.fed part.made h.input c.input part.told part.rest) (gained_part h.output c.output _ part.output) rest
+    part_done p limit part.made part.fed h c stop safe part.within part.going part.held part.told (record { steps = part.made; within = part.within; rest = part.rest }) (gained_part h.output c.output _ part.output) rest
     (λ input. absurd (let clash : Memory ≡ Input = sym memory ∙ input in cc))
 
 -- a read failed
@@ -166,7 +146,7 @@ pub copied_unread : (p : Tree) (limit : ℕ) (h c : Contents) (done : CopyRun) �
 copied_unread p limit h c done safe is le r rest =
     let asks = subst (λ e. EndsSo e p r.fed done.steps limit) is r.end in
     let output = subst (λ e. HasPut e h.output c.output (copy_after p r.fed done.steps).output) is r.output in
-    part_done p limit done.steps r.fed h c Input safe le asks.below r.held r.told (copy_gave p r.fed (taken_after done.end done.steps) h.input c.input r.told r.rest) (gained_part h.output c.output _ output) rest
+    part_done p limit done.steps r.fed h c Input safe le asks.below r.held r.told (left_by p limit h c done le r) (gained_part h.output c.output _ output) rest
     (λ _. (done.steps, le, asks))
 
 -- a put failed
@@ -175,7 +155,7 @@ pub copied_unwritten : (p : Tree) (limit : ℕ) (h c : Contents) (done : CopyRun
 copied_unwritten p limit h c done safe is le r rest =
     let put = subst (λ e. EndsSo e p r.fed done.steps limit) is r.end in
     let output = subst (λ e. HasPut e h.output c.output (copy_after p r.fed done.steps).output) is r.output in
-    part_done p limit done.steps r.fed h c Output safe le put.below r.held r.told (copy_gave p r.fed (taken_after done.end done.steps) h.input c.input r.told r.rest) output rest
+    part_done p limit done.steps r.fed h c Output safe le put.below r.held r.told (left_by p limit h c done le r) output rest
     (λ clash. absurd (let no : Output ≡ Input = clash in cc))
 
 -- ---- runs that no fault of the outside ended
@@ -267,7 +247,7 @@ copied_untold p limit h c d done stop safe is no_input no_output le r rest other
       is_run = e.is_run;
       did = record {
         files = files;
-        input = copy_gave p r.fed done.steps h.input d.input r.told input;
+        input = record { steps = done.steps; within = le; rest = input };
         output = subst (λ o. GainedPart h.output o due.output) (sym output) (all_gained h.output due.output);
         notes = subst (λ n. GainedPart n d.notes (ended_lines due.notes)) notes (subst (λ ls. GainedPart c.notes d.notes (ended_lines (texts ls))) e.notes_are part);
         unchanged = λ _. files;

@@ -1,25 +1,22 @@
 -- The run of a machine over the objects of a call.
-use Rattle.std.proofs.Common.{◌≡◌, ◌≢◌, ◌≤◌, ℕ, zero, suc, ◌+◌, List, [], ◌∷◌, ◌++◌, drop, sym, ap, ◌∙◌, refl, subst, arith, Some, None, append_assoc}
+use Rattle.std.proofs.Common.{◌≡◌, ◌≢◌, ◌≤◌, ℕ, List, ◌++◌, sym, ap, ◌∙◌, refl, subst, arith, Some, None}
 use Rattle.std.specs.Option.{ForSome, option_map}
 use Rattle.std.specs.declared.option.Option.{Option}
 use Rattle.std.specs.declared.result.Result.{Result}
 use Rattle.std.specs.declared.result.Result.TheVariants.{Ok, Err}
-use Rattle.fy_base.specs.Outside.{Bytes, Rose, Gave, appended, Gained, GainedPart}
+use Rattle.fy_base.specs.Outside.{Bytes, appended, Gained, GainedPart}
 use Rattle.fy_base.specs.declared.data.Ending.{Ending}
 use Rattle.fy_base.specs.declared.data.Ending.TheVariants as ends
 use Rattle.rv_insn.specs.Program.{Program}
-use Rattle.rv_insn.specs.Step.{Core, instruction_step}
-use Rattle.rv_insn.specs.Run.{settled, tick_from}
-use Rattle.rv_insn.specs.declared.events.Event.{Event}
-use Rattle.rv_insn.specs.declared.events.Event.TheVariants as events
-use Rattle.rv_machine.specs.Run.{World, going_world, tick, run}
+use Rattle.rv_insn.specs.Step.{Core}
+use Rattle.rv_machine.specs.Run.{World, going_world, run}
 use Rattle.rv_machine.specs.Ends.{RunsTo, EndsSo, HasPut, IsMachineEnd, taken_after}
 use Rattle.rv_machine.specs.declared.run.MachineRun.{MachineRun}
-use Rattle.rv_machine.proofs.Runs.{run_none, run_more}
-use Rattle.fy_tool.specs.World.{Contents, Counts, Later}
+use Rattle.rv_machine.proofs.Runs.{run_none}
+use Rattle.fy_tool.specs.World.{Contents}
 use Rattle.fy_tool.specs.Note.{texts, ended_lines}
 use Rattle.fy_tool.specs.Due.{Running, of_machine, IsOwnEnd, IsRun, status_of, end_notes, traced, ran}
-use Rattle.fy_tool.specs.Answers.{Asks, Caused, WholeLines}
+use Rattle.fy_tool.specs.Answers.{IsLeftBy, Asks, WholeLines}
 use Rattle.fy_tool.specs.Working.{HasRun}
 use Rattle.fy_tool.specs.declared.world.Stop.{Stop}
 use Rattle.fy_tool.specs.declared.world.Stop.TheVariants.{Input, Notes, Memory}
@@ -27,52 +24,20 @@ use Rattle.fy_tool.proofs.Contents.{nothing, all_gained}
 use Rattle.fy_tool.proofs.Parts.{but_notes, tell_all}
 use Rattle.fy_tool.proofs.WholeRuns.{whole_run, whole_stays}
 
--- ---- what a run takes of its input
+-- ---- what a run leaves of its input
 
--- what was taken, and what is left, make the input
-pub record Takes (input rest : Bytes) : Type 0 where
-  pub taken : Bytes
-  pub is : input ≡ taken ++ rest
+-- the run of which the input was taken is within the limit, too
+pub few_taken : (end : Ending) (n : ℕ) → taken_after end n ≤ n
+few_taken ends.InputFault n = omega arith
+few_taken _ n = omega arith
 
-pub first_taken : (input : Bytes) → Takes input (drop 1 input)
-first_taken [] = record { taken = []; is = refl }
-first_taken (b ∷ bs) = record { taken = b ∷ []; is = refl }
-
-settled_takes : (event : Event) (core : Core) (world : World) → Takes world.input (settled event core world).input
-settled_takes events.Going core world = record { taken = []; is = refl }
-settled_takes (events.Put byte) core world = record { taken = []; is = refl }
-settled_takes events.WantByte core world = first_taken world.input
-settled_takes events.Ended core world = record { taken = []; is = refl }
-settled_takes (events.Fault kind place) core world = record { taken = []; is = refl }
-settled_takes events.Exhausted core world = record { taken = []; is = refl }
-settled_takes (events.Trap kind) core world = record { taken = []; is = refl }
-
-from_takes : (event : Event) (program : Program) (world : World) → Takes world.input (tick_from event program world).input
-from_takes events.Going program world = settled_takes (instruction_step program world.core).event (instruction_step program world.core).core world
-from_takes (events.Put byte) program world = record { taken = []; is = refl }
-from_takes events.WantByte program world = record { taken = []; is = refl }
-from_takes events.Ended program world = record { taken = []; is = refl }
-from_takes (events.Fault kind place) program world = record { taken = []; is = refl }
-from_takes events.Exhausted program world = record { taken = []; is = refl }
-from_takes (events.Trap kind) program world = record { taken = []; is = refl }
-
-pub then_takes : (a b c : Bytes) → Takes a b → Takes b c → Takes a c
-then_takes a b c t u = record { taken = t.taken ++ u.taken; is = t.is ∙ ap (λ x. t.taken ++ x) u.is ∙ sym (append_assoc t.taken u.taken c) }
-
-run_takes : (program : Program) (n : ℕ) (world : World) → Takes world.input (run program n world).input
-run_takes program zero world = record { taken = []; is = sym (ap (λ w. w.input) (run_none program world)) }
-run_takes program (suc n) world =
-    let more : (run program (suc n) world).input ≡ (tick program (run program n world)).input = ap (λ k. (run program k world).input) (let same : suc n ≡ n + 1 = omega arith in same) ∙ ap (λ w. w.input) (run_more program n world) in
-    subst (λ rest. Takes world.input rest) (sym more)
-    (then_takes _ _ _ (run_takes program n world) (from_takes (run program n world).ending program (run program n world)))
-
-pub gave_by : (before now : Option Bytes) (input rest taken : Bytes) → ForSome before (λ left. input ≡ left) → now ≡ option_map (λ _. rest) before → input ≡ taken ++ rest → Gave before now taken
-gave_by None now input rest taken told is split = ap (λ n. option_map (λ r. taken ++ r) n) (sym is)
-gave_by (Some left) now input rest taken told is split = ap (λ b. Some b) (sym (told left refl) ∙ split) ∙ ap (λ n. option_map (λ r. taken ++ r) n) (sym is)
-
--- a source gave what a run took
-pub run_gave : (program : Program) (first : World) (k : ℕ) (before now : Option Bytes) → ForSome before (λ left. first.input ≡ left) → now ≡ option_map (λ _. (run program k first).input) before → (taken : Bytes) × Gave before now taken
-run_gave program first k before now told is = let t = run_takes program k first in (t.taken, gave_by before now first.input (run program k first).input t.taken told is t.is)
+-- a run that didn't begin leaves all
+pub all_left : (running : Running) (before now : Option Bytes) → ForSome before (λ left. running.first.input ≡ left) → now ≡ before → IsLeftBy (of_machine running) before now
+all_left running before now told same = record { steps = 0; within = omega arith; rest = same ∙ none_taken before told }
+  where
+    none_taken : (left : Option Bytes) → ForSome left (λ bytes. running.first.input ≡ bytes) → left ≡ option_map (λ _. (run running.program 0 running.first).input) left
+    none_taken None told = refl
+    none_taken (Some bytes) told = ap (λ b. Some b) (sym (told bytes refl) ∙ sym (ap (λ w. w.input) (run_none running.program running.first)))
 
 -- ---- a run over a source and a sink
 
@@ -103,7 +68,7 @@ run_faulted program core limit trace h c stop done after input_only other le r r
       is_run = whole.is_run;
       did = record {
         files = files;
-        input = run_gave program running.first (taken_after done.end done.steps) h.input c.input r.told r.rest;
+        input = record { steps = taken_after done.end done.steps; within = let few = few_taken done.end done.steps in omega arith; rest = r.rest };
         output = subst (λ (w : World). GainedPart h.output c.output w.output) stays r.part;
         notes = subst (λ n. GainedPart h.notes n (ended_lines (ran running trace None whole.n whole.end).notes)) (sym notes) (nothing h.notes _);
         unchanged = λ _. files;
@@ -201,7 +166,7 @@ run_told_part program core limit trace h c d done after lines stop machine no_in
       is_run = e.is_run;
       did = record {
         files = files;
-        input = run_gave program running.first done.steps h.input d.input r.told input;
+        input = record { steps = done.steps; within = le; rest = input };
         output = subst (λ o. GainedPart h.output o due.output) (sym output) (all_gained h.output due.output);
         notes = subst (λ n. GainedPart n d.notes (ended_lines due.notes)) notes (subst (λ ls. GainedPart c.notes d.notes (ended_lines ls)) lines_are part);
         unchanged = λ _. files;
@@ -210,13 +175,7 @@ run_told_part program core limit trace h c d done after lines stop machine no_in
       };
     }
 
--- ---- causes
-
-pub notes_caused : (stop : Stop) (k k1 k2 : Counts) → stop ≡ Notes → Later k k1 → Rose k1.notes k2.notes → Caused [] [] stop k k2
-notes_caused stop k k1 k2 is l rose = subst (λ s. Caused [] [] s k k2) (sym is) (rose_after k.notes k1.notes k2.notes l.notes rose)
-  where
-    rose_after : (a b c : ℕ) → a ≤ b → Rose b c → Rose a c
-    rose_after a b c le r = omega arith
+-- ---- stops
 
 pub notes_only : (stop other : Stop) → stop ≡ Notes → Notes ≢ other → (result : Result ℕ Stop) → result ≡ Err stop → result ≢ Err other
 notes_only stop other is apart result fails e = apart (sym is ∙ same)

@@ -1,10 +1,11 @@
 -- Images that are kept, and runs after that.
 use Rattle.std.proofs.Common.{◌≡◌, ◌≢◌, ℕ, [], ◌∷◌, ◌++◌, sym, ap, ◌∙◌, refl, subst, Some, None, inl, inr}
+use Rattle.std.specs.Prelude.{◌⊎◌}
 use Rattle.std.specs.Option.{ForSome}
 use Rattle.std.specs.declared.option.Option.{Option}
 use Rattle.std.specs.declared.result.Result.{Result}
 use Rattle.std.specs.declared.result.Result.TheVariants.{Ok, Err}
-use Rattle.fy_base.specs.Outside.{Bytes, Gave, OthersStay, GainedPart, appended}
+use Rattle.fy_base.specs.Outside.{Bytes, OthersStay, GainedPart, appended}
 use Rattle.fy_base.specs.declared.data.Ending.{Ending}
 use Rattle.fy_image.specs.Form.{IsImageBytes}
 use Rattle.fy_image.specs.declared.image.Image.{Image}
@@ -17,11 +18,10 @@ use Rattle.fy_tool.specs.Due.{of_machine, Due, Running, ran}
 use Rattle.fy_tool.specs.Answers.{files_after, after_all, InputPart, Did}
 use Rattle.fy_tool.specs.Working.{IsUnbegun, WasKept, Keeps, HasRun, HasKeptAndRun, KeepsAndRuns}
 use Rattle.fy_tool.specs.declared.world.Stop.{Stop}
-use Rattle.fy_tool.specs.declared.world.Stop.TheVariants.{Files, Input, Output, Notes, Memory}
+use Rattle.fy_tool.specs.declared.world.Stop.TheVariants.{Keep, Input, Notes, Memory}
 use Rattle.fy_tool.proofs.Contents.{appended-nil, nothing}
-use Rattle.fy_tool.proofs.Parts.{none_taken}
 use Rattle.fy_tool.proofs.WholeRuns.{whole_run}
-use Rattle.fy_tool.proofs.Executing.{running_by}
+use Rattle.fy_tool.proofs.Executing.{running_by, all_left}
 
 -- what is due where an image is kept and nothing else
 abbrev kept_due : Bytes → Bytes → Due
@@ -54,22 +54,25 @@ was_kept image name bytes h c status spelled kept none_is = record {
 }
 
 -- the named file is unknown
-pub not_kept : (image : Image) (name bytes : Bytes) (h c : Contents) (stop : Stop) → IsImageBytes image bytes → c ≡ record h { files = c.files } → stop ≢ Memory → stop ≢ Input → OthersStay h.files c.files name → WasKept image name h c (Err stop)
-not_kept image name bytes h c stop spelled rest other no_input unknown = record {
-  bytes = bytes;
-  spelled = spelled;
-  ready = λ e. other (err_is stop Memory e);
-  closed = λ e. no_input (err_is stop Input e);
-  did = record {
-    files = inr (inr unknown);
-    input = ap (λ (x : Contents). x.input) rest;
-    output = subst (λ o. GainedPart h.output o []) (sym (ap (λ (x : Contents). x.output) rest)) (nothing h.output []);
-    notes = subst (λ n. GainedPart h.notes n []) (sym (ap (λ (x : Contents). x.notes) rest)) (nothing h.notes []);
-    unchanged = λ memory. absurd (other memory);
-    whole = λ memory. absurd (other memory);
-    asks = λ input. absurd (no_input input);
-  };
-}
+pub not_kept : (image : Image) (name bytes : Bytes) (h c : Contents) (stop : Stop) → IsImageBytes image bytes → c ≡ record h { files = c.files } → stop ≡ Keep → OthersStay h.files c.files name → WasKept image name h c (Err stop)
+not_kept image name bytes h c stop spelled rest keep unknown =
+    let other : stop ≢ Memory = λ memory. let clash : Keep ≡ Memory = sym keep ∙ memory in cc in
+    let no_input : stop ≢ Input = λ input. let clash : Keep ≡ Input = sym keep ∙ input in cc in
+    record {
+      bytes = bytes;
+      spelled = spelled;
+      ready = λ e. other (err_is stop Memory e);
+      closed = λ e. no_input (err_is stop Input e);
+      did = record {
+        files = inr (inr (keep, unknown));
+        input = ap (λ (x : Contents). x.input) rest;
+        output = subst (λ o. GainedPart h.output o []) (sym (ap (λ (x : Contents). x.output) rest)) (nothing h.output []);
+        notes = subst (λ n. GainedPart h.notes n []) (sym (ap (λ (x : Contents). x.notes) rest)) (nothing h.notes []);
+        unchanged = λ memory. absurd (other memory);
+        whole = λ memory. absurd (other memory);
+        asks = λ input. absurd (no_input input);
+      };
+    }
 
 -- ---- a run after that
 
@@ -110,7 +113,7 @@ kept_none image program limit name h c stop of was other no_input =
           is_run = whole.is_run;
           did = record {
             files = p.files;
-            input = ([], subst (λ i. Gave h.input i []) (sym p.input) (none_taken h.input));
+            input = all_left running h.input c.input input.1 p.input;
             output = subst (λ o. GainedPart h.output o due.output) (sym same_output) (nothing h.output due.output);
             notes = subst (λ n. GainedPart h.notes n (ended_lines due.notes)) (sym same_notes) (nothing h.notes (ended_lines due.notes));
             unchanged = λ memory. absurd (other memory);
@@ -165,13 +168,10 @@ kept_and_run image program core limit name h c d status result of start was run 
 
 -- ---- what a call that keeps an image answers
 
-pub keeps_failed : (image : Image) (name bytes : Bytes) (h c : Contents) (stop : Stop) → IsImageBytes image bytes → c ≡ record h { files = c.files } → (stop ≡ Memory → c.files ≡ h.files) → (stop ≡ Files → OthersStay h.files c.files name)
-    → stop ≢ Input → stop ≢ Output → stop ≢ Notes → Keeps image name h c (Err stop)
-keeps_failed image name bytes h c Memory spelled rest same unknown a b d = inl (unbegun h c Memory refl (rest ∙ ap (λ f. record h { files = f }) (same refl)))
-keeps_failed image name bytes h c Files spelled rest same unknown a b d = inr (not_kept image name bytes h c Files spelled rest (λ e. cc) a (unknown refl))
-keeps_failed image name bytes h c Input spelled rest same unknown a b d = absurd (a refl)
-keeps_failed image name bytes h c Output spelled rest same unknown a b d = absurd (b refl)
-keeps_failed image name bytes h c Notes spelled rest same unknown a b d = absurd (d refl)
+pub keeps_failed : (image : Image) (name bytes : Bytes) (h c : Contents) (stop : Stop) → IsImageBytes image bytes → c ≡ record h { files = c.files } → (stop ≡ Memory → c.files ≡ h.files) → (stop ≡ Keep → OthersStay h.files c.files name)
+    → (stop ≡ Keep) ⊎ (stop ≡ Memory) → Keeps image name h c (Err stop)
+keeps_failed image name bytes h c stop spelled rest same unknown (inl keep) = inr (not_kept image name bytes h c stop spelled rest keep (unknown keep))
+keeps_failed image name bytes h c stop spelled rest same unknown (inr memory) = inl (unbegun h c stop memory (rest ∙ ap (λ f. record h { files = f }) (same memory)))
 
 pub ran_kept : (image : Image) (program : Program) (core : Core) (limit : ℕ) (name : Bytes) (h c d : Contents) (status : ℕ) (result : Result ℕ Stop) → IsProgramOf image program → core ≡ start_of image → Keeps image name h c (Ok status)
     → HasRun program core limit None None c d result → result ≢ Err Memory → KeepsAndRuns image limit name h d result

@@ -1,4 +1,5 @@
 pub mod Contents
+pub mod Counting
 pub mod Lines
 pub mod Judging
 pub mod Checking

@@ -1,6 +1,6 @@
 -- From the parts of a command's work to what is due for the words.
 use Rattle.std.proofs.Common.{◌≡◌, ◌≢◌, ℕ, [], ◌∷◌, sym, ap, ◌∙◌, refl, subst, Some, None, inl, inr}
-use Rattle.std.specs.Prelude.{◌⊎◌, IfOk, IfErr}
+use Rattle.std.specs.Prelude.{◌⊎◌, IfOk}
 use Rattle.std.specs.Option.{ForSome}
 use Rattle.std.specs.declared.option.Option.{Option}
 use Rattle.std.specs.declared.result.Result.{Result}
@@ -19,7 +19,7 @@ use Rattle.fy_image.specs.declared.image.Image.{Image}
 use Rattle.rv_insn.specs.Program.{Program}
 use Rattle.rv_machine.specs.Start.{start_of, IsProgramOf as IsProgramOfImage}
 use Rattle.rv_machine.specs.Ends.{IsMachineEnd}
-use Rattle.fy_tool.specs.World.{Contents, Counts, Later}
+use Rattle.fy_tool.specs.World.{Contents, Counts}
 use Rattle.fy_small.specs.Said.{image_of}
 use Rattle.fy_tool.specs.Checked.{IsProgramText, IsAccepted, IsRefusedFor}
 use Rattle.fy_tool.specs.declared.refusal.Refusal.{Refusal}
@@ -27,26 +27,26 @@ use Rattle.fy_words.specs.Order.{Order, check, derive, build, exec, run, copy, l
 use Rattle.fy_tool.specs.Note.{refusal_note}
 use Rattle.fy_tool.specs.Due.{Due, told, BuildsText, TypesText, IsRefused, IsBuilt, IsOwnEnd, IsDue, usage, stopped, refused, accepted, written, accepts, faults, derives, copies, builds, lists, unread, executes, runs, kept_as, file_of, keeps_of, IsReadyFirst}
 use Rattle.fy_words.specs.Order.{copy_wanted, steps_wanted, stack_wanted}
-use Rattle.fy_tool.specs.Answers.{Caused, Did, IsOwn, Serves}
+use Rattle.fy_tool.specs.Counted.{Faulted, Counted}
+use Rattle.fy_tool.specs.Answers.{Did, IsOwn, Serves}
 use Rattle.fy_tool.specs.Working.{IsProgramOf, IsUnbegun, Keeps, Executes, KeepsAndRuns, HasRun, HasCopied, IsOfText, listed}
 use Rattle.fy_tool.specs.declared.check.Program.{Program as ProgramOfText}
 use Rattle.fy_tool.specs.declared.note.Note.{Note}
 use Rattle.fy_tool.specs.declared.note.Note.TheVariants as note
 use Rattle.fy_tool.specs.declared.world.Stop.{Stop}
 use Rattle.fy_tool.specs.declared.world.Stop.TheVariants.{Input, Memory}
-use Rattle.fy_tool.proofs.Contents.{later_more}
-use Rattle.fy_tool.proofs.Parts.{content_of, part_none, if_caused_more, keeps_more}
+use Rattle.fy_tool.proofs.Counting.{short_of_memory, faulted_keeps, counted_after, counted_reads}
+use Rattle.fy_tool.proofs.Parts.{content_of, part_none}
 use Rattle.fy_tool.proofs.Keeping.{some_input}
 use Rattle.fy_small.proofs.Headlines.{small_runs_as_copy_rule, small_never_sticks, shows_copy_rule, one_program}
 
 -- words that are no command
-pub serves_usage : (b c : Contents) (k k1 : Counts) (result : Result ℕ Stop) → Later k k1 → IfErr result (λ stop. Caused [] [] stop k k1) → IfOk result IsOwn → result ≢ Err Memory
+pub serves_usage : (b c : Contents) (k k1 : Counts) (result : Result ℕ Stop) → Counted [] [] k k1 result → IfOk result IsOwn → result ≢ Err Memory
     → Did (told 5 (note.Usage ∷ [])) b c result → Serves None b c k k1 result
-serves_usage b c k k1 result l cause own ready did =
+serves_usage b c k k1 result counted own ready did =
     let input = some_input b.input in
     record {
-      never_less = l;
-      caused = cause;
+      counted = counted;
       own = own;
       content = None;
       told = tt;
@@ -59,14 +59,13 @@ serves_usage b c k k1 result l cause own ready did =
     }
 
 -- a call that was stopped before it did anything
-pub serves_stopped : (order : Order) (content : Option Bytes) (b c : Contents) (k k1 : Counts) (stop : Stop) → Tells b.files (file_of order) content → c ≡ b → Later k k1 → Caused (file_of order ∷ []) (keeps_of order) stop k k1 → stop ≢ Input
+pub serves_stopped : (order : Order) (content : Option Bytes) (b c : Contents) (k k1 : Counts) (stop : Stop) → Tells b.files (file_of order) content → c ≡ b → Faulted (file_of order ∷ []) (keeps_of order) stop k k1 → stop ≢ Input
     → Serves (Some order) b c k k1 (Err stop)
-serves_stopped order content b c k k1 stop held same l cause other =
+serves_stopped order content b c k k1 stop held same fault other =
     let input = some_input b.input in
     let due = told 7 [] in
     record {
-      never_less = l;
-      caused = cause;
+      counted = fault;
       own = tt;
       content = content;
       told = held;
@@ -74,42 +73,33 @@ serves_stopped order content b c k k1 stop held same l cause other =
       fed = input.1;
       due = due;
       is_due = stopped order content input.0;
-      did = subst (λ (c : Contents). Did due b c (Err stop)) (sym same) (part_none due b stop other);
+      did = subst (λ (c : Contents). Did due b c (Err stop)) (sym same) (part_none b stop other);
       ready = λ _ _. ap (λ (x : Contents). x.output) same;
     }
 
 -- a file that wasn't fetched
-pub serves_unread : (order : Order) (b c : Contents) (k k1 : Counts) (stop : Stop) → c ≡ b → Later k k1 → Caused (file_of order ∷ []) [] stop k k1 → stop ≢ Input → Serves (Some order) b c k k1 (Err stop)
-serves_unread order b c k k1 stop same l cause other =
+pub serves_unread : (order : Order) (b c : Contents) (k k1 : Counts) (stop : Stop) → c ≡ b → Faulted (file_of order ∷ []) [] stop k k1 → stop ≢ Input → Serves (Some order) b c k k1 (Err stop)
+serves_unread order b c k k1 stop same fault other =
     let content = content_of b.files (file_of order) in
-    serves_stopped order content.0 b c k k1 stop content.1 same l (keeps_more (file_of order ∷ []) (keeps_of order) stop k k1 cause) other
-
--- memory was wanting before anything was done
-serves_unbegun : (order : Order) (content : Bytes) (b c d : Contents) (k k1 k2 : Counts) (result : Result ℕ Stop) → Tells b.files (file_of order) (Some content) → c ≡ b → Later k k1 → Later k1 k2 → IsUnbegun c d result
-    → Serves (Some order) b d k k2 result
-serves_unbegun order content b c d k k1 k2 result held same l m unbegun =
-    subst (λ r. Serves (Some order) b d k k2 r) (sym unbegun.memory)
-    (serves_stopped order (Some content) b d k k2 Memory held (unbegun.same ∙ same) (later_more k k1 k2 l m) tt (λ clash. cc))
+    serves_stopped order content.0 b c k k1 stop content.1 same (faulted_keeps (file_of order ∷ []) (keeps_of order) stop k k1 fault) other
 
 -- what a call did after its file was read, which changed nothing
 pub record After (order : Order) (content : Bytes) (b c d : Contents) (k k1 k2 : Counts) (result : Result ℕ Stop) : Type 0 where
   held : Tells b.files (file_of order) (Some content)
   same : c ≡ b
-  first : Later k k1
-  then : Later k1 k2
+  first : k1 ≡ k
   own : IfOk result IsOwn
-  cause : IfErr result (λ stop. Caused [] (keeps_of order) stop k1 k2)
+  then : Counted [] (keeps_of order) k1 k2 result
 
-pub after : (order : Order) (content : Bytes) (b c d : Contents) (k k1 k2 : Counts) (result : Result ℕ Stop) → Tells b.files (file_of order) (Some content) → c ≡ b → Later k k1 → Later k1 k2 → IfOk result IsOwn
-    → IfErr result (λ stop. Caused [] (keeps_of order) stop k1 k2) → After order content b c d k k1 k2 result
-after order content b c d k k1 k2 result held same first then own cause = record { held = held; same = same; first = first; then = then; own = own; cause = cause }
+pub after : (order : Order) (content : Bytes) (b c d : Contents) (k k1 k2 : Counts) (result : Result ℕ Stop) → Tells b.files (file_of order) (Some content) → c ≡ b → k1 ≡ k → IfOk result IsOwn
+    → Counted [] (keeps_of order) k1 k2 result → After order content b c d k k1 k2 result
+after order content b c d k k1 k2 result held same first own then = record { held = held; same = same; first = first; own = own; then = then }
 
 -- what was done is what is due
 done : (order : Order) (content : Bytes) (b c d : Contents) (k k1 k2 : Counts) (result : Result ℕ Stop) (due : Due) (input : Bytes) → After order content b c d k k1 k2 result → ForSome c.input (λ left. input ≡ left) → IsDue (Some order) (Some content) input due
     → Did due c d result → (IsReadyFirst order → result ≡ Err Memory → d.output ≡ c.output) → Serves (Some order) b d k k2 result
 done order content b c d k k1 k2 result due input a fed is_due did ready = record {
-  never_less = later_more k k1 k2 a.first a.then;
-  caused = if_caused_more (file_of order ∷ []) (keeps_of order) result k k1 k2 a.first a.cause;
+  counted = counted_reads (file_of order ∷ []) (keeps_of order) k k2 result (counted_after [] (keeps_of order) k k1 k2 result a.first a.then);
   own = a.own;
   content = Some content;
   told = a.held;
@@ -121,9 +111,14 @@ done order content b c d k k1 k2 result due input a fed is_due did ready = recor
   ready = λ first memory. ready first memory ∙ ap (λ (x : Contents). x.output) a.same;
 }
 
--- nothing was done
+-- nothing was done, since memory was wanting
 pub none_done : (order : Order) (content : Bytes) (b c d : Contents) (k k1 k2 : Counts) (result : Result ℕ Stop) → After order content b c d k k1 k2 result → IsUnbegun c d result → Serves (Some order) b d k k2 result
-none_done order content b c d k k1 k2 result a unbegun = serves_unbegun order content b c d k k1 k2 result a.held a.same a.first a.then unbegun
+none_done order content b c d k k1 k2 result a unbegun =
+    let reads = file_of order ∷ [] in
+    let keeps = keeps_of order in
+    let counted : Counted reads keeps k k2 result = counted_reads reads keeps k k2 result (counted_after [] keeps k k1 k2 result a.first a.then) in
+    subst (λ r. Serves (Some order) b d k k2 r) (sym unbegun.memory)
+    (serves_stopped order (Some content) b d k k2 Memory a.held (unbegun.same ∙ a.same) (subst (λ r. Counted reads keeps k k2 r) unbegun.memory counted) (λ clash. cc))
 
 -- a text that is refused
 pub serves_refused : (order : Order) (text : Bytes) (b c d : Contents) (k k1 k2 : Counts) (result : Result ℕ Stop) → BuildsText order → IsRefused text → After order text b c d k k1 k2 result → result ≢ Err Memory → Did (told 2 (note.Unbuilt ∷ [])) c d result
@@ -226,6 +221,6 @@ serves_run file steps stack name text p b c d k k1 k2 result is a (inr e) =
     done (run file steps stack name) text b c d k k1 k2 result _ r.input a r.fed (runs file steps stack name text r.input p image e.bytes r.n r.end built e.spelled r.is_run shows) r.did (λ _ memory. absurd (e.ready memory))
 
 -- memory was wanting before anything was read
-pub serves_nothing : (order : Order) (b : Contents) (k : Counts) (stop : Stop) → stop ≡ Memory → Later k k → Serves (Some order) b b k k (Err stop)
-serves_nothing order b k stop memory l =
-    subst (λ s. Serves (Some order) b b k k (Err s)) (sym memory) (serves_unread order b b k k Memory refl l tt (λ clash. cc))
+pub serves_nothing : (order : Order) (b : Contents) (k : Counts) (stop : Stop) → stop ≡ Memory → Serves (Some order) b b k k (Err stop)
+serves_nothing order b k stop memory =
+    subst (λ s. Serves (Some order) b b k k (Err s)) (sym memory) (serves_unread order b b k k Memory refl (short_of_memory _ _ Memory k k refl refl) (λ clash. cc))

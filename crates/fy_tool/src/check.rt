@@ -1,8 +1,7 @@
 //! Texts that are checked.
 
 ghost use Rattle.std.specs.Prelude.{◌≡◌, ◌≢◌, ◌≤◌, [], ◌∷◌, length, Some, IfOk, IfErr, MatchResult};
-ghost use Rattle.fy_tool.specs.World.{Later};
-ghost use Rattle.fy_tool.specs.Answers.{Caused};
+ghost use Rattle.fy_tool.specs.Counted.{Counted};
 ghost use Rattle.fy_tool.specs.Checked.{IsRefusedFor};
 ghost use Rattle.fy_tool.specs.Working.{Checks, IsCore, IsOfText};
 
@@ -101,9 +100,8 @@ pub(crate) fn program_in<W: World>(
 ) -> Result<Result<Program, Refusal>, Stop>
     ensures holds { W.holds world.new ≡ W.holds world.old }
     ensures read { Checks file.now (W.holds world.old).files result }
-    ensures caused { IfErr result (λ stop. Caused (file.now ∷ []) [] stop (W.counts world.old) (W.counts world.new)) }
+    ensures counted { Counted (file.now ∷ []) [] (W.counts world.old) (W.counts world.new) result }
     ensures input { IfErr result (λ stop. stop ≢ Stop.Input) }
-    ensures later { Later (W.counts world.old) (W.counts world.new) }
     ensures same { W.names world.new ≡ W.names world.old }
 {
     let Some(text) = world.fetch(alloc, file, TEXT_LIMIT)? else {

@@ -9,12 +9,12 @@ ghost use Rattle.fy_phrase.specs.Reads.{reads};
 ghost use Rattle.rv_insn.specs.Program.{Program};
 ghost use Rattle.rv_insn.specs.declared.events.Status.TheVariants.{Running};
 ghost use Rattle.rv_machine.specs.Start.{IsProgramOf, start_of};
-ghost use Rattle.fy_tool.specs.World.{Later};
+ghost use Rattle.fy_tool.specs.Counted.{Counted};
 ghost use Rattle.fy_small.specs.Said.{IsCommand, puts_of, image_of};
 ghost use Rattle.fy_words.specs.Order.{order_of, check, derive, build, exec, run, copy, list};
 ghost use Rattle.fy_tool.specs.Due.{written, kept_as};
 ghost use Rattle.fy_words.specs.Order.{copy_wanted, steps_wanted, stack_wanted, IsInRange};
-ghost use Rattle.fy_tool.specs.Answers.{Caused, Did, IsOwn, Serves};
+ghost use Rattle.fy_tool.specs.Answers.{Did, IsOwn, Serves};
 ghost use Rattle.fy_tool.specs.Working.{Executes, Keeps, KeepsAndRuns, IsUnbegun, ReadsImage, listed};
 
 use crate::check::program_in;
@@ -66,9 +66,8 @@ fn steps_wanted(steps: Option<u64>) -> u64
 fn image_in<W: World>(alloc: Global, name: &str, world: &mut W) -> Result<Result<Image, Note>, Stop>
     ensures holds { W.holds world.new ≡ W.holds world.old }
     ensures read { ReadsImage name.now (W.holds world.old).files result }
-    ensures caused { IfErr result (λ stop. Caused (name.now ∷ []) [] stop (W.counts world.old) (W.counts world.new)) }
+    ensures counted { Counted (name.now ∷ []) [] (W.counts world.old) (W.counts world.new) result }
     ensures input { IfErr result (λ stop. stop ≢ Stop.Input) }
-    ensures later { Later (W.counts world.old) (W.counts world.new) }
     ensures same { W.names world.new ≡ W.names world.old }
 {
     let Some(bytes) = world.fetch(alloc, name, IMAGE_LIMIT)? else {
@@ -108,8 +107,7 @@ fn execute<W: World>(
     requires { IsImage image.now }
     ensures executes { Executes image.now steps trace (W.holds world.old) (W.holds world.new) result }
     ensures own { IfOk result IsOwn }
-    ensures caused { IfErr result (λ stop. Caused [] [] stop (W.counts world.old) (W.counts world.new)) }
-    ensures later { Later (W.counts world.old) (W.counts world.new) }
+    ensures counted { Counted [] [] (W.counts world.old) (W.counts world.new) result }
     ensures ready { trace ≡ None → result ≡ Err Stop.Memory → (W.holds world.new).output ≡ (W.holds world.old).output }
     ensures same { W.names world.new ≡ W.names world.old }
 {
@@ -127,9 +125,8 @@ fn execute<W: World>(
 fn write<W: World>(bytes: &[u8], world: &mut W) -> Result<u8, Stop>
     ensures did { Did (written bytes.now) (W.holds world.old) (W.holds world.new) result }
     ensures own { IfOk result IsOwn }
-    ensures caused { IfErr result (λ stop. Caused [] [] stop (W.counts world.old) (W.counts world.new)) }
+    ensures counted { Counted [] [] (W.counts world.old) (W.counts world.new) result }
     ensures memory { result ≢ Err Stop.Memory }
-    ensures later { Later (W.counts world.old) (W.counts world.new) }
     ensures same { W.names world.new ≡ W.names world.old }
 {
     match world.put(bytes) {
@@ -167,9 +164,8 @@ fn write_derivation<W: World>(
     ensures did { IsUnbegun (W.holds world.old) (W.holds world.new) result
         ⊎ Did (written (derivation_text names.now (plain_derivation derivation.now))) (W.holds world.old) (W.holds world.new) result }
     ensures own { IfOk result IsOwn }
-    ensures caused { IfErr result (λ stop. Caused [] [] stop (W.counts world.old) (W.counts world.new)) }
+    ensures counted { Counted [] [] (W.counts world.old) (W.counts world.new) result }
     ensures ready { result ≡ Err Stop.Memory → (W.holds world.new).output ≡ (W.holds world.old).output }
-    ensures later { Later (W.counts world.old) (W.counts world.new) }
     ensures same { W.names world.new ≡ W.names world.old }
 {
     match print_derivation(alloc, names, derivation) {
@@ -239,8 +235,7 @@ fn build_phrase<W: World>(
     requires stack { (1024 ≤ stack_words) × (stack_words ≤ 16777216) }
     ensures keeps { Keeps (image_of stack_words (reads p.now)) name.now (W.holds world.old) (W.holds world.new) result }
     ensures own { IfOk result IsOwn }
-    ensures caused { IfErr result (λ stop. Caused [] (name.now ∷ []) stop (W.counts world.old) (W.counts world.new)) }
-    ensures later { Later (W.counts world.old) (W.counts world.new) }
+    ensures counted { Counted [] (name.now ∷ []) (W.counts world.old) (W.counts world.new) result }
     ensures same { W.names world.new ≡ W.names world.old }
 {
     let image = match image_of(alloc, p, stack_words) {
@@ -280,8 +275,7 @@ fn keep_and_run<W: World>(
     requires { IsImage image.now }
     ensures runs { KeepsAndRuns image.now steps name.now (W.holds world.old) (W.holds world.new) result }
     ensures own { IfOk result IsOwn }
-    ensures caused { IfErr result (λ stop. Caused [] (name.now ∷ []) stop (W.counts world.old) (W.counts world.new)) }
-    ensures later { Later (W.counts world.old) (W.counts world.new) }
+    ensures counted { Counted [] (name.now ∷ []) (W.counts world.old) (W.counts world.new) result }
     ensures same { W.names world.new ≡ W.names world.old }
 {
     let mut machine = match load(alloc, image) {
@@ -308,8 +302,7 @@ fn run_phrase<W: World>(
     requires stack { (1024 ≤ stack_words) × (stack_words ≤ 16777216) }
     ensures runs { KeepsAndRuns (image_of stack_words (reads p.now)) steps name.now (W.holds world.old) (W.holds world.new) result }
     ensures own { IfOk result IsOwn }
-    ensures caused { IfErr result (λ stop. Caused [] (name.now ∷ []) stop (W.counts world.old) (W.counts world.new)) }
-    ensures later { Later (W.counts world.old) (W.counts world.new) }
+    ensures counted { Counted [] (name.now ∷ []) (W.counts world.old) (W.counts world.new) result }
     ensures same { W.names world.new ≡ W.names world.old }
 {
     let image = match image_of(alloc, p, stack_words) {
@@ -386,8 +379,7 @@ fn list_image<W: World>(alloc: Global, image: &Image, world: &mut W) -> Result<u
     requires { IsImage image.now }
     ensures did { (program : Program) → IsProgramOf image.now program → Did (listed program) (W.holds world.old) (W.holds world.new) result }
     ensures own { IfOk result IsOwn }
-    ensures caused { IfErr result (λ stop. Caused [] [] stop (W.counts world.old) (W.counts world.new)) }
-    ensures later { Later (W.counts world.old) (W.counts world.new) }
+    ensures counted { Counted [] [] (W.counts world.old) (W.counts world.new) result }
     ensures same { W.names world.new ≡ W.names world.old }
 {
     let mut pc = CODE_START;

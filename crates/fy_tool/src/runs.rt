@@ -1,7 +1,7 @@
 //! Runs of images and of phrases, and how they are told.
 
 ghost use Rattle.std.specs.Prelude.{◌≡◌, ◌≢◌, ◌≤◌, ◌++◌, [], ◌∷◌, ◌⊎◌, Some, None, Err, OnOk, OnErr, IfOk, IfErr, map};
-ghost use Rattle.fy_base.specs.Outside.{Rose, GainedPart, appended};
+ghost use Rattle.fy_base.specs.Outside.{GainedPart, appended};
 ghost use Rattle.fy_derive.specs.Typing.{HasType};
 ghost use Rattle.fy_phrase.specs.Reads.{reads};
 ghost use Rattle.fy_phrase.specs.Sizes.{depth};
@@ -9,11 +9,11 @@ ghost use Rattle.fy_types.specs.Types.{atom};
 ghost use Rattle.fy_types.specs.declared.types.Atom.TheVariants.{Comm};
 ghost use Rattle.rv_insn.specs.declared.events.Status.TheVariants.{Running};
 ghost use Rattle.rv_insn.specs.Program.{Program, AreRead};
-ghost use Rattle.fy_tool.specs.World.{Later};
+ghost use Rattle.fy_tool.specs.Counted.{Counted};
 ghost use Rattle.fy_tool.specs.Note.{texts, ended_lines};
 ghost use Rattle.fy_tool.specs.Shown.{shown};
 ghost use Rattle.fy_tool.specs.Due.{status_of, note_of, end_notes, copy_notes};
-ghost use Rattle.fy_tool.specs.Answers.{Caused, IsOwn};
+ghost use Rattle.fy_tool.specs.Answers.{IsOwn};
 ghost use Rattle.fy_tool.specs.Working.{IsUnbegun, AreFetched, TellsLines, HasRun, HasCopied};
 
 use crate::note::Note;
@@ -59,8 +59,7 @@ fn tell_end<W: World>(run: MachineRun, world: &mut W) -> Result<(), Stop>
     ensures rest { W.holds world.new ≡ record (W.holds world.old) { notes = (W.holds world.new).notes } }
     ensures part { OnErr result (GainedPart (W.holds world.old).notes (W.holds world.new).notes (ended_lines (texts (end_notes run.end run.steps)))) }
     ensures stop { IfErr result (λ stop. stop ≡ Stop.Notes) }
-    ensures rose { OnErr result (Rose (W.counts world.old).notes (W.counts world.new).notes) }
-    ensures later { Later (W.counts world.old) (W.counts world.new) }
+    ensures counted { Counted [] [] (W.counts world.old) (W.counts world.new) result }
     ensures same { W.names world.new ≡ W.names world.old }
 {
     let count = Note::Instructions(run.steps);
@@ -74,9 +73,8 @@ fn tell_end<W: World>(run: MachineRun, world: &mut W) -> Result<(), Stop>
 fn tell_trace<W: World>(alloc: Global, mut trace: Trace, world: &mut W) -> Result<(), Stop>
     ensures told { (program : Program) → AreFetched program trace.words.items → TellsLines (map (shown program) trace.words.items) (W.holds world.old) (W.holds world.new) result }
     ensures rest { W.holds world.new ≡ record (W.holds world.old) { notes = (W.holds world.new).notes } }
-    ensures caused { IfErr result (λ stop. Caused [] [] stop (W.counts world.old) (W.counts world.new)) }
+    ensures counted { Counted [] [] (W.counts world.old) (W.counts world.new) result }
     ensures input { result ≢ Err Stop.Input }
-    ensures later { Later (W.counts world.old) (W.counts world.new) }
     ensures same { W.names world.new ≡ W.names world.old }
 {
     while let Some(fetched) = trace.pop() {
@@ -96,9 +94,8 @@ pub fn run_machine<W: World>(machine: &mut Machine, steps: u64, world: &mut W) -
     requires { machine.old.core.status ≡ Running }
     ensures run { HasRun machine.old.program machine.old.core steps None None (W.holds world.old) (W.holds world.new) result }
     ensures own { IfOk result IsOwn }
-    ensures caused { IfErr result (λ stop. Caused [] [] stop (W.counts world.old) (W.counts world.new)) }
+    ensures counted { Counted [] [] (W.counts world.old) (W.counts world.new) result }
     ensures memory { result ≢ Err Stop.Memory }
-    ensures later { Later (W.counts world.old) (W.counts world.new) }
     ensures same { W.names world.new ≡ W.names world.old }
 {
     let run = world.run(machine, &mut Unwatched, steps);
@@ -122,9 +119,8 @@ fn tell_traced<W: World>(
     ensures told { (program : Program) → AreFetched program trace.words.items
         → TellsLines (map (shown program) trace.words.items ++ texts (end_notes run.end run.steps)) (W.holds world.old) (W.holds world.new) result }
     ensures rest { W.holds world.new ≡ record (W.holds world.old) { notes = (W.holds world.new).notes } }
-    ensures caused { IfErr result (λ stop. Caused [] [] stop (W.counts world.old) (W.counts world.new)) }
+    ensures counted { Counted [] [] (W.counts world.old) (W.counts world.new) result }
     ensures input { result ≢ Err Stop.Input }
-    ensures later { Later (W.counts world.old) (W.counts world.new) }
     ensures same { W.names world.new ≡ W.names world.old }
 {
     match tell_trace(alloc, trace, world) {
@@ -147,8 +143,7 @@ pub fn run_traced<W: World>(
     ensures run { IsUnbegun (W.holds world.old) (W.holds world.new) result
         ⊎ HasRun machine.old.program machine.old.core steps (Some count) None (W.holds world.old) (W.holds world.new) result }
     ensures own { IfOk result IsOwn }
-    ensures caused { IfErr result (λ stop. Caused [] [] stop (W.counts world.old) (W.counts world.new)) }
-    ensures later { Later (W.counts world.old) (W.counts world.new) }
+    ensures counted { Counted [] [] (W.counts world.old) (W.counts world.new) result }
     ensures same { W.names world.new ≡ W.names world.old }
 {
     let mut trace = match Trace::new(alloc, count) {
@@ -172,8 +167,7 @@ fn tell_copy<W: World>(run: CopyRun, world: &mut W) -> Result<(), Stop>
     ensures rest { W.holds world.new ≡ record (W.holds world.old) { notes = (W.holds world.new).notes } }
     ensures part { OnErr result (GainedPart (W.holds world.old).notes (W.holds world.new).notes (ended_lines (texts (copy_notes run.end run.steps run.peak)))) }
     ensures stop { IfErr result (λ stop. stop ≡ Stop.Notes) }
-    ensures rose { OnErr result (Rose (W.counts world.old).notes (W.counts world.new).notes) }
-    ensures later { Later (W.counts world.old) (W.counts world.new) }
+    ensures counted { Counted [] [] (W.counts world.old) (W.counts world.new) result }
     ensures same { W.names world.new ≡ W.names world.old }
 {
     let count = Note::Copied {
@@ -198,8 +192,7 @@ pub fn run_copied<W: World>(
     requires steps { steps ≤ 1000000000 }
     ensures run { HasCopied (reads p.now) steps (W.holds world.old) (W.holds world.new) result }
     ensures own { IfOk result IsOwn }
-    ensures caused { IfErr result (λ stop. Caused [] [] stop (W.counts world.old) (W.counts world.new)) }
-    ensures later { Later (W.counts world.old) (W.counts world.new) }
+    ensures counted { Counted [] [] (W.counts world.old) (W.counts world.new) result }
     ensures same { W.names world.new ≡ W.names world.old }
 {
     let run = match world.copy(alloc, p, steps) {

@@ -3,8 +3,8 @@
 ghost use Rattle.std.specs.Prelude.{◌≡◌, ◌≢◌, ◌≤◌, [], ◌∷◌, length, IfOk, IfErr};
 ghost use Rattle.fy_image.specs.Ranges.{IsImage};
 ghost use Rattle.fy_phrase.specs.Reads.{reads};
-ghost use Rattle.fy_tool.specs.World.{Later};
-ghost use Rattle.fy_tool.specs.Answers.{Caused, IsOwn};
+ghost use Rattle.fy_tool.specs.Counted.{Counted};
+ghost use Rattle.fy_tool.specs.Answers.{IsOwn};
 ghost use Rattle.fy_small.specs.Said.{IsCommand, puts_of, image_of};
 ghost use Rattle.fy_tool.specs.Working.{Judged, Reads, Keeps};
 
@@ -34,9 +34,8 @@ fn judge(alloc: Global, text: &[u8]) -> Result<Option<Phrase>, Stop>
 pub fn source<W: World>(alloc: Global, file: &str, world: &mut W) -> Result<Option<Phrase>, Stop>
     ensures holds { W.holds world.new ≡ W.holds world.old }
     ensures read { Reads file.now (W.holds world.old).files result }
-    ensures caused { IfErr result (λ stop. Caused (file.now ∷ []) [] stop (W.counts world.old) (W.counts world.new)) }
+    ensures counted { Counted (file.now ∷ []) [] (W.counts world.old) (W.counts world.new) result }
     ensures input { IfErr result (λ stop. stop ≢ Stop.Input) }
-    ensures later { Later (W.counts world.old) (W.counts world.new) }
     ensures same { W.names world.new ≡ W.names world.old }
 {
     let Some(text) = world.fetch(alloc, file, TEXT_LIMIT)? else {
@@ -71,8 +70,7 @@ pub fn keep_image<W: World>(
     requires { IsImage image.now }
     ensures keeps { Keeps image.now name.now (W.holds world.old) (W.holds world.new) result }
     ensures own { IfOk result IsOwn }
-    ensures caused { IfErr result (λ stop. Caused [] (name.now ∷ []) stop (W.counts world.old) (W.counts world.new)) }
-    ensures later { Later (W.counts world.old) (W.counts world.new) }
+    ensures counted { Counted [] (name.now ∷ []) (W.counts world.old) (W.counts world.new) result }
     ensures same { W.names world.new ≡ W.names world.old }
 {
     let bytes = match write_image(alloc, image) {

@@ -1,24 +1,22 @@
 //! Lines at notes.
 
 ghost use Rattle.std.specs.Prelude.{◌≡◌, ◌≢◌, [], ◌∷◌, Err, OnOk, OnErr, IfOk, IfErr};
-ghost use Rattle.fy_base.specs.Outside.{Rose, GainedPart, appended};
-ghost use Rattle.fy_tool.specs.World.{Later};
+ghost use Rattle.fy_base.specs.Outside.{GainedPart, appended};
+ghost use Rattle.fy_tool.specs.Counted.{Counted};
 ghost use Rattle.fy_tool.specs.Note.{texts, ended_lines};
 ghost use Rattle.fy_tool.specs.Due.{told};
-ghost use Rattle.fy_tool.specs.Answers.{Caused, Did, IsOwn, Concludes};
+ghost use Rattle.fy_tool.specs.Answers.{Did, IsOwn, Concludes};
 
 use crate::note::{Note, line_of};
 use crate::world::{Stop, World};
 
 /// Puts a line for each note.
-#[tactic(auto, using(crate::proofs::Contents::later_more))]
 pub fn tell<W: World>(notes: &[Note], world: &mut W) -> Result<(), Stop>
     ensures told { OnOk result (W.holds world.new ≡ record (W.holds world.old) { notes = appended (W.holds world.old).notes (ended_lines (texts notes.now)) }) }
     ensures rest { W.holds world.new ≡ record (W.holds world.old) { notes = (W.holds world.new).notes } }
     ensures part { OnErr result (GainedPart (W.holds world.old).notes (W.holds world.new).notes (ended_lines (texts notes.now))) }
     ensures stop { IfErr result (λ stop. stop ≡ Stop.Notes) }
-    ensures rose { OnErr result (Rose (W.counts world.old).notes (W.counts world.new).notes) }
-    ensures later { Later (W.counts world.old) (W.counts world.new) }
+    ensures counted { Counted [] [] (W.counts world.old) (W.counts world.new) result }
     ensures same { W.names world.new ≡ W.names world.old }
 {
     for note in notes {
@@ -33,9 +31,8 @@ pub fn refuse<W: World>(status: u8, why: Note, world: &mut W) -> Result<u8, Stop
     requires { IsOwn status }
     ensures did { Did (told status (why ∷ [])) (W.holds world.old) (W.holds world.new) result }
     ensures own { IfOk result IsOwn }
-    ensures caused { IfErr result (λ stop. Caused [] [] stop (W.counts world.old) (W.counts world.new)) }
+    ensures counted { Counted [] [] (W.counts world.old) (W.counts world.new) result }
     ensures memory { result ≢ Err Stop.Memory }
-    ensures later { Later (W.counts world.old) (W.counts world.new) }
     ensures same { W.names world.new ≡ W.names world.old }
 {
     tell(&[why], world)?;
@@ -56,7 +53,8 @@ pub fn conclude<W: World>(work: Result<u8, Stop>, world: &mut W) -> u8
                 Err(_) => 7,
             };
         }
-        Err(Stop::Files) => Note::OutsideFiles,
+        Err(Stop::Fetch) => Note::OutsideFiles,
+        Err(Stop::Keep) => Note::OutsideFiles,
         Err(Stop::Input) => Note::OutsideInput,
         Err(Stop::Output) => Note::OutsideOutput,
     };

@@ -1,16 +1,17 @@
 //! The four objects of a call as one.
 
-ghost use Rattle.std.specs.Prelude.{◌≡◌, ◌≤◌, OnOk, OnErr, IfOk, IfErr, MatchOption, List, [], ◌∷◌, Some, Err, length};
+ghost use Rattle.std.specs.Prelude.{◌≡◌, ◌≢◌, ◌≤◌, ◌⊎◌, OnOk, OnErr, IfOk, IfErr, MatchOption, List, [], ◌∷◌, Some, Err, length};
 ghost use Rattle.std.specs.Option.{ForSome};
 ghost use Rattle.std.specs.Borrow.{GName};
-ghost use Rattle.fy_base.specs.Outside.{Rose, GainedPart, Tells, IsLong, OthersStay, appended};
+ghost use Rattle.fy_base.specs.Outside.{GainedPart, Tells, IsLong, OthersStay, appended};
 ghost use Rattle.fy_copy.specs.Ends.{DoesPart, IsCopyEnd, RunsTo as CopyRunsTo};
 ghost use Rattle.fy_phrase.specs.Reads.{reads};
 ghost use Rattle.fy_phrase.specs.Sizes.{depth};
 ghost use Rattle.rv_machine.specs.Ends.{Watched, IsMachineEnd};
 ghost use Rattle.fy_tool.specs.Answers.{files_after};
 ghost use Rattle.rv_insn.specs.declared.events.Status.TheVariants.{Running};
-ghost use Rattle.fy_tool.specs.World.{Contents, Counts, Later};
+ghost use Rattle.fy_tool.specs.World.{Contents, Counts};
+ghost use Rattle.fy_tool.specs.Counted.{Counted, Faulted};
 
 use fy_base::{Ending, FetchError, Files, KeepError, OutOfMemory, Sink, Source};
 use fy_copy::{CopyRun, run_copy};
@@ -21,7 +22,10 @@ use std::alloc::Global;
 /// Why a call stopped.
 #[derive(Clone, Copy, PartialEq, Eq, Debug)]
 pub enum Stop {
-    Files,
+    /// A file wasn't fetched.
+    Fetch,
+    /// A file wasn't kept.
+    Keep,
     Input,
     Output,
     Notes,
@@ -42,11 +46,8 @@ pub trait World {
         ensures holds { holds self.new ≡ holds self.old }
         ensures content { IfOk result (λ content. MatchOption content (IsLong (holds self.old).files name.now limit)
             (λ bytes. Tells (holds self.old).files name.now (Some bytes.items) × (length bytes.items ≤ limit))) }
-        ensures files { result ≡ Err Stop.Files → Rose ((counts self.old).fetches name.now) ((counts self.new).fetches name.now) }
-        ensures input { result ≡ Err Stop.Input → ⊥ }
-        ensures output { result ≡ Err Stop.Output → ⊥ }
-        ensures notes { result ≡ Err Stop.Notes → ⊥ }
-        ensures later { Later (counts self.old) (counts self.new) }
+        ensures stop { IfErr result (λ stop. stop ≢ Stop.Input) }
+        ensures counted { Counted (name.now ∷ []) [] (counts self.old) (counts self.new) result }
         ensures same { names self.new ≡ names self.old };
 
     /// Makes the named file hold the bytes.
@@ -54,12 +55,9 @@ pub trait World {
         ensures kept { OnOk result (holds self.new ≡ record (holds self.old) { files = files_after (holds self.old).files (Some (name.now, bytes.now)) }) }
         ensures rest { holds self.new ≡ record (holds self.old) { files = (holds self.new).files } }
         ensures memory { result ≡ Err Stop.Memory → (holds self.new).files ≡ (holds self.old).files }
-        ensures unknown { result ≡ Err Stop.Files → OthersStay (holds self.old).files (holds self.new).files name.now }
-        ensures files { result ≡ Err Stop.Files → Rose ((counts self.old).keeps name.now) ((counts self.new).keeps name.now) }
-        ensures input { result ≡ Err Stop.Input → ⊥ }
-        ensures output { result ≡ Err Stop.Output → ⊥ }
-        ensures notes { result ≡ Err Stop.Notes → ⊥ }
-        ensures later { Later (counts self.old) (counts self.new) }
+        ensures unknown { result ≡ Err Stop.Keep → OthersStay (holds self.old).files (holds self.new).files name.now }
+        ensures stop { IfErr result (λ stop. (stop ≡ Stop.Keep) ⊎ (stop ≡ Stop.Memory)) }
+        ensures counted { Counted [] (name.now ∷ []) (counts self.old) (counts self.new) result }
         ensures same { names self.new ≡ names self.old };
 
     /// Puts bytes to the notes.
@@ -68,8 +66,7 @@ pub trait World {
         ensures rest { holds self.new ≡ record (holds self.old) { notes = (holds self.new).notes } }
         ensures part { OnErr result (GainedPart (holds self.old).notes (holds self.new).notes bytes.now) }
         ensures stop { IfErr result (λ stop. stop ≡ Stop.Notes) }
-        ensures rose { OnErr result (Rose (counts self.old).notes (counts self.new).notes) }
-        ensures later { Later (counts self.old) (counts self.new) }
+        ensures counted { Counted [] [] (counts self.old) (counts self.new) result }
         ensures same { names self.new ≡ names self.old };
 
     /// Puts bytes to the output.
@@ -78,8 +75,7 @@ pub trait World {
         ensures rest { holds self.new ≡ record (holds self.old) { output = (holds self.new).output } }
         ensures part { OnErr result (GainedPart (holds self.old).output (holds self.new).output bytes.now) }
         ensures stop { IfErr result (λ stop. stop ≡ Stop.Output) }
-        ensures rose { OnErr result (Rose (counts self.old).output (counts self.new).output) }
-        ensures later { Later (counts self.old) (counts self.new) }
+        ensures counted { Counted [] [] (counts self.old) (counts self.new) result }
         ensures same { names self.new ≡ names self.old };
 
     /// Runs a machine on the input and the output, and tells the watch of each word that is fetched.
@@ -92,9 +88,9 @@ pub trait World {
         ensures steps { result.steps ≤ steps }
         ensures rest { holds self.new ≡ record (holds self.old) { input = (holds self.new).input; output = (holds self.new).output } }
         ensures end { IsMachineEnd result.end }
-        ensures input_fault { result.end ≡ Ending.InputFault → Rose (counts self.old).input (counts self.new).input }
-        ensures output_fault { result.end ≡ Ending.OutputFault → Rose (counts self.old).output (counts self.new).output }
-        ensures later { Later (counts self.old) (counts self.new) }
+        ensures input_fault { result.end ≡ Ending.InputFault → Faulted [] [] Stop.Input (counts self.old) (counts self.new) }
+        ensures output_fault { result.end ≡ Ending.OutputFault → Faulted [] [] Stop.Output (counts self.old) (counts self.new) }
+        ensures quiet { result.end ≢ Ending.InputFault → result.end ≢ Ending.OutputFault → counts self.new ≡ counts self.old }
         ensures same { names self.new ≡ names self.old };
 
     /// Runs a phrase by the copy rule on the input and the output.
@@ -109,9 +105,10 @@ pub trait World {
         ensures rest { holds self.new ≡ record (holds self.old) { input = (holds self.new).input; output = (holds self.new).output } }
         ensures end { IfOk result (λ done. IsCopyEnd done.end) }
         ensures stop { IfErr result (λ stop. stop ≡ Stop.Memory) }
-        ensures input_fault { IfOk result (λ done. done.end ≡ Ending.InputFault → Rose (counts self.old).input (counts self.new).input) }
-        ensures output_fault { IfOk result (λ done. done.end ≡ Ending.OutputFault → Rose (counts self.old).output (counts self.new).output) }
-        ensures later { Later (counts self.old) (counts self.new) }
+        ensures input_fault { IfOk result (λ done. done.end ≡ Ending.InputFault → Faulted [] [] Stop.Input (counts self.old) (counts self.new)) }
+        ensures output_fault { IfOk result (λ done. done.end ≡ Ending.OutputFault → Faulted [] [] Stop.Output (counts self.old) (counts self.new)) }
+        ensures quiet { IfOk result (λ done. done.end ≢ Ending.InputFault → done.end ≢ Ending.OutputFault → counts self.new ≡ counts self.old) }
+        ensures memory_quiet { OnErr result (counts self.new ≡ counts self.old) }
         ensures same { names self.new ≡ names self.old };
 }
 
@@ -136,8 +133,8 @@ impl<F: Files, I: Source, O: Sink, N: Sink> World for Outside<'_, '_, '_, '_, F,
             Ok(bytes) => Ok(Some(bytes)),
             Err(FetchError::TooLong) => Ok(None),
             Err(FetchError::OutOfMemory) => Err(Stop::Memory),
-            Err(FetchError::Missing) => Err(Stop::Files),
-            Err(FetchError::Failed) => Err(Stop::Files),
+            Err(FetchError::Missing) => Err(Stop::Fetch),
+            Err(FetchError::Failed) => Err(Stop::Fetch),
         }
     }
 
@@ -151,7 +148,7 @@ impl<F: Files, I: Source, O: Sink, N: Sink> World for Outside<'_, '_, '_, '_, F,
     fn keep(&mut self, alloc: Global, name: &str, bytes: &[u8]) -> Result<(), Stop> {
         match self.files.keep(alloc, name, bytes) {
             Ok(()) => Ok(()),
-            Err(KeepError::Failed) => Err(Stop::Files),
+            Err(KeepError::Failed) => Err(Stop::Keep),
             Err(KeepError::OutOfMemory) => Err(Stop::Memory),
         }
     }

@@ -3,18 +3,18 @@ use Rattle.fy_tool.proofs.Serving.{after, serves_unread, serves_accepted, serves
 use Rattle.fy_tool.proofs.commands.check_file.Goals as goal
 
 pub returns-in-Err-clause-serves : goal.returns-in-Err-clause-serves
-returns-in-Err-clause-serves g c = serves_unread (check c.args.file.now) _ _ _ _ c.in-Err.stop c.in-Err.ensures.holds c.in-Err.ensures.later c.in-Err.ensures.caused c.in-Err.ensures.input
+returns-in-Err-clause-serves g c = serves_unread (check c.args.file.now) _ _ _ _ c.in-Err.stop c.in-Err.ensures.holds c.in-Err.ensures.counted c.in-Err.ensures.input
 
 pub returns-in-Ok-Err-clause-serves : goal.returns-in-Ok-Err-clause-serves
 returns-in-Ok-Err-clause-serves g c =
     let h = rw c.in-Ok-Err.field-0-is at c.in-Ok-Err.ensures.read in
     let order = check c.args.file.now in
     serves_faulted order h.0 c.in-Ok-Err.why _ _ _ _ _ _ _ tt h.2
-    (after order h.0 _ _ _ _ _ _ _ h.1 c.in-Ok-Err.ensures.holds c.in-Ok-Err.ensures.later c.refuse.ensures.later c.refuse.ensures.own c.refuse.ensures.caused) c.refuse.ensures.memory c.refuse.ensures.did
+    (after order h.0 _ _ _ _ _ _ _ h.1 c.in-Ok-Err.ensures.holds c.in-Ok-Err.ensures.counted c.refuse.ensures.own c.refuse.ensures.counted) c.refuse.ensures.memory c.refuse.ensures.did
 
 pub returns-clause-serves : goal.returns-clause-serves
 returns-clause-serves g c =
     let h = rw c.in-Ok-Ok.field-0-is at c.in-Ok-Ok.ensures.read in
     let order = check c.args.file.now in
     serves_accepted c.args.file.now h.0 _ _ _ _ _ _ _ (record { phrase = _; is_program = h.2.is_program })
-    (after order h.0 _ _ _ _ _ _ _ h.1 c.in-Ok-Ok.ensures.holds c.in-Ok-Ok.ensures.later c.write.ensures.later c.write.ensures.own c.write.ensures.caused) c.write.ensures.memory c.write.ensures.did
+    (after order h.0 _ _ _ _ _ _ _ h.1 c.in-Ok-Ok.ensures.holds c.in-Ok-Ok.ensures.counted c.write.ensures.own c.write.ensures.counted) c.write.ensures.memory c.write.ensures.did

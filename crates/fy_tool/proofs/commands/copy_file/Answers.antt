@@ -6,14 +6,14 @@ use Rattle.fy_tool.proofs.Serving.{after, serves_unread, serves_copied, serves_f
 use Rattle.fy_tool.proofs.commands.copy_file.Goals as goal
 
 pub returns-in-Err-clause-serves : goal.returns-in-Err-clause-serves
-returns-in-Err-clause-serves g c = serves_unread (copy c.args.file.now c.args.steps) _ _ _ _ c.in-Err.stop c.in-Err.ensures.holds c.in-Err.ensures.later c.in-Err.ensures.caused c.in-Err.ensures.input
+returns-in-Err-clause-serves g c = serves_unread (copy c.args.file.now c.args.steps) _ _ _ _ c.in-Err.stop c.in-Err.ensures.holds c.in-Err.ensures.counted c.in-Err.ensures.input
 
 pub returns-in-Ok-Err-clause-serves : goal.returns-in-Ok-Err-clause-serves
 returns-in-Ok-Err-clause-serves g c =
     let h = rw c.in-Ok-Err.field-0-is at c.in-Ok-Err.ensures.read in
     let order = copy c.args.file.now c.args.steps in
     serves_faulted order h.0 c.in-Ok-Err.why _ _ _ _ _ _ _ tt h.2
-    (after order h.0 _ _ _ _ _ _ _ h.1 c.in-Ok-Err.ensures.holds c.in-Ok-Err.ensures.later c.refuse.ensures.later c.refuse.ensures.own c.refuse.ensures.caused) c.refuse.ensures.memory c.refuse.ensures.did
+    (after order h.0 _ _ _ _ _ _ _ h.1 c.in-Ok-Err.ensures.holds c.in-Ok-Err.ensures.counted c.refuse.ensures.own c.refuse.ensures.counted) c.refuse.ensures.memory c.refuse.ensures.did
 
 pub returns-in-Ok-Ok-clause-serves : goal.returns-in-Ok-Ok-clause-serves
 returns-in-Ok-Ok-clause-serves g c =
@@ -21,5 +21,5 @@ returns-in-Ok-Ok-clause-serves g c =
     let order = copy c.args.file.now c.args.steps in
     let holds = g.W.World.holds in
     serves_copied c.args.file.now c.args.steps h.0 (reads c.in-Ok-Ok.program.phrase) _ _ _ _ _ _ _ h.2.is_program
-    (after order h.0 _ _ _ _ _ _ _ h.1 c.in-Ok-Ok.ensures.holds c.in-Ok-Ok.ensures.later c.run_copied.ensures.later c.run_copied.ensures.own c.run_copied.ensures.caused)
+    (after order h.0 _ _ _ _ _ _ _ h.1 c.in-Ok-Ok.ensures.holds c.in-Ok-Ok.ensures.counted c.run_copied.ensures.own c.run_copied.ensures.counted)
     (subst (λ steps. HasCopied (reads c.in-Ok-Ok.program.phrase) steps (holds c.program_in.new.world) (holds c.run_copied.new.world) c.run_copied.result) c.copy_wanted.ensures c.run_copied.ensures.run)

@@ -3,19 +3,19 @@ use Rattle.fy_tool.proofs.Serving.{after, serves_unread, serves_derived, serves_
 use Rattle.fy_tool.proofs.commands.derive_file.Goals as goal
 
 pub returns-in-Err-clause-serves : goal.returns-in-Err-clause-serves
-returns-in-Err-clause-serves g c = serves_unread (derive c.args.file.now) _ _ _ _ c.in-Err.stop c.in-Err.ensures.holds c.in-Err.ensures.later c.in-Err.ensures.caused c.in-Err.ensures.input
+returns-in-Err-clause-serves g c = serves_unread (derive c.args.file.now) _ _ _ _ c.in-Err.stop c.in-Err.ensures.holds c.in-Err.ensures.counted c.in-Err.ensures.input
 
 pub returns-in-Ok-Err-clause-serves : goal.returns-in-Ok-Err-clause-serves
 returns-in-Ok-Err-clause-serves g c =
     let h = rw c.in-Ok-Err.field-0-is at c.in-Ok-Err.ensures.read in
     let order = derive c.args.file.now in
     serves_faulted order h.0 c.in-Ok-Err.why _ _ _ _ _ _ _ tt h.2
-    (after order h.0 _ _ _ _ _ _ _ h.1 c.in-Ok-Err.ensures.holds c.in-Ok-Err.ensures.later c.refuse.ensures.later c.refuse.ensures.own c.refuse.ensures.caused) c.refuse.ensures.memory c.refuse.ensures.did
+    (after order h.0 _ _ _ _ _ _ _ h.1 c.in-Ok-Err.ensures.holds c.in-Ok-Err.ensures.counted c.refuse.ensures.own c.refuse.ensures.counted) c.refuse.ensures.memory c.refuse.ensures.did
 
 pub returns-in-Ok-Ok-clause-serves : goal.returns-in-Ok-Ok-clause-serves
 returns-in-Ok-Ok-clause-serves g c =
     let h = rw c.in-Ok-Ok.field-0-is at c.in-Ok-Ok.ensures.read in
     let order = derive c.args.file.now in
     serves_derived c.args.file.now h.0 c.in-Ok-Ok.program _ _ _ _ _ _ _ h.2
-    (after order h.0 _ _ _ _ _ _ _ h.1 c.in-Ok-Ok.ensures.holds c.in-Ok-Ok.ensures.later c.write_derivation.ensures.later c.write_derivation.ensures.own c.write_derivation.ensures.caused)
+    (after order h.0 _ _ _ _ _ _ _ h.1 c.in-Ok-Ok.ensures.holds c.in-Ok-Ok.ensures.counted c.write_derivation.ensures.own c.write_derivation.ensures.counted)
     c.write_derivation.ensures.ready c.write_derivation.ensures.did

@@ -1,12 +1,11 @@
 use Rattle.std.proofs.Common.{◌∙◌, refl, sym, ap, arith, length}
 use Rattle.std.proofs.lemmas.List.{get_or_default}
 use Rattle.fy_tool.specs.declared.world.Stop.TheVariants.{Memory}
-use Rattle.fy_tool.proofs.Contents.{later_same, later_more}
 use Rattle.fy_tool.proofs.Listing.{listed_first, listed_next, listed_short, listed_part, listed_all, at_words, line_at}
 use Rattle.fy_tool.proofs.commands.list_image.Goals as goal
 
 pub loop-word-init : goal.loop-word-init
-loop-word-init g c = record { at = refl; listed = λ program of. listed_first program _; later = later_same _; same = refl }
+loop-word-init g c = record { at = refl; listed = λ program of. listed_first program _; counts = refl; same = refl }
 
 pub returns-in-Err-clause-did : goal.returns-in-Err-clause-did
 returns-in-Err-clause-did g c = λ program of. listed_short program c.loop-word.word-index _ _ Memory refl (c.loop-word.invariant.listed program of)
@@ -30,6 +29,6 @@ loop-word-preserved g c = record {
       let here = at_words c.as_slice-word-items.result.now c.args.image.now program c.loop-word.word-index _ c.as_slice-word-items.ensures of c.loop-word-test.true (get_or_default _ _ _ _ c.loop-word-test.true) in
       listed_next c.args.image.now program c.loop-word.word-index _ c.in-Ok.ensures.0 c.as_slice.result.now _ (g.W.World.holds c.loop-word.world) (g.W.World.holds c.put.new.self) of here.0 here.1 c.in-Ok.ensures.1
       (line_at c.loop-word.pc c.loop-word.word-index _ c.in-Ok.ensures.0 c.as_slice.result.now c.loop-word.invariant.at (c.as_slice.ensures.value ∙ c.in-Ok.ensures.2)) (c.loop-word.invariant.listed program of) c.in_default.ensures.put;
-  later = later_more _ _ _ c.loop-word.invariant.later c.in_default.ensures.later;
+  counts = c.in_default.ensures.counted ∙ c.loop-word.invariant.counts;
   same = c.in_default.ensures.same ∙ c.loop-word.invariant.same;
 }

@@ -1,7 +1,6 @@
 use Rattle.std.proofs.Common.{◌≡◌, ◌+◌, ◌*◌}
 use Rattle.rv_insn.specs.Program.{Program}
 use Rattle.rv_machine.specs.Start.{IsProgramOf}
-use Rattle.fy_tool.specs.World.{Later}
 use Rattle.fy_tool.proofs.Listing.{ListedTo}
 use Rattle.fy_tool.proofs.commands.list_image.Given as goal
 
@@ -12,6 +11,6 @@ invariant-loop-word g l =
     record {
       at : l.pc ≡ 65536 + 4 * l.word-index;
       listed : (program : Program) → IsProgramOf l.image program → ListedTo program l.word-index (holds l.initial.world) (holds l.world);
-      later : Later (g.W.World.counts l.initial.world) (g.W.World.counts l.world);
+      counts : g.W.World.counts l.world ≡ g.W.World.counts l.initial.world;
       same : g.W.World.names l.world ≡ g.W.World.names l.initial.world;
     }

@@ -1,9 +1,6 @@
-use Rattle.std.proofs.Common.{◌≡◌, ◌∙◌, refl}
 use Rattle.fy_phrase.specs.Reads.{reads}
 use Rattle.fy_derive.proofs.RunSafety.{typed-never_stuck}
-use Rattle.fy_tool.specs.declared.world.Stop.TheVariants.{Input, Output, Memory}
-use Rattle.fy_tool.proofs.Contents.{later_more}
-use Rattle.fy_tool.proofs.Executing.{notes_caused}
+use Rattle.fy_tool.proofs.Counting.{faulted_after}
 use Rattle.fy_tool.proofs.Copying.{copied_unfinished, copied_unread, copied_unwritten, copied_told, copied_untold}
 use Rattle.fy_tool.proofs.runs.run_copied.Goals as goal
 
@@ -29,5 +26,5 @@ returns-in-Err-tell_copy-clause-run g c =
     copied_untold (reads c.args.p.now) c.args.steps _ (g.W.World.holds c.copy.new.self) (g.W.World.holds c.tell_copy.new.world) c.in-Ok.run' c.in-Err-tell_copy.stop (typed-never_stuck _ c.requires.command) c.in-Ok.ensures.end
     c.in_default.not-InputFault c.in_default.not-OutputFault c.in-Ok.ensures.steps c.in-Ok.ensures.did c.copy.ensures.rest c.in-Err-tell_copy.ensures.rest c.in-Err-tell_copy.ensures.part c.in-Err-tell_copy.ensures.stop
 
-pub returns-in-Err-tell_copy-clause-caused : goal.returns-in-Err-tell_copy-clause-caused
-returns-in-Err-tell_copy-clause-caused g c = notes_caused c.in-Err-tell_copy.stop _ _ _ c.in-Err-tell_copy.ensures.stop c.copy.ensures.later c.in-Err-tell_copy.ensures.rose
+pub returns-in-Err-tell_copy-clause-counted : goal.returns-in-Err-tell_copy-clause-counted
+returns-in-Err-tell_copy-clause-counted g c = faulted_after _ _ _ _ _ _ (c.in-Ok.ensures.quiet c.in_default.not-InputFault c.in_default.not-OutputFault) c.in-Err-tell_copy.ensures.counted

@@ -1,7 +1,7 @@
 use Rattle.std.proofs.Common.{◌≡◌, ◌∙◌, refl}
 use Rattle.fy_tool.specs.declared.world.Stop.TheVariants.{Input, Output, Memory}
-use Rattle.fy_tool.proofs.Contents.{later_more}
-use Rattle.fy_tool.proofs.Executing.{run_faulted, run_untold, notes_caused, notes_only}
+use Rattle.fy_tool.proofs.Counting.{faulted_after}
+use Rattle.fy_tool.proofs.Executing.{run_faulted, run_untold, notes_only}
 use Rattle.std.proofs.Common.{None}
 use Rattle.fy_tool.proofs.runs.run_machine.Goals as goal
 
@@ -18,8 +18,7 @@ returns-in-Err g c = record {
   run = run_untold _ _ c.args.steps _ (g.W.World.holds c.run-run.new.self) (g.W.World.holds c.tell_end.new.world) c.run-run.result _ c.in-Err.stop c.run-run.ensures.end c.in_default.not-InputFault c.in_default.not-OutputFault c.run-run.ensures.steps
       c.run-run.ensures.did.runs c.run-run.ensures.rest c.in-Err.ensures.rest c.in-Err.ensures.part c.in-Err.ensures.stop;
   own = tt;
-  caused = notes_caused c.in-Err.stop _ _ _ c.in-Err.ensures.stop c.run-run.ensures.later c.in-Err.ensures.rose;
+  counted = faulted_after _ _ _ _ _ _ (c.run-run.ensures.quiet c.in_default.not-InputFault c.in_default.not-OutputFault) c.in-Err.ensures.counted;
   memory = notes_only c.in-Err.stop Memory c.in-Err.ensures.stop (λ e. cc) _ refl;
-  later = later_more _ _ _ c.run-run.ensures.later c.in-Err.ensures.later;
   same = c.in-Err.ensures.same ∙ c.run-run.ensures.same;
 }

@@ -1,4 +1,4 @@
-use Rattle.std.proofs.Common.{◌≡◌, ◌∙◌, [], ◌++◌, sym, ap, subst, map, Some, inr, List}
+use Rattle.std.proofs.Common.{◌≡◌, ◌∙◌, ◌++◌, sym, ap, subst, map, Some, inr, List}
 use Rattle.rv_machine.specs.Run.{going_world}
 use Rattle.rv_machine.specs.declared.watch.Fetched.{Fetched}
 use Rattle.fy_tool.specs.Note.{texts}
@@ -6,8 +6,7 @@ use Rattle.fy_tool.specs.Shown.{shown}
 use Rattle.fy_tool.specs.Due.{end_notes}
 use Rattle.fy_tool.specs.Working.{AreFetched}
 use Rattle.fy_tool.specs.declared.world.Stop.TheVariants.{Input, Output}
-use Rattle.fy_tool.proofs.Contents.{later_more}
-use Rattle.fy_tool.proofs.Parts.{if_caused_more}
+use Rattle.fy_tool.proofs.Counting.{faulted_after}
 use Rattle.fy_tool.proofs.Executing.{run_faulted, run_told, run_told_part}
 use Rattle.fy_tool.proofs.Tracing.{trace_is, are_fetched}
 use Rattle.std.proofs.Common.{Err}
@@ -35,8 +34,7 @@ returns-in-Ok-tell_traced g c =
       run = inr (run_told program _ c.args.steps (Some c.args.count) _ (g.W.World.holds c.run-run.new.self) (g.W.World.holds c.tell_traced.new.world) c.run-run.result _ lines c.status_of.result c.run-run.ensures.end c.in_default.not-InputFault c.in_default.not-OutputFault c.run-run.ensures.steps
           r c.run-run.ensures.rest (ap (λ ws. map (shown program) ws ++ texts (end_notes c.run-run.result.end n)) are) (c.in-Ok-tell_traced.ensures.told program fetched) c.status_of.ensures.status);
       own = c.status_of.ensures.own;
-      caused = tt;
-      later = later_more _ _ _ c.run-run.ensures.later c.in-Ok-tell_traced.ensures.later;
+      counted = c.in-Ok-tell_traced.ensures.counted ∙ c.run-run.ensures.quiet c.in_default.not-InputFault c.in_default.not-OutputFault;
       same = c.in-Ok-tell_traced.ensures.same ∙ c.run-run.ensures.same;
     }
 
@@ -55,7 +53,6 @@ returns-in-Err-tell_traced g c =
       run = inr (run_told_part program _ c.args.steps (Some c.args.count) _ (g.W.World.holds c.run-run.new.self) (g.W.World.holds c.tell_traced.new.world) c.run-run.result _ lines c.in-Err-tell_traced.stop c.run-run.ensures.end c.in_default.not-InputFault c.in_default.not-OutputFault c.run-run.ensures.steps
           r c.run-run.ensures.rest (ap (λ ws. map (shown program) ws ++ texts (end_notes c.run-run.result.end n)) are) c.in-Err-tell_traced.ensures.rest told.part told.whole (λ e. c.in-Err-tell_traced.ensures.input (ap (λ s. Err s) e)));
       own = tt;
-      caused = if_caused_more [] [] (Err c.in-Err-tell_traced.stop) _ _ _ c.run-run.ensures.later c.in-Err-tell_traced.ensures.caused;
-      later = later_more _ _ _ c.run-run.ensures.later c.in-Err-tell_traced.ensures.later;
+      counted = faulted_after _ _ _ _ _ _ (c.run-run.ensures.quiet c.in_default.not-InputFault c.in_default.not-OutputFault) c.in-Err-tell_traced.ensures.counted;
       same = c.in-Err-tell_traced.ensures.same ∙ c.run-run.ensures.same;
     }

@@ -1,12 +1,11 @@
 use Rattle.std.proofs.Common.{◌∙◌, refl, sym, ap}
 use Rattle.fy_tool.specs.World.{Contents}
 use Rattle.fy_tool.specs.declared.world.Stop.TheVariants.{Memory}
-use Rattle.fy_tool.proofs.Contents.{later_same, later_more}
 use Rattle.fy_tool.proofs.Tracing.{told_first, told_next, told_short, told_part, told_all, none_left}
 use Rattle.fy_tool.proofs.runs.tell_trace.Goals as goal
 
 pub loop-fetched-init : goal.loop-fetched-init
-loop-fetched-init g c = record { told = λ program f. told_first program c.args.trace.words.items _; rest = refl; later = later_same _; same = refl }
+loop-fetched-init g c = record { told = λ program f. told_first program c.args.trace.words.items _; rest = refl; counts = refl; same = refl }
 
 pub returns-in-Err-clause-told : goal.returns-in-Err-clause-told
 returns-in-Err-clause-told g c = λ program f. told_short program c.args.trace.words.items c.loop-fetched.trace.words.items _ _ Memory (c.loop-fetched.invariant.told program f)
@@ -22,7 +21,7 @@ loop-fetched-preserved g c = record {
       told_next program c.args.trace.words.items c.loop-fetched.trace.words.items c.pop.new.self.words.items c.in-Some.fetched c.as_slice.result.now c.in-Ok.ensures.0 _ (g.W.World.holds c.loop-fetched.world) (g.W.World.holds c.note.new.self) f
       (sym c.in-Some.is ∙ c.pop.ensures.word) c.pop.ensures.rest c.in-Ok.ensures.1 (c.as_slice.ensures.value ∙ c.in-Ok.ensures.2) (c.loop-fetched.invariant.told program f) c.in_default-note.ensures.put;
   rest = c.in_default-note.ensures.rest ∙ ap (λ (x : Contents). record x { notes = (g.W.World.holds c.note.new.self).notes }) c.loop-fetched.invariant.rest;
-  later = later_more _ _ _ c.loop-fetched.invariant.later c.in_default-note.ensures.later;
+  counts = c.in_default-note.ensures.counted ∙ c.loop-fetched.invariant.counts;
   same = c.in_default-note.ensures.same ∙ c.loop-fetched.invariant.same;
 }
 

@@ -1,6 +1,5 @@
 use Rattle.std.proofs.Common.{◌≡◌, length}
 use Rattle.rv_insn.specs.Program.{Program}
-use Rattle.fy_tool.specs.World.{Later}
 use Rattle.fy_tool.specs.Working.{AreFetched}
 use Rattle.fy_tool.proofs.Tracing.{ToldSoFar}
 use Rattle.fy_tool.proofs.runs.tell_trace.Given as goal
@@ -12,7 +11,7 @@ invariant-loop-fetched g l =
     record {
       told : (program : Program) → AreFetched program l.initial.trace.words.items → ToldSoFar program l.initial.trace.words.items l.trace.words.items (holds l.initial.world) (holds l.world);
       rest : holds l.world ≡ record (holds l.initial.world) { notes = (holds l.world).notes };
-      later : Later (g.W.World.counts l.initial.world) (g.W.World.counts l.world);
+      counts : g.W.World.counts l.world ≡ g.W.World.counts l.initial.world;
       same : g.W.World.names l.world ≡ g.W.World.names l.initial.world;
     }
 

@@ -10,5 +10,4 @@ returns-in-Ok-keep-clause-keeps g c =
 
 pub returns-clause-keeps : goal.returns-clause-keeps
 returns-clause-keeps g c =
-    keeps_failed c.args.image.now c.args.name.now c.in-Ok.bytes.items _ _ c.in-Err-keep.stop c.in-Ok.ensures c.in-Err-keep.ensures.rest (λ e. c.in-Err-keep.ensures.memory (ap (λ s. Err s) e)) (λ e. c.in-Err-keep.ensures.unknown (ap (λ s. Err s) e))
-    (λ e. c.in-Err-keep.ensures.input (ap (λ s. Err s) e)) (λ e. c.in-Err-keep.ensures.output (ap (λ s. Err s) e)) (λ e. c.in-Err-keep.ensures.notes (ap (λ s. Err s) e))
+    keeps_failed c.args.image.now c.args.name.now c.in-Ok.bytes.items _ _ c.in-Err-keep.stop c.in-Ok.ensures c.in-Err-keep.ensures.rest (λ e. c.in-Err-keep.ensures.memory (ap (λ s. Err s) e)) (λ e. c.in-Err-keep.ensures.unknown (ap (λ s. Err s) e)) c.in-Err-keep.ensures.stop

@@ -1,7 +1,6 @@
 use Rattle.std.proofs.Common.{◌∙◌}
 use Rattle.std.proofs.lemmas.List.{get_or_default}
 use Rattle.fy_tool.proofs.Lines.{put_line, part_line_err}
-use Rattle.fy_tool.proofs.Contents.{later_more}
 use Rattle.fy_tool.proofs.tell.tell.Goals as goal
 
 pub returns-in_err-note-clause-part : goal.returns-in_err-note-clause-part
@@ -17,6 +16,6 @@ loop-note-preserved g c = record {
       (get_or_default _ _ _ _ c.loop-note-test.true)
       (c.as_bytes.ensures.value ∙ c.as_str.ensures.value ∙ c.line_of-line.ensures)
       c.loop-note.invariant.told c.in_ok-note.ensures.put;
-  later = later_more _ _ _ c.loop-note.invariant.later c.in_ok-note.ensures.later;
+  counts = c.in_ok-note.ensures.counted ∙ c.loop-note.invariant.counts;
   same = c.in_ok-note.ensures.same ∙ c.loop-note.invariant.same;
 }

@@ -1,6 +1,5 @@
 use Rattle.std.proofs.Common.{◌≡◌, take}
 use Rattle.fy_base.specs.Outside.{appended}
-use Rattle.fy_tool.specs.World.{Later}
 use Rattle.fy_tool.specs.Note.{texts, ended_lines}
 use Rattle.fy_tool.proofs.tell.tell.Given as goal
 
@@ -9,6 +8,6 @@ invariant-loop-note g l =
     let holds = g.W.World.holds in
     record {
       told : holds l.world ≡ record (holds l.initial.world) { notes = appended (holds l.initial.world).notes (ended_lines (texts (take l.note-index l.notes))) };
-      later : Later (g.W.World.counts l.initial.world) (g.W.World.counts l.world);
+      counts : g.W.World.counts l.world ≡ g.W.World.counts l.initial.world;
       same : g.W.World.names l.world ≡ g.W.World.names l.initial.world;
     }

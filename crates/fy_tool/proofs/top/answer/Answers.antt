@@ -12,7 +12,7 @@ returns-in-None-clause-answers g c =
     let P : Option Order → Type 0 = λ o. Answers o (g.W.World.holds c.args.world.now) (g.W.World.holds c.conclude.new.world) (g.W.World.counts c.args.world.now) (g.W.World.counts c.conclude.new.world) c.conclude.result in
     subst P (sym (ap (λ o. option_map order_of o) c.in-None.is))
     (answered None _ (g.W.World.holds c.refuse-work.new.world) _ _ (g.W.World.counts c.refuse-work.new.world) _ c.refuse-work.result _
-    (serves_usage _ _ _ _ c.refuse-work.result c.refuse-work.ensures.later c.refuse-work.ensures.caused c.refuse-work.ensures.own c.refuse-work.ensures.memory c.refuse-work.ensures.did) c.conclude.ensures.concludes)
+    (serves_usage _ _ _ _ c.refuse-work.result c.refuse-work.ensures.counted c.refuse-work.ensures.own c.refuse-work.ensures.memory c.refuse-work.ensures.did) c.conclude.ensures.concludes)
 
 pub returns-in-Some-clause-answers : goal.returns-in-Some-clause-answers
 returns-in-Some-clause-answers g c =
