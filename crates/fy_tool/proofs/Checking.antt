@@ -1,7 +1,6 @@
 -- Texts that are checked.
-use Rattle.std.proofs.Common.{◌≡◌, ℕ, zero, suc, ◌<◌, ◌≤◌, List, [], ◌∷◌, ◌∙◌, length, map, refl, sym, ap, subst, arith, inl, inr}
+use Rattle.std.proofs.Common.{◌≡◌, ℕ, ◌<◌, ◌≤◌, List, [], ◌∙◌, length, refl, sym, ap, subst, arith, inl, inr}
 use Rattle.std.specs.Prelude.{◌≢◌, ◌⊎◌, IfOk, MatchResult, Some, None, Ok, Err}
-use Rattle.std.specs.List.{Any, Contains}
 use Rattle.std.specs.declared.option.Option.{Option}
 use Rattle.std.specs.declared.result.Result.{Result}
 use Rattle.fy_base.specs.Outside.{Bytes, GainedPart, appended}
@@ -84,19 +83,14 @@ not_lexed P names text error result short e fault found =
     found_so P text (lex_refusal error) result found
     (λ w told. not_judged (tokens_refused error) (no_tokens short (subst (λ n. IsFaultOf n text error) e fault) (lex_told error w told)) told)
 
-place_in : (tokens : List Token) (at : Place) → Contains (map (λ (t : Token). t.place) tokens) at → Any (λ (t : Token). t.place ≡ at) tokens
-place_in [] at (k, lt, e) = absurd (omega (arith, lt))
-place_in (t ∷ ts) at (zero, lt, e) = (0, t, omega arith, refl, e)
-place_in (t ∷ ts) at (suc k, lt, e) = let (j, u, l, is, p) = place_in ts at (k, omega (arith, lt), e) in (suc j, u, omega (arith, l), is, p)
-
 pub not_parsed : {T : Type 0} (P : T → Type 0) (text : Bytes) (tokens : List Token) (error : ParseError) (result : Result (Result T Refusal) Stop) → HasTokens text tokens → IsRefusal tokens error → Found (parse_refusal error) result
     → Checked P text result
 not_parsed P text tokens (parsing.Syntax place) result has is found =
     found_so P text (Some (refusal.Syntax place)) result found
-    (λ w told. not_judged (syntax_refused place) (no_program has (λ tree a. is.none tree a.spelled a.nests) (place_in tokens place is.placed)) told)
+    (λ w told. not_judged (syntax_refused place) (no_program has is) told)
 not_parsed P text tokens (parsing.TooDeep place) result has is found =
     found_so P text (Some (refusal.Deep place)) result found
-    (λ w told. not_judged (depth_refused place) (too_deep has (λ tree a. is.none tree a.spelled a.nests) (place_in tokens place is.placed)) told)
+    (λ w told. not_judged (depth_refused place) (too_deep has is) told)
 not_parsed P text tokens parsing.OutOfMemory result has is found = found_so P text None result found (λ w told. absurd cc)
 
 expand_told : (error : ExpandError) (w : Refusal) → expand_refusal error ≡ Some w → error ≢ expanding.OutOfMemory
