@@ -38,6 +38,7 @@ use Rattle.fy_tool.specs.declared.world.Stop.TheVariants.{Input, Memory}
 use Rattle.fy_tool.proofs.Counting.{short_of_memory, faulted_keeps, counted_after, counted_reads}
 use Rattle.fy_tool.proofs.Parts.{content_of, part_none}
 use Rattle.fy_tool.proofs.Keeping.{some_input}
+use Rattle.fy_read.proofs.PrintedLemmas.{printed_is_text}
 use Rattle.fy_small.proofs.Headlines.{small_runs_as_copy_rule, small_never_sticks, shows_copy_rule, one_program}
 
 -- words that are no command
@@ -147,7 +148,7 @@ pub serves_derived : (file text : Bytes) (program : ProgramOfText) (b c d : Cont
 serves_derived file text program b c d k k1 k2 result is a ready (inl unbegun) = none_done (derive file) text b c d k k1 k2 result a unbegun
 serves_derived file text program b c d k k1 k2 result is a ready (inr did) =
     let input = some_input c.input in
-    done (derive file) text b c d k k1 k2 result _ input.0 a input.1 (derives file text input.0 (reads program.phrase) program.names (plain_derivation program.derivation) is.is_program is.named is.derived) did (λ _ memory. ready memory)
+    done (derive file) text b c d k k1 k2 result _ input.0 a input.1 (derives file text input.0 (reads program.phrase) program.names (plain_derivation program.derivation) is.is_program is.named is.derived is.limits (printed_is_text program.names (plain_derivation program.derivation) is.printable)) did (λ _ memory. ready memory)
 
 -- `copy` of a program
 pub serves_copied : (file : Bytes) (steps : Option ℕ) (text : Bytes) (p : Tree) (b c d : Contents) (k k1 k2 : Counts) (result : Result ℕ Stop) → IsProgramText text p → After (copy file steps) text b c d k k1 k2 result

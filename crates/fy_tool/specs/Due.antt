@@ -11,7 +11,9 @@ use Rattle.fy_copy.specs.Ends.{IsHeldBelow}
 use Rattle.fy_copy.specs.Ends as copy
 use Rattle.fy_derive.specs.Derivations.{PlainDerivation}
 use Rattle.fy_derive.specs.Judging.{conclusion_of, refusal}
+use Rattle.fy_derive.specs.Limits.{KeepsLimits}
 use Rattle.fy_derive.specs.Print.{derivation_text}
+use Rattle.fy_read.specs.Spelling.{IsTextOf}
 use Rattle.fy_image.specs.Form.{IsImageBytes}
 use Rattle.fy_image.specs.Refusals.{refusal_of}
 use Rattle.fy_image.specs.declared.error.ImageError.{ImageError}
@@ -204,9 +206,9 @@ pub data IsDue : Option Order → Option Bytes → Bytes → Due → Type 0 wher
   faults : (order : Order) (text input : Bytes) (why : Refusal) → TypesText order → IsRefusedFor text why → IsDue (Some order) (Some text) input (told 2 (note.Refused why ∷ []))
   -- `check` of a text that is one
   accepts : (file text input : Bytes) → IsAccepted text → IsDue (Some (orders.check file)) (Some text) input accepted
-  -- `derive` writes the text of a derivation that the phrase is a command
+  -- `derive` writes the text of a derivation that the phrase is a command; it can be read back, since it is one of that derivation, which keeps the limits
   derives : (file text input : Bytes) (p : Tree) (names : List Bytes) (d : PlainDerivation) → IsProgramText text p → HasNames text names → refusal (conclusion_of p d) ≡ None
-      → IsDue (Some (orders.derive file)) (Some text) input (written (derivation_text names d))
+      → KeepsLimits d → IsTextOf names d (derivation_text names d) → IsDue (Some (orders.derive file)) (Some text) input (written (derivation_text names d))
   -- `copy` runs the phrase by the copy rule
   copies : (file : Bytes) (steps : Option ℕ) (text input : Bytes) (p : Tree) (n : ℕ) (end : Ending) → IsProgramText text p
       → IsCopyRun (record { phrase = p; input = input; limit = copy_wanted steps }) n end

@@ -13,6 +13,8 @@ use Rattle.fy_phrase.specs.Sizes.{depth}
 use Rattle.fy_phrase.specs.declared.phrase.Phrase.{Phrase}
 use Rattle.fy_expand.specs.Judged.{IsJudged}
 use Rattle.fy_derive.specs.Judging.{conclusion_of, refusal}
+use Rattle.fy_derive.specs.Limits.{KeepsLimits}
+use Rattle.fy_derive.specs.Printable.{IsPrintable}
 use Rattle.fy_derive.specs.Reading.{plain_derivation}
 use Rattle.rv_insn.specs.Program.{Program, AreRead}
 use Rattle.rv_insn.specs.Step.{Core}
@@ -58,12 +60,14 @@ pub record IsCore (text : Bytes) (core : CoreOfText) : Type 0 where
   pub shallow : depth (reads core.phrase) ≤ 1023
   pub named : HasNames text core.names
 
--- the program of a text, with its names and a derivation that it is a command
+-- the program of a text, with its names and a derivation that it is a command, which keeps the limits and can be written under these names
 pub record IsOfText (text : Bytes) (program : ProgramOfText) : Type 0 where
   pub is_program : IsProgramText text (reads program.phrase)
   pub shallow : depth (reads program.phrase) ≤ 1023
   pub named : HasNames text program.names
   pub derived : refusal (conclusion_of (reads program.phrase) (plain_derivation program.derivation)) ≡ None
+  pub limits : KeepsLimits (plain_derivation program.derivation)
+  pub printable : IsPrintable program.names (plain_derivation program.derivation)
 
 -- a text that was checked
 abbrev pub Checks : Bytes → Option Folder → Result (Result ProgramOfText Refusal) Stop → Type 0

@@ -1,5 +1,6 @@
 use Rattle.fy_phrase.specs.Reads.{reads}
 use Rattle.fy_derive.specs.Reading.{plain_derivation}
+use Rattle.fy_expand.proofs.PhraseLemmas.{judged-limits, judged-full, judged-names}
 use Rattle.fy_tool.specs.Working.{IsOfText}
 use Rattle.fy_tool.proofs.Checking.{is_program, not_found}
 use Rattle.fy_tool.proofs.check.program_of.Goals as goal
@@ -9,11 +10,16 @@ returns-in-Ok-find-clause-checked c =
     let core = c.in-Ok.core in
     let found = c.in-Ok-find.ensures.found in
     let read = rw c.in-Ok.is at c.in_ok-core.ensures.core in
+    let limits = judged-limits c.args.text.now (reads core.phrase) read.is_judged in
+    let full = judged-full c.args.text.now (reads core.phrase) read.is_judged in
+    let named = judged-names c.args.text.now (reads core.phrase) read.named.tokens core.names read.is_judged read.named.read in
     record {
       is_program = is_program c.args.text.now (reads core.phrase) (plain_derivation c.in-Ok-find.derivation) read.is_judged found.0 found.1;
       shallow = read.shallow;
       named = read.named;
       derived = found.1;
+      limits = c.in-Ok-find.ensures.limits limits;
+      printable = c.in-Ok-find.ensures.printable limits full core.names named;
     }
 
 pub returns-in-Err-find-clause-checked : goal.returns-in-Err-find-clause-checked
