@@ -18,6 +18,7 @@ pub data Order : Type 0 where
   run : (file : Bytes) (steps stack : Option ℕ) (image : Option Bytes) → Order
   copy : (file : Bytes) (steps : Option ℕ) → Order
   list : (file : Bytes) → Order
+  audit : (image : Bytes) → Order
 
 -- the order that a command stands for
 abbrev pub order_of : Command → Order
@@ -28,6 +29,7 @@ order_of (command.Exec image steps trace) = exec image.now steps trace
 order_of (command.Run file steps stack image) = run file.now steps stack (option_map (λ name. name.now) image)
 order_of (command.Copy file steps) = copy file.now steps
 order_of (command.List file) = list file.now
+order_of (command.Audit image) = audit image.now
 
 -- ---- options and operands
 
@@ -152,6 +154,10 @@ copy_from words = if are_known (codes "--steps=" ∷ []) words then copy_with (o
 abbrev pub list_from : List Bytes → Option Order
 list_from words = if are_known [] words then option_map list (only_operand (operands words)) else None
 
+-- `audit IMAGE`
+abbrev pub audit_from : List Bytes → Option Order
+audit_from words = if are_known [] words then option_map audit (only_operand (operands words)) else None
+
 -- the order that words are, if they are one: the first word is the command
 abbrev pub command_from : List Bytes → Option Order
 command_from [] = None
@@ -163,7 +169,8 @@ command_from (name ∷ words) =
     else (if bytes_eq name (codes "run") then run_from words
     else (if bytes_eq name (codes "copy") then copy_from words
     else (if bytes_eq name (codes "list") then list_from words
-    else None))))))
+    else (if bytes_eq name (codes "audit") then audit_from words
+    else None)))))))
 
 -- ---- what is wanted where no option says it
 
@@ -184,4 +191,8 @@ abbrev pub IsInRange : Order → Type 0
 IsInRange (build file image stack) = (1024 ≤ stack_wanted stack) × (stack_wanted stack ≤ 16777216)
 IsInRange (run file steps stack image) = (1024 ≤ stack_wanted stack) × (stack_wanted stack ≤ 16777216)
 IsInRange (copy file steps) = copy_wanted steps ≤ 1000000000
-IsInRange _ = Unit {0}
+IsInRange (check file) = Unit {0}
+IsInRange (derive file) = Unit {0}
+IsInRange (exec image steps trace) = Unit {0}
+IsInRange (list file) = Unit {0}
+IsInRange (audit image) = Unit {0}

@@ -3,7 +3,7 @@
 ghost use Rattle.std.specs.Prelude.{◌≡◌, ◌≤◌, map, string_bytes, IfSome};
 ghost use Rattle.std.specs.Option.{option_map};
 ghost use Rattle.fy_words.specs.Order.{IsInRange, copy_wanted, stack_wanted};
-ghost use Rattle.fy_words.specs.Order.{stack_option, trace_option, steps_option, check_from, build_from, exec_from, run_from, list_from, command_from, order_of, copy_option, copy_from, derive_from};
+ghost use Rattle.fy_words.specs.Order.{stack_option, trace_option, steps_option, check_from, build_from, exec_from, run_from, list_from, command_from, order_of, copy_option, copy_from, derive_from, audit_from};
 
 use crate::words::{are_known, name_option, number_option, only_operand};
 
@@ -45,6 +45,10 @@ pub enum Command<'a> {
     /// Lists the image of the text in the file.
     List {
         file: &'a str,
+    },
+    /// Judges an image without its source.
+    Audit {
+        image: &'a str,
     },
 }
 
@@ -187,6 +191,18 @@ fn list_of(words: &[String]) -> Option<Command<'_>>
     Some(Command::List { file })
 }
 
+// `audit IMAGE`
+fn audit_of(words: &[String]) -> Option<Command<'_>>
+    ensures order { option_map order_of result ≡ audit_from (map string_bytes words.now) }
+    ensures stack { IfSome result (λ command. IsInRange (order_of command)) }
+{
+    if !are_known(&[], words) {
+        return None;
+    }
+    let image = only_operand(words)?;
+    Some(Command::Audit { image })
+}
+
 /// The command that the words are, or `None` exactly where they are none: the first word names it,
 /// a word that begins with `--` is an option, and every other word is an operand. Options stand
 /// anywhere behind the first word, each at most once. It takes no memory.
@@ -205,6 +221,7 @@ pub fn command_of(words: &[String]) -> Option<Command<'_>>
         "run" => run_of(words),
         "copy" => copy_of(words),
         "list" => list_of(words),
+        "audit" => audit_of(words),
         _ => None,
     }
 }
