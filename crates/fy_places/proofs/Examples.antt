@@ -1,6 +1,7 @@
 -- Lists of tokens whose first bad token is known.
 use Rattle.std.proofs.Common.{[], refl, ◌∷◌}
 use Rattle.fy_base.specs.declared.data.Place.{Place}
+use Rattle.fy_base.specs.Places.{columns_on, first_place}
 use Rattle.fy_lexer.specs.declared.token.Keyword.TheVariants as word
 use Rattle.fy_lexer.specs.declared.token.Symbol.TheVariants as symbol
 use Rattle.fy_lexer.specs.declared.token.TokenKind.TheVariants as kind
@@ -10,10 +11,10 @@ use Rattle.fy_places.specs.Begins.{IsDepthFault, IsSyntaxFault}
 use Rattle.fy_places.proofs.Exact.{deep_exact, left_exact, wrong_exact}
 
 here : Place
-here = record { line = 1; col = 7 }
+here = columns_on 6 first_place
 
 elsewhere : Place
-elsewhere = record { line = 1; col = 1 }
+elsewhere = first_place
 
 -- `if a else`: the bad token is `else`
 else_for_then : IsSyntaxFault 3 (word_at word.If elsewhere ∷ ident_at 5 elsewhere ∷ word_at word.Else here ∷ token kind.End elsewhere ∷ []) here

@@ -1,6 +1,7 @@
 -- What completes a piece of which nothing stands yet: `skip`, `ns`, `x == skip`, and nothing where a list or a tail may be left out.
 use Rattle.std.proofs.Common.{List, [], arith, refl, ℕ, ◌∷◌}
 use Rattle.fy_base.specs.declared.data.Place.{Place}
+use Rattle.fy_base.specs.Places.{first_place}
 use Rattle.fy_types.specs.declared.types.Atom.TheVariants as atom
 use Rattle.fy_lexer.specs.declared.token.Keyword.TheVariants as word
 use Rattle.fy_lexer.specs.declared.token.Symbol.TheVariants as symbol
@@ -11,7 +12,7 @@ use Rattle.fy_syntax.specs.Trees.{Tree, TypeTree}
 use Rattle.fy_places.proofs.Pieces.{Piece, SpellsPiece, SpellsPieces}
 
 pub nowhere : Place
-nowhere = record { line = 0; col = 0 }
+nowhere = first_place
 
 ns_spells : (level : TypeLevel) (at : Place) (middle : List Token) → SpellsType level (TypeTree.ns at) (word_at word.Ns at ∷ middle) middle
 ns_spells TypeLevel.primary at middle = SpellsType.ns
