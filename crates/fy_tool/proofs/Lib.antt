@@ -11,4 +11,5 @@ pub mod Tracing
 pub mod Keeping
 pub mod Listing
 pub mod Serving
+pub mod Auditing
 pub mod Answering

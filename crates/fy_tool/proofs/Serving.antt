@@ -25,7 +25,7 @@ use Rattle.fy_tool.specs.Checked.{IsProgramText, IsAccepted, IsRefusedFor}
 use Rattle.fy_tool.specs.declared.refusal.Refusal.{Refusal}
 use Rattle.fy_words.specs.Order.{Order, check, derive, build, exec, run, copy, list}
 use Rattle.fy_tool.specs.Note.{refusal_note}
-use Rattle.fy_tool.specs.Due.{Due, told, BuildsText, TypesText, IsRefused, IsBuilt, IsOwnEnd, IsDue, usage, stopped, refused, accepted, written, accepts, faults, derives, copies, builds, lists, unread, executes, runs, kept_as, file_of, keeps_of, IsReadyFirst}
+use Rattle.fy_tool.specs.Due.{Due, told, BuildsText, TypesText, TakesImage, IsRefused, IsBuilt, IsOwnEnd, IsDue, usage, stopped, refused, accepted, written, accepts, faults, derives, copies, builds, lists, unread, executes, runs, kept_as, file_of, keeps_of, IsReadyFirst}
 use Rattle.fy_words.specs.Order.{copy_wanted, steps_wanted, stack_wanted}
 use Rattle.fy_tool.specs.Counted.{Faulted, Counted}
 use Rattle.fy_tool.specs.Answers.{Did, IsOwn, Serves}
@@ -97,7 +97,7 @@ pub after : (order : Order) (content : Bytes) (b c d : Contents) (k k1 k2 : Coun
 after order content b c d k k1 k2 result held same first own then = record { held = held; same = same; first = first; own = own; then = then }
 
 -- what was done is what is due
-done : (order : Order) (content : Bytes) (b c d : Contents) (k k1 k2 : Counts) (result : Result ℕ Stop) (due : Due) (input : Bytes) → After order content b c d k k1 k2 result → ForSome c.input (λ left. input ≡ left) → IsDue (Some order) (Some content) input due
+pub done : (order : Order) (content : Bytes) (b c d : Contents) (k k1 k2 : Counts) (result : Result ℕ Stop) (due : Due) (input : Bytes) → After order content b c d k k1 k2 result → ForSome c.input (λ left. input ≡ left) → IsDue (Some order) (Some content) input due
     → Did due c d result → (IsReadyFirst order → result ≡ Err Memory → d.output ≡ c.output) → Serves (Some order) b d k k2 result
 done order content b c d k k1 k2 result due input a fed is_due did ready = record {
   counted = counted_reads (file_of order ∷ []) (keeps_of order) k k2 result (counted_after [] (keeps_of order) k k1 k2 result a.first a.then);
@@ -177,12 +177,12 @@ serves_list file text p b c d k k1 k2 result is a did =
     let built = is_built text (stack_wanted None) p is in
     done (list file) text b c d k k1 k2 result (listed built.runs.program) input.0 a input.1 (lists file text input.0 p (image_of 1048576 p) built) (did built.runs.program built.runs.is_the_images) (λ ready. absurd ready)
 
--- `exec` of bytes that are no image
-pub serves_no_image : (name : Bytes) (steps trace : Option ℕ) (bytes : Bytes) (error : ImageError) (why : Note) (b c d : Contents) (k k1 k2 : Counts) (result : Result ℕ Stop) → refusal_of bytes ≡ Some error → refusal_note error ≡ Some why
-    → After (exec name steps trace) bytes b c d k k1 k2 result → result ≢ Err Memory → Did (told 6 (why ∷ [])) c d result → Serves (Some (exec name steps trace)) b d k k2 result
-serves_no_image name steps trace bytes error why b c d k k1 k2 result refusal is a ready did =
+-- bytes that are no image, where one is taken
+pub serves_no_image : (order : Order) (bytes : Bytes) (error : ImageError) (why : Note) (b c d : Contents) (k k1 k2 : Counts) (result : Result ℕ Stop) → TakesImage order → refusal_of bytes ≡ Some error → refusal_note error ≡ Some why
+    → After order bytes b c d k k1 k2 result → result ≢ Err Memory → Did (told 6 (why ∷ [])) c d result → Serves (Some order) b d k k2 result
+serves_no_image order bytes error why b c d k k1 k2 result takes refusal is a ready did =
     let input = some_input c.input in
-    done (exec name steps trace) bytes b c d k k1 k2 result (told 6 (why ∷ [])) input.0 a input.1 (unread name steps trace bytes input.0 error why refusal is) did (λ _ memory. absurd (ready memory))
+    done order bytes b c d k k1 k2 result (told 6 (why ∷ [])) input.0 a input.1 (unread order bytes input.0 error why takes refusal is) did (λ _ memory. absurd (ready memory))
 
 -- `exec` of an image
 pub serves_exec : (name : Bytes) (steps trace : Option ℕ) (bytes : Bytes) (image : Image) (b c d : Contents) (k k1 k2 : Counts) (result : Result ℕ Stop) → IsImageBytes image bytes → After (exec name steps trace) bytes b c d k k1 k2 result

@@ -18,6 +18,7 @@ use Rattle.fy_image.specs.Form.{IsImageBytes}
 use Rattle.fy_image.specs.Refusals.{refusal_of}
 use Rattle.fy_image.specs.declared.error.ImageError.{ImageError}
 use Rattle.fy_image.specs.declared.image.Image.{Image}
+use Rattle.rv_guard.specs.Guarded.{IsGuarded, IsUnguardedAt}
 use Rattle.rv_insn.specs.Program.{Program}
 use Rattle.rv_machine.specs.Fetch.{fetches}
 use Rattle.rv_machine.specs.Start.{IsProgramOf, start_of}
@@ -70,6 +71,10 @@ written output = record { status = 0; output = output; notes = []; kept = None; 
 -- what `check` is due to write of a text that is accepted
 abbrev pub accepted : Due
 accepted = written (codes "accepted" ++ 10 ∷ [])
+
+-- what `audit` is due to write of an image that is guarded
+abbrev pub audited : Due
+audited = written (codes "audited" ++ 10 ∷ [])
 
 -- ---- texts and their images
 
@@ -185,14 +190,32 @@ BuildsText (orders.exec image steps trace) = ⊥
 BuildsText (orders.check file) = ⊥
 BuildsText (orders.derive file) = ⊥
 BuildsText (orders.copy file steps) = ⊥
-BuildsText _ = Unit {0}
+BuildsText (orders.build file image stack) = Unit {0}
+BuildsText (orders.run file steps stack image) = Unit {0}
+BuildsText (orders.list file) = Unit {0}
+BuildsText (orders.audit image) = ⊥
 
 -- an order that types a text
 abbrev pub TypesText : Order → Type 0
 TypesText (orders.check file) = Unit {0}
 TypesText (orders.derive file) = Unit {0}
 TypesText (orders.copy file steps) = Unit {0}
-TypesText _ = ⊥
+TypesText (orders.build file image stack) = ⊥
+TypesText (orders.exec image steps trace) = ⊥
+TypesText (orders.run file steps stack image) = ⊥
+TypesText (orders.list file) = ⊥
+TypesText (orders.audit image) = ⊥
+
+-- an order that takes an image
+abbrev pub TakesImage : Order → Type 0
+TakesImage (orders.exec image steps trace) = Unit {0}
+TakesImage (orders.audit image) = Unit {0}
+TakesImage (orders.check file) = ⊥
+TakesImage (orders.derive file) = ⊥
+TakesImage (orders.build file image stack) = ⊥
+TakesImage (orders.run file steps stack image) = ⊥
+TakesImage (orders.copy file steps) = ⊥
+TakesImage (orders.list file) = ⊥
 
 -- what is due for the words, by the content of the file that they name, if it has one, and by the input
 pub data IsDue : Option Order → Option Bytes → Bytes → Due → Type 0 where
@@ -219,9 +242,9 @@ pub data IsDue : Option Order → Option Bytes → Bytes → Due → Type 0 wher
   -- `list` writes the image's listing
   lists : (file text input : Bytes) (p : Tree) (image : Image) (built : IsBuilt text (stack_wanted None) p image)
       → IsDue (Some (orders.list file)) (Some text) input (written (ended_lines (listing built.runs.program)))
-  -- `exec` of bytes that are no image
-  unread : (name : Bytes) (steps trace : Option ℕ) (bytes input : Bytes) (error : ImageError) (why : Note) → refusal_of bytes ≡ Some error → refusal_note error ≡ Some why
-      → IsDue (Some (orders.exec name steps trace)) (Some bytes) input (told 6 (why ∷ []))
+  -- bytes that are no image, where one is taken
+  unread : (order : Order) (bytes input : Bytes) (error : ImageError) (why : Note) → TakesImage order → refusal_of bytes ≡ Some error → refusal_note error ≡ Some why
+      → IsDue (Some order) (Some bytes) input (told 6 (why ∷ []))
   -- `exec` of an image's bytes
   executes : (name : Bytes) (steps trace : Option ℕ) (bytes input : Bytes) (image : Image) (program : Program) (n : ℕ) (end : Ending) → IsImageBytes image bytes → IsProgramOf image program
       → IsRun (running_of program image input steps) n end → IsDue (Some (orders.exec name steps trace)) (Some bytes) input (ran (running_of program image input steps) trace None n end)
@@ -229,6 +252,11 @@ pub data IsDue : Option Order → Option Bytes → Bytes → Due → Type 0 wher
   runs : (file : Bytes) (steps stack : Option ℕ) (name : Option Bytes) (text input : Bytes) (p : Tree) (image : Image) (bytes : Bytes) (n : ℕ) (end : Ending)
       (built : IsBuilt text (stack_wanted stack) p image) → IsImageBytes image bytes → IsRun (running_of built.runs.program image input steps) n end → ShowsCopyRule end p image built.runs.program input n
       → IsDue (Some (orders.run file steps stack name)) (Some text) input (ran (running_of built.runs.program image input steps) None (Some (kept_as file name, bytes)) n end)
+  -- `audit` of a guarded image
+  audits : (name bytes input : Bytes) (image : Image) → IsImageBytes image bytes → IsGuarded image → IsDue (Some (orders.audit name)) (Some bytes) input audited
+  -- `audit` of an image that isn't guarded tells the word; by `images_are_judged_one_way` there is no other, and no guarded image has one
+  unguarded : (name bytes input : Bytes) (image : Image) (word : ℕ) → IsImageBytes image bytes → IsUnguardedAt image word
+      → IsDue (Some (orders.audit name)) (Some bytes) input (told 12 (note.Audit word ∷ []))
 
 -- the files that an order reads and those that it keeps
 abbrev pub file_of : Order → Bytes
@@ -239,15 +267,26 @@ file_of (orders.exec image steps trace) = image
 file_of (orders.run file steps stack image) = file
 file_of (orders.copy file steps) = file
 file_of (orders.list file) = file
+file_of (orders.audit image) = image
 
 abbrev pub keeps_of : Order → List Bytes
 keeps_of (orders.build file image stack) = image ∷ []
 keeps_of (orders.run file steps stack image) = kept_as file image ∷ []
-keeps_of _ = []
+keeps_of (orders.check file) = []
+keeps_of (orders.derive file) = []
+keeps_of (orders.exec image steps trace) = []
+keeps_of (orders.copy file steps) = []
+keeps_of (orders.list file) = []
+keeps_of (orders.audit image) = []
 
 -- an order that takes all its memory before it puts a byte to output
 abbrev pub IsReadyFirst : Order → Type 0
 IsReadyFirst (orders.exec image steps (Some count)) = ⊥
+IsReadyFirst (orders.exec image steps None) = Unit {0}
 IsReadyFirst (orders.copy file steps) = ⊥
 IsReadyFirst (orders.list file) = ⊥
-IsReadyFirst _ = Unit {0}
+IsReadyFirst (orders.check file) = Unit {0}
+IsReadyFirst (orders.derive file) = Unit {0}
+IsReadyFirst (orders.build file image stack) = Unit {0}
+IsReadyFirst (orders.run file steps stack image) = Unit {0}
+IsReadyFirst (orders.audit image) = Unit {0}

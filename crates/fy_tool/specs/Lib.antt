@@ -6,3 +6,4 @@ pub mod Due
 pub mod Counted
 pub mod Answers
 pub mod Working
+pub mod Audited

@@ -13,7 +13,7 @@ use Rattle.fy_base.specs.declared.data.TrapKind.TheVariants.{Illegal, FetchAlign
 use Rattle.fy_tool.specs.declared.refusal.Refusal.{Refusal}
 use Rattle.fy_tool.specs.declared.refusal.Refusal.TheVariants.{Length, Byte, Unclosed, Number, Tokens, Syntax, Deep, Name, TypeName, Double, Letrec, Merge, Alternatives, TypeSize, CoreDepth, CoreSize, Visits, NoType, LeastSize}
 use Rattle.fy_tool.specs.declared.note.Note.{Note}
-use Rattle.fy_tool.specs.declared.note.Note.TheVariants.{Fault, StackExhausted, StepsSpent, CopyLimit, Trapped, Refused, Unbuilt, Usage, OutsideFiles, OutsideInput, OutsideOutput, Memory, Instructions, Copied, ImageMagic, ImageVersion, ImageTruncated, ImageTrailing, ImageField, ImageLength}
+use Rattle.fy_tool.specs.declared.note.Note.TheVariants.{Fault, StackExhausted, StepsSpent, CopyLimit, Trapped, Refused, Unbuilt, Usage, OutsideFiles, OutsideInput, OutsideOutput, Memory, Instructions, Copied, ImageMagic, ImageVersion, ImageTruncated, ImageTrailing, ImageField, ImageLength, Audit}
 
 -- a place, as it is printed: line, colon, column
 abbrev pub place_text : Place → Bytes
@@ -100,6 +100,7 @@ note_text ImageTruncated = codes "image truncated"
 note_text (ImageTrailing count) = codes "image trailing " ++ decimal count
 note_text (ImageField field) = codes "image field " ++ decimal field
 note_text ImageLength = codes "image length"
+note_text (Audit word) = codes "audit word " ++ decimal word
 note_text (Instructions count) = codes "instructions " ++ decimal count
 note_text (Copied steps peak) = codes "steps " ++ decimal steps ++ codes " peak " ++ decimal peak
 

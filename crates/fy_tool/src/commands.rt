@@ -17,6 +17,7 @@ ghost use Rattle.fy_words.specs.Order.{copy_wanted, steps_wanted, stack_wanted, 
 ghost use Rattle.fy_tool.specs.Answers.{Did, IsOwn, Serves};
 ghost use Rattle.fy_tool.specs.Working.{Executes, Keeps, KeepsAndRuns, IsUnbegun, ReadsImage, listed};
 
+use crate::audit::audit_file;
 use crate::check::program_in;
 use crate::note::{Note, refusal_note};
 use crate::runs::{run_copied, run_machine, run_traced};
@@ -62,8 +63,12 @@ fn steps_wanted(steps: Option<u64>) -> u64
     steps.unwrap_or(RUN_LIMIT)
 }
 
-// The image in a file, or why its bytes are none.
-fn image_in<W: World>(alloc: Global, name: &str, world: &mut W) -> Result<Result<Image, Note>, Stop>
+/// The image in a file, or why its bytes are none.
+pub(crate) fn image_in<W: World>(
+    alloc: Global,
+    name: &str,
+    world: &mut W,
+) -> Result<Result<Image, Note>, Stop>
     ensures holds { W.holds world.new ≡ W.holds world.old }
     ensures read { ReadsImage name.now (W.holds world.old).files result }
     ensures counted { Counted (name.now ∷ []) [] (W.counts world.old) (W.counts world.new) result }
@@ -121,8 +126,8 @@ fn execute<W: World>(
     }
 }
 
-// Writes bytes to output.
-fn write<W: World>(bytes: &[u8], world: &mut W) -> Result<u8, Stop>
+/// Writes bytes to output.
+pub(crate) fn write<W: World>(bytes: &[u8], world: &mut W) -> Result<u8, Stop>
     ensures did { Did (written bytes.now) (W.holds world.old) (W.holds world.new) result }
     ensures own { IfOk result IsOwn }
     ensures counted { Counted [] [] (W.counts world.old) (W.counts world.new) result }
@@ -434,5 +439,6 @@ pub fn serve<W: World>(alloc: Global, command: Command, world: &mut W) -> Result
         } => run_file(alloc, file, steps, stack, image, world),
         Command::Copy { file, steps } => copy_file(alloc, file, steps, world),
         Command::List { file } => list_file(alloc, file, world),
+        Command::Audit { image } => audit_file(alloc, image, world),
     }
 }

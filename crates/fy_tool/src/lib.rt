@@ -1,6 +1,7 @@
 //! The call behind the program: its words, files, input, output and notes.
 #![tactic(auto)]
 
+mod audit;
 mod check;
 mod commands;
 mod note;

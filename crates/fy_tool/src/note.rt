@@ -48,6 +48,8 @@ pub enum Note {
     ImageField(u8),
     /// There are more bytes than an image has.
     ImageLength,
+    /// The image isn't guarded at the word with this number.
+    Audit(u32),
 }
 
 /// A line of text with its end.
@@ -152,6 +154,7 @@ pub fn line_of(note: Note) -> Line
         Note::ImageTrailing(_) => begun("image trailing "),
         Note::ImageField(_) => begun("image field "),
         Note::ImageLength => begun("image length"),
+        Note::Audit(_) => begun("audit word "),
     };
     match note {
         Note::Fault { place, .. } => push_place(&mut line, place),
@@ -160,6 +163,7 @@ pub fn line_of(note: Note) -> Line
         Note::Copied { steps, peak } => push_run(&mut line, steps, peak),
         Note::ImageVersion(version) => push_number(&mut line, version.into()),
         Note::ImageField(field) => push_number(&mut line, field.into()),
+        Note::Audit(word) => push_number(&mut line, word.into()),
         _ => {}
     }
     line.push_str("\n");

@@ -46,6 +46,7 @@ fn answer<W: World>(alloc: Global, command: Option<Command>, world: &mut W) -> u
 /// | 7 | a count of faults rose |
 /// | 9 | memory was wanting |
 /// | 10 | the image trapped |
+/// | 12 | the image that `audit` judges isn't guarded |
 pub fn forsythe<F: Files, I: Source, O: Sink, N: Sink>(
     alloc: Global,
     words: &[String],

@@ -11,7 +11,7 @@ pub returns-in-Ok-Err-clause-serves : goal.returns-in-Ok-Err-clause-serves
 returns-in-Ok-Err-clause-serves g c =
     let h = rw c.in-Ok-Err.field-0-is at c.in-Ok-Err.ensures.read in
     let order = exec c.args.name.now c.args.steps c.args.trace in
-    serves_no_image c.args.name.now c.args.steps c.args.trace h.0 h.2.0 c.in-Ok-Err.why _ _ _ _ _ _ _ h.2.1 h.2.2
+    serves_no_image order h.0 h.2.0 c.in-Ok-Err.why _ _ _ _ _ _ _ tt h.2.1 h.2.2
     (after order h.0 _ _ _ _ _ _ _ h.1 c.in-Ok-Err.ensures.holds c.in-Ok-Err.ensures.counted c.refuse.ensures.own c.refuse.ensures.counted) c.refuse.ensures.memory c.refuse.ensures.did
 
 pub returns-in-Ok-Ok-clause-serves : goal.returns-in-Ok-Ok-clause-serves
