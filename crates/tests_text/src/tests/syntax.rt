@@ -6,7 +6,7 @@ ghost use Rattle.fy_syntax.specs.Reading.{tree_of};
 ghost use Rattle.fy_syntax.specs.Trees.{Tree, Trees, Links};
 
 use crate::tests::made::AT;
-use fy_base::{BinOp, OutOfMemory};
+use fy_base::{BinOp, OutOfMemory, Place};
 use fy_syntax::{
     Def, DefList, Link, LinkList, Surface, SurfaceList, SurfaceTy, SurfaceTyList,
     grammar_is_unambiguous, nesting, print_surface,
@@ -22,18 +22,19 @@ fn putint_of_a_sum(alloc: Global) -> Result<Surface, OutOfMemory>
         ≡ Tree.apply (Tree.ident 1 at) (Trees.and_tree (Tree.group (Tree.chain (Tree.number (pos 1) at)
         (Links.and_link op.Add at (Tree.number (pos 2) at) Links.no_links) at) at) Trees.no_trees) at) }
 {
+    let at = Place::first();
     let mut links = LinkList::new(alloc);
     links.push(Link {
         op: BinOp::Add,
-        at: AT,
-        item: Surface::Number(2, AT),
+        at,
+        item: Surface::Number(2, at),
     })?;
-    let first = Box::new(alloc, Surface::Number(1, AT))?;
-    let sum = Box::new(alloc, Surface::Chain(first, links, AT))?;
+    let first = Box::new(alloc, Surface::Number(1, at))?;
+    let sum = Box::new(alloc, Surface::Chain(first, links, at))?;
     let mut arguments = SurfaceList::new(alloc);
-    arguments.push(Surface::Group(sum, AT))?;
-    let putint = Box::new(alloc, Surface::Ident(1, AT))?;
-    Ok(Surface::Apply(putint, arguments, AT))
+    arguments.push(Surface::Group(sum, at))?;
+    let putint = Box::new(alloc, Surface::Ident(1, at))?;
+    Ok(Surface::Apply(putint, arguments, at))
 }
 
 // `\ x : ( ns -> ns ) | ns . x`
