@@ -15,6 +15,7 @@ pub mod Standing
 pub mod Laws
 pub mod Safety
 pub mod Shapes
+pub mod ShapeTables
 pub mod Least
 pub mod Print
 pub mod Limits

@@ -4,9 +4,13 @@
 mod closing;
 mod copying;
 mod phrase;
+mod shapes;
 mod sizes;
 
 pub use closing::close_with;
 pub use copying::copy_phrase;
 pub use phrase::{DataTy, MarkKind, Parts, Phrase};
+pub use shapes::{
+    Pair, PairList, Shape, ShapeElem, ShapeElemList, ShapeEnd, ShapeList, ShapeTable,
+};
 pub use sizes::{depth_of, node_count};
