@@ -12,7 +12,7 @@ use Rattle.fy_expand.specs.Types.{with}
 use Rattle.fy_expand.specs.Scope.{Scope, behind, under, under_defs, under_members, with_type, with_defs, with_members, depth_under, program_scope}
 use Rattle.fy_expand.specs.Front.{front}
 use Rattle.fy_expand.specs.Core.{core, linked, applied, items_of, merged_all, merged, lets, all_fields, with_fields, parts_of, prefixed, selected, used, Item, one_after, no_item, by_halves, letters, text_parts, in_prelude}
-use Rattle.fy_expand.specs.WellMade.{IsClosedUnder, AreClosedUnder, IsClosed}
+use Rattle.fy_phrase.specs.WellMade.{IsClosedUnder, AreClosedUnder, IsClosed}
 
 -- the binder that a name stands for, where it stands for one, is among so many
 abbrev IsBelow : ℕ → Option Standing → Type 0

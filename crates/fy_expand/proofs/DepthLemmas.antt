@@ -13,7 +13,7 @@ use Rattle.fy_expand.specs.Scope.{Scope, behind, under, under_defs, under_member
 use Rattle.fy_expand.specs.Front.{front}
 use Rattle.fy_phrase.specs.Sizes.{nesting, all_nesting}
 use Rattle.fy_expand.specs.Core.{core, linked, applied, items_of, merged_all, merged, lets, all_fields, with_fields, parts_of, prefixed, selected, used, Item, one_after, no_item, by_halves, letters, text_parts, in_prelude}
-use Rattle.fy_expand.specs.WellMade.{HasDepthsUnder, HaveDepthsUnder, HasDepths}
+use Rattle.fy_phrase.specs.WellMade.{HasDepthsUnder, HaveDepthsUnder, HasDepths}
 
 -- a name where it is used
 depths-used : (d x : ℕ) (at : Place) (o : Option Standing) → HasDepthsUnder d (used d x at o)

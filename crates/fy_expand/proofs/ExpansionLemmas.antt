@@ -20,7 +20,8 @@ use Rattle.fy_phrase.specs.PhraseNames.{AllNames, HasFullTypes}
 use Rattle.fy_phrase.specs.CoreLimits.{size_of, visits_of, deepest_written, KeepsCoreLimits}
 use Rattle.fy_expand.specs.Sizes.{limited}
 use Rattle.fy_expand.specs.Expansion.{unless, within_limits, core_of}
-use Rattle.fy_expand.specs.WellMade.{IsClosed, IsWellMade, HasDepths, HasNamesOf}
+use Rattle.fy_phrase.specs.WellMade.{IsClosed, IsWellMade, HasDepths}
+use Rattle.fy_expand.specs.NamesOf.{HasNamesOf}
 use Rattle.fy_expand.specs.Judged.{HasTokens, IsAllowed, IsJudged, not_expanded, expanded, expansion_refused}
 use Rattle.fy_expand.proofs.ClosedLemmas.{closed-whole}
 use Rattle.fy_expand.proofs.DepthLemmas.{depths-whole}

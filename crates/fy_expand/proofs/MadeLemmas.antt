@@ -14,7 +14,7 @@ use Rattle.fy_expand.specs.Scope.{Scope, behind, under, under_defs, under_member
 use Rattle.fy_expand.specs.Front.{front}
 use Rattle.fy_expand.specs.Core.{core, linked, applied, items_of, merged_all, merged, lets, all_fields, with_fields, parts_of, prefixed, selected, used, Item, one_after, no_item, by_halves, letters, text_parts, in_prelude}
 use Rattle.fy_expand.specs.Faults.{fault, all_faults, links_fault, members_fault, operands_fault, defs_fault, decls_fault, fields_fault, type_fault, types_fault, types_count, fault_if, is_among, operand_fault, goes_first, is_operand, ◌before◌}
-use Rattle.fy_expand.specs.WellMade.{IsWellMade, AreWellMade, IsOperand, HasPart}
+use Rattle.fy_phrase.specs.WellMade.{IsWellMade, AreWellMade, IsOperand, HasPart}
 
 abbrev HasMember : written.Trees → Type 0
 HasMember written.Trees.no_trees = ⊥

@@ -9,4 +9,4 @@ pub mod Measures
 pub mod Built
 pub mod Frames
 pub mod Judged
-pub mod WellMade
+pub mod NamesOf

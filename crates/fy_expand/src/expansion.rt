@@ -16,7 +16,8 @@ ghost use Rattle.fy_expand.specs.Frames.{AreSized, scope_of};
 ghost use Rattle.fy_expand.specs.Judged.{HasTokens, IsAllowed, IsJudged, expansion_refused};
 ghost use Rattle.fy_expand.specs.Measures.{prelude_measure};
 ghost use Rattle.fy_expand.specs.Scope.{program_scope};
-ghost use Rattle.fy_expand.specs.WellMade.{HasDepths, HasNamesOf, IsClosed, IsWellMade};
+ghost use Rattle.fy_phrase.specs.WellMade.{HasDepths, IsClosed, IsWellMade};
+ghost use Rattle.fy_expand.specs.NamesOf.{HasNamesOf};
 
 use crate::build::build;
 use crate::check::{check, place_of};

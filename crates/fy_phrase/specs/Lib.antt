@@ -7,3 +7,4 @@ pub mod Copy
 pub mod Bounds
 pub mod CoreLimits
 pub mod PhraseNames
+pub mod WellMade

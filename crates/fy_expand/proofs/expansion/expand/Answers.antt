@@ -10,7 +10,8 @@ use Rattle.fy_phrase.specs.PhraseNames.{HasFullTypes}
 use Rattle.fy_expand.specs.declared.error.ExpandError.{ExpandError}
 use Rattle.fy_expand.specs.declared.error.ExpandError.TheVariants.{OutOfMemory}
 use Rattle.fy_expand.specs.Expansion.{core_of}
-use Rattle.fy_expand.specs.WellMade.{HasDepths, HasNamesOf, IsClosed, IsWellMade}
+use Rattle.fy_phrase.specs.WellMade.{HasDepths, IsClosed, IsWellMade}
+use Rattle.fy_expand.specs.NamesOf.{HasNamesOf}
 use Rattle.fy_expand.specs.Judged.{HasTokens, IsAllowed, IsJudged, expansion_refused}
 use Rattle.fy_expand.proofs.ExpansionLemmas.{IfOk-map, IfErr-map, core_of-closed, core_of-depths, core_of-limits, core_of-made, core_of-has_names, core_of-full, core_of-judged, core_of-refused}
 use Rattle.fy_expand.proofs.ProgramFrames.{AreSized-Name, AreSized-Outermost}

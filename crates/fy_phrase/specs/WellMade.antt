@@ -1,11 +1,6 @@
--- Which core phrases expansion gives.
-use Rattle.std.specs.Prelude.{ℕ, suc, ◌≡◌, ◌<◌, Bool, IsTrue, List}
-use Rattle.fy_base.specs.Outside.{Bytes}
-use Rattle.fy_types.specs.Fields.{IsNamed}
-use Rattle.fy_syntax.specs.Trees as written
-use Rattle.fy_syntax.specs.TreeNames as of_tree
+-- Which core phrases programs are: closed, with the depths of their binders, and well made.
+use Rattle.std.specs.Prelude.{ℕ, suc, ◌≡◌, ◌<◌}
 use Rattle.fy_phrase.specs.Tree.{Tree, Trees, var, lit, unary, binary, cond, case, lam, app, field, sel, merge, let_in, rec, skip, seq, assign, while_do, forever, new, escape, accept, put, read, mark, no_trees, and_tree}
-use Rattle.fy_phrase.specs.PhraseNames.{AllNames}
 
 abbrev mutual
   -- each variable's binder is in the phrase or is one of n around it
@@ -119,8 +114,3 @@ abbrev mutual
   pub AreWellMade : Trees → Type 0
   AreWellMade no_trees = Unit {0}
   AreWellMade (and_tree p more) = IsWellMade p × AreWellMade more
-
--- each name in the phrase is `len`, whose number is 0, or stands in the tree: where those pass a test, or are numbers among the names, so is each in the phrase
-pub record HasNamesOf (tree : written.Tree) (p : Tree) : Type 0 where
-  pub tests : (test : ℕ → Bool) → IsTrue (test 0) → of_tree.AllNames (λ n. IsTrue (test n)) tree → AllNames (λ n. IsTrue (test n)) p
-  pub named : (names : List Bytes) → IsNamed names 0 → of_tree.AllNames (IsNamed names) tree → AllNames (IsNamed names) p
