@@ -1,0 +1,4 @@
+pub mod EntryLemmas
+pub mod FoundLemmas
+pub mod NodeLemmas
+pub mod ValidLemmas

@@ -1,0 +1,5 @@
+pub mod Entries
+pub mod Members
+pub mod Code
+pub mod Valid
+pub mod Print

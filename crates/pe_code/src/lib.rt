@@ -1,0 +1,16 @@
+//! Push-enter code: its instructions, its entries, which code is valid, and the text of an
+//! instruction.
+#![tactic(auto)]
+
+mod code;
+mod lists;
+mod print;
+mod valid;
+
+pub use code::{AddressList, Entry, PeCode, PeInsn, PeItem, PeItemList};
+pub use lists::{EntryList, NodeList};
+pub use print::print_pe;
+pub use valid::is_valid;
+
+#[cfg(test)]
+mod tests;
