@@ -1,9 +1,8 @@
 -- The order of entries, and where one more goes.
-use Rattle.std.proofs.Common.{◌≡◌, ℕ, zero, suc, ◌+◌, ◌-◌, ◌<◌, ◌≤◌, Bool, true, false, not, ◌&&◌, ◌||◌, if◌then◌else◌, eqb, ltb, List, [], ◌∷◌, ◌++◌, length, take, drop, get_or, Some, refl, sym, ap, subst, ◌∙◌, arith, inl, inr}
-use Rattle.std.specs.List.{All, AllPairs, AllWithin, insert, slice_get}
+use Rattle.std.proofs.Common.{◌≡◌, ℕ, zero, suc, ◌-◌, ◌<◌, ◌≤◌, Bool, true, false, not, ◌&&◌, ◌||◌, if◌then◌else◌, eqb, ltb, List, [], ◌∷◌, length, get_or, Some, refl, sym, ap, subst, ◌∙◌, arith, inl, inr}
+use Rattle.std.specs.List.{All, AllWithin, insert, slice_get}
 use Rattle.std.specs.List.Sorted.{IsPartitionedBy}
-use Rattle.std.proofs.lemmas.Bool.{ltb-true, ltb-false, eqb-true, eqb-false, lt-ltb, le-ltb, or_parts, or_cases, and_parts, and_cases, or_left, or_right, or_from, and_from, and_left, and_right, eq-eqb, ne_eqb, cases_lt, cases_Bool, cond-true, cond-false, not-true, not_from_false}
-use Rattle.std.proofs.lemmas.Bool.Decides.{nat_tests}
+use Rattle.std.proofs.lemmas.Bool.{ltb-true, ltb-false, eqb-true, eqb-false, le-ltb, or_parts, or_cases, and_parts, and_cases, or_from, and_left, and_right, ne_eqb, cases_lt, cases_Bool, cond-true, cond-false, not-true, not_from_false}
 use Rattle.std.proofs.lemmas.Option.{get_or_from_slice_get}
 use Rattle.std.proofs.lemmas.List.Elements.{All-nil, All-cons, All-head, All-tail, All-weaker}
 use Rattle.std.proofs.lemmas.List.Kept.{AllPairs-cons}
@@ -32,6 +31,7 @@ not_below-tells a s b t h =
       ],
     )
 
+-- and back
 not_below : (a s b t : ℕ) → b ≤ a → (a ≡ b → t ≤ s) → below a s b t ≡ false
 not_below a s b t le rest =
     or_from _ _ (le-ltb a b le) (elim (cases_lt b a) [
@@ -53,7 +53,7 @@ below-asym a s b t h = elim (cases_lt a b) [
   | inr ge ↦ let p = below-tells a s b t h ge in not_below b t a s (omega (arith, p.0)) (λ e. omega (arith, p.1))
 ]
 
--- and so is what is at most as great as a first, where a second is before the first
+-- what is at most as great as a place that is before a third is before the third too
 pub below-from : (a s b t c u : ℕ) → below b t a s ≡ false → below b t c u ≡ true → below a s c u ≡ true
 below-from a s b t c u h k = elim (cases_Bool (below a s c u)) [
   | inl e ↦ e

@@ -1,5 +1,5 @@
 -- Which entries a search in order finds.
-use Rattle.std.proofs.Common.{◌≡◌, ℕ, zero, suc, ◌+◌, ◌-◌, ◌<◌, ◌≤◌, Bool, true, false, ◌&&◌, ◌||◌, cond, eqb, ltb, leb, List, [], ◌∷◌, length, take, drop, get_or, filter, Option, Some, None, refl, sym, ap, subst, ◌∙◌, arith, inl, inr}
+use Rattle.std.proofs.Common.{◌≡◌, ℕ, zero, suc, ◌+◌, ◌-◌, ◌<◌, ◌≤◌, Bool, true, false, ◌&&◌, ◌||◌, eqb, ltb, leb, List, [], ◌∷◌, length, take, drop, get_or, filter, Some, None, refl, sym, ap, subst, ◌∙◌, arith, inl, inr}
 use Rattle.std.specs.List.{All, AllWithin}
 use Rattle.std.specs.List.Sorted.{IsNonDecreasingBy, IsPartitionPoint}
 use Rattle.std.proofs.lemmas.Bool.{ltb-true, ltb-false, leb-true, leb-false, eqb-true, eqb-false, eq-eqb, ne_eqb, or_parts, or_cases, and_parts, and_cases, and_from, and_left, and_right, cases_lt, cond-true, cond-false}
@@ -8,7 +8,6 @@ use Rattle.std.proofs.lemmas.List.Recursion.{found_at, found_nowhere}
 use Rattle.pe_code.specs.declared.code.Entry.{Entry}
 use Rattle.pe_code.specs.Entries.{is_before, AreInOrder}
 use Rattle.pe_code.specs.Code.{address_in}
-use Rattle.pe_code.proofs.EntryLemmas.{not_below-trans}
 
 -- nodes do not fall
 pub node-order : (es : List Entry) → AreInOrder es → IsNonDecreasingBy (λ e. e.node) es

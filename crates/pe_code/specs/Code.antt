@@ -1,5 +1,5 @@
 -- Push-enter code: what its instructions name, and where nodes are entered.
-use Rattle.std.specs.Prelude.{ℕ, ◌==◌, ◌&&◌, Bool, if◌then◌else◌, List, [], ◌∷◌, slice_get, Option, Some, None}
+use Rattle.std.specs.Prelude.{ℕ, ◌==◌, ◌&&◌, if◌then◌else◌, List, [], ◌∷◌, slice_get, Option, Some, None}
 use Rattle.pe_code.specs.declared.code.PeInsn.{PeInsn}
 use Rattle.pe_code.specs.declared.code.PeInsn.TheVariants as insn
 use Rattle.pe_code.specs.declared.code.PeItem.{PeItem}

@@ -11,6 +11,3 @@ pub use code::{AddressList, Entry, PeCode, PeInsn, PeItem, PeItemList};
 pub use lists::{EntryList, NodeList};
 pub use print::print_pe;
 pub use valid::is_valid;
-
-#[cfg(test)]
-mod tests;

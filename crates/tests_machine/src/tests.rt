@@ -1,3 +1,5 @@
+mod code;
 mod image;
 mod insn;
 mod machine;
+mod pe;

@@ -1,4 +1,4 @@
-use Rattle.std.proofs.Common.{◌≡◌, ◌+◌, ◌-◌, ◌<◌, ◌≤◌, ℕ, false, length, sym, subst, ◌∙◌, arith, refl}
+use Rattle.std.proofs.Common.{◌≡◌, ◌+◌, ◌-◌, ℕ, false, sym, subst, ◌∙◌, arith, refl}
 use Rattle.pe_code.specs.declared.code.Entry.{Entry}
 use Rattle.pe_code.specs.Entries.{is_before}
 use Rattle.pe_code.proofs.ValidLemmas.{once-rising, once-falling}

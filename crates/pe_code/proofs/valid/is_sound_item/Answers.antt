@@ -1,6 +1,5 @@
 use Rattle.std.proofs.Common.{sym, ◌∙◌, arith}
 use Rattle.std.proofs.lemmas.Bool.{both_ways, leb-true}
-use Rattle.pe_code.specs.Valid.{IsSoundItem}
 use Rattle.pe_code.proofs.valid.is_sound_item.Goals as goal
 use Rattle.pe_code.proofs.valid.is_sound_item.Goals.{then-item-le-MOST_DEPTH, else-item-le-MOST_DEPTH, then-has_sound_parts, else-has_sound_parts, then-has_sound_body, else-has_sound_body, then-is_below, else-is_below}
 

@@ -1,7 +1,7 @@
-use Rattle.std.proofs.Common.{◌≡◌, true, sym, subst, ◌∙◌, List}
+use Rattle.std.proofs.Common.{sym, subst, List}
 use Rattle.std.specs.List.{All}
 use Rattle.pe_code.specs.declared.code.Entry.{Entry}
-use Rattle.pe_code.specs.Valid.{LeadsTo, IsThunkNode}
+use Rattle.pe_code.specs.Valid.{LeadsTo}
 use Rattle.pe_code.proofs.ValidLemmas.{thunk-node, of-node, contains-listed}
 use Rattle.pe_code.proofs.valid.is_thunk_node.Goals as goal
 

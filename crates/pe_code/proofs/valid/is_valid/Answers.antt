@@ -1,6 +1,5 @@
-use Rattle.std.proofs.Common.{◌≡◌, true, sym, ◌∙◌}
+use Rattle.std.proofs.Common.{sym, ◌∙◌}
 use Rattle.std.proofs.lemmas.Bool.{both_ways}
-use Rattle.pe_code.specs.Valid.{IsValid}
 use Rattle.pe_code.proofs.valid.is_valid.Goals as goal
 use Rattle.pe_code.proofs.valid.is_valid.Goals.{then-is_item_count, else-is_item_count, then-leads_to, else-leads_to, then-are_sound_items, else-are_sound_items, then-are_few_parts, else-are_few_parts, then-are_sound_entries, else-are_sound_entries, then-are_once, else-are_once}
 

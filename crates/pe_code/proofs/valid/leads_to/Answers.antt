@@ -1,6 +1,5 @@
-use Rattle.std.proofs.Common.{◌<◌, ◌≤◌, length, eqb-true, eq-eqb, sym, ap, ◌∙◌, arith, subst}
+use Rattle.std.proofs.Common.{◌<◌, ◌≤◌, length, eqb-true, eq-eqb, sym, arith}
 use Rattle.std.proofs.lemmas.Bool.{ltb-true, ltb-false}
-use Rattle.pe_code.specs.Valid.{LeadsTo}
 use Rattle.pe_code.proofs.ValidLemmas.{leads-from, leads-depth, leads-within}
 use Rattle.pe_code.proofs.valid.leads_to.Goals as goal
 

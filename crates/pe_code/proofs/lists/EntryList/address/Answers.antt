@@ -1,8 +1,7 @@
-use Rattle.std.proofs.Common.{◌≡◌, ◌≤◌, ◌<◌, true, false, length, sym, subst, ap, ◌∙◌, arith, rules}
+use Rattle.std.proofs.Common.{◌≡◌, ◌≤◌, ◌<◌, true, false, length, sym, subst, ap, ◌∙◌, rules}
 use Rattle.std.proofs.lemmas.Bool.{ltb-true, ltb-false, and_left, and_right, ne_eqb}
 use Rattle.std.specs.List.Sorted.{IsPartitionPoint}
 use Rattle.std.proofs.lemmas.List.Sorted.{IsPartitionPoint-from_clause}
-use Rattle.pe_code.specs.declared.code.Entry.{Entry}
 use Rattle.pe_code.specs.Entries.{is_before, AreInOrder}
 use Rattle.pe_code.specs.Code.{address_in}
 use Rattle.pe_code.proofs.EntryLemmas.{partitioned-before}

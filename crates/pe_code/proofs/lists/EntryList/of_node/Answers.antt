@@ -1,7 +1,6 @@
-use Rattle.std.proofs.Common.{◌≡◌, ◌≤◌, true, false, ltb, leb, eqb, filter, length, sym, subst, ap, ◌∙◌, arith, rules}
+use Rattle.std.proofs.Common.{◌≡◌, ◌≤◌, true, false, ltb, leb, eqb, filter, sym, subst, ap, ◌∙◌, rules}
 use Rattle.std.specs.List.Sorted.{IsPartitionPoint}
 use Rattle.std.proofs.lemmas.List.Sorted.{IsPartitionPoint-from_clause, IsPartitionedBy-leb, IsPartitionedBy-ltb}
-use Rattle.pe_code.specs.declared.code.Entry.{Entry}
 use Rattle.pe_code.specs.Entries.{AreInOrder}
 use Rattle.pe_code.proofs.FoundLemmas.{node-order, node-bounds, node-filter}
 use Rattle.pe_code.proofs.lists.EntryList.of_node.Goals as goal

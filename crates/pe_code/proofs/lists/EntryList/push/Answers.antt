@@ -1,7 +1,5 @@
-use Rattle.std.proofs.Common.{◌≡◌, List, sym, ◌∙◌, subst, ap}
-use Rattle.std.specs.List.{AllWithin, insert}
-use Rattle.std.specs.List.Sorted.{IsPartitionPoint}
-use Rattle.pe_code.specs.declared.code.Entry.{Entry}
+use Rattle.std.proofs.Common.{◌≡◌, sym, ◌∙◌, subst, ap}
+use Rattle.std.specs.List.{insert}
 use Rattle.pe_code.specs.Entries.{AreInOrder, with_entry}
 use Rattle.pe_code.proofs.EntryLemmas.{with_entry-insert, order-with_entry}
 use Rattle.pe_code.proofs.lists.EntryList.push.Goals as goal

@@ -1,4 +1,4 @@
-use Rattle.std.proofs.Common.{◌≡◌, List, ℕ, sym, subst, ◌∙◌}
+use Rattle.std.proofs.Common.{List, ℕ, sym, subst, ◌∙◌}
 use Rattle.std.specs.List.{Contains}
 use Rattle.pe_code.proofs.NodeLemmas.{contains-from, contains-any}
 use Rattle.pe_code.proofs.lists.NodeList.has.Goals as goal

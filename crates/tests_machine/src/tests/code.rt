@@ -1,8 +1,8 @@
-use crate::{
-    AddressList, Entry, EntryList, NodeList, PeCode, PeInsn, PeItem, PeItemList, is_valid, print_pe,
-};
 use fy_base::{BinOp, Datum, OutOfMemory, Place, PutKind, UnOp};
 use fy_types::Names;
+use pe_code::{
+    AddressList, Entry, EntryList, NodeList, PeCode, PeInsn, PeItem, PeItemList, is_valid, print_pe,
+};
 use std::alloc::Global;
 use std::process::Abort;
 use std::test::Fail;

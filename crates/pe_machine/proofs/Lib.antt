@@ -1,0 +1,6 @@
+pub mod Stacks
+pub mod FrameLemmas
+pub mod ContextLemmas
+pub mod PlanLemmas
+pub mod RunLemmas
+pub mod Reached

@@ -1,0 +1,26 @@
+use Rattle.std.proofs.Common.{sym, ap, ◌∙◌, arith}
+use Rattle.pe_machine.specs.States.{datum_in}
+use Rattle.pe_machine.specs.Shown.{binding_of}
+use Rattle.pe_machine.specs.declared.frames.Binding.{Binding}
+use Rattle.pe_machine.proofs.FrameLemmas.{datum_by_none, datum_by_place, no_datum}
+use Rattle.pe_machine.proofs.lookup.datum_in.Goals as goal
+
+pub returns-in_err-place : goal.returns-in_err-place
+returns-in_err-place c =
+    let core = c.args.core.now in
+    c.from_residual.ensures
+    ∙ sym (datum_by_none c.args.name.number c.len.result c.as_slice.result.now core.frames.items c.as_slice.ensures.value (omega (arith, c.len.ensures, core.frames.ok.0)) c.in_err-place.ensures)
+
+pub returns-in-ToCell : goal.returns-in-ToCell
+returns-in-ToCell c =
+    let core = c.args.core.now in
+    sym (datum_by_place c.args.name.number core.next c.len.result c.in_ok-place.place c.as_slice.result.now core.frames.items c.index.result.now c.as_slice.ensures.value (omega (arith, c.len.ensures, core.frames.ok.0)) core.numbered
+    c.in_ok-place.ensures c.index.ensures
+    ∙ ap (λ (b : Binding). datum_in (binding_of b)) c.in-ToCell.is)
+
+pub returns-in_default : goal.returns-in_default
+returns-in_default c =
+    let core = c.args.core.now in
+    sym (datum_by_place c.args.name.number core.next c.len.result c.in_ok-place.place c.as_slice.result.now core.frames.items c.index.result.now c.as_slice.ensures.value (omega (arith, c.len.ensures, core.frames.ok.0)) core.numbered
+    c.in_ok-place.ensures c.index.ensures
+    ∙ no_datum c.index.result.now.binding c.in_default.not-ToCell)

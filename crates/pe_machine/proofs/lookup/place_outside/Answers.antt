@@ -1,0 +1,62 @@
+use Rattle.std.proofs.Common.{◌≡◌, ℕ, ◌-◌, [], take, Some, sym, ap, ◌∙◌, subst, arith}
+use Rattle.std.specs.declared.option.Option.{Option}
+use Rattle.pe_machine.specs.States.{frame_outside}
+use Rattle.pe_machine.specs.Shown.{frame_of, frames_onto, number_of}
+use Rattle.pe_machine.specs.Places.{IsOutside}
+use Rattle.pe_machine.specs.declared.frames.FrameName.{FrameName}
+use Rattle.pe_machine.proofs.FrameLemmas.{outside_by_none, outside_by_place, outside_last, outside_none, outside_same, next_link}
+use Rattle.pe_machine.proofs.lookup.place_outside.Goals as goal
+
+pub returns-in_err-name : goal.returns-in_err-name
+returns-in_err-name c =
+    let fs = frames_onto [] c.args.core.now.frames.items in
+    let P : Option ℕ → Type 0 = λ o. IsOutside c.args.core.now.frames.items c.args.links c.args.frame o in
+    subst P (sym c.from_residual.ensures) (ap (λ (r : Option FrameName). frame_outside fs c.args.links (number_of r)) c.in_err-name.was ∙ outside_none c.args.links fs)
+
+pub returns-in_err-end : goal.returns-in_err-end
+returns-in_err-end c =
+    let items = c.args.core.now.frames.items in
+    let P : Option ℕ → Type 0 = λ o. IsOutside items c.args.links c.args.frame o in
+    subst P (sym c.from_residual-in_err-end.ensures)
+    (c.loop-left.invariant.outside
+    ∙ outside_by_none c.loop-left.left c.loop-left.name.number c.loop-left.end c.as_slice.result.now items c.as_slice.ensures.value c.loop-left.invariant.end c.in_err-end.ensures)
+
+pub returns-in_err-name-2 : goal.returns-in_err-name-2
+returns-in_err-name-2 c =
+    let core = c.args.core.now in
+    let items = core.frames.items in
+    let x = c.index.result.now in
+    let rest = frames_onto [] (take c.in_ok-end.end items) in
+    let P : Option ℕ → Type 0 = λ o. IsOutside items c.args.links c.args.frame o in
+    subst P (sym c.from_residual-in_err-name-2.ensures)
+    (c.loop-left.invariant.outside
+    ∙ outside_by_place c.loop-left.left c.loop-left.name.number core.next c.loop-left.end c.in_ok-end.end c.as_slice.result.now items x c.as_slice.ensures.value c.loop-left.invariant.end core.numbered c.in_ok-end.ensures c.index.ensures
+    ∙ next_link c.loop-left.left (frame_of x) (λ j. frame_outside rest j (number_of x.around)) c.loop-left-test.true
+    ∙ ap (λ (r : Option FrameName). frame_outside rest (c.loop-left.left - 1) (number_of r)) c.in_err-name-2.was
+    ∙ outside_none (c.loop-left.left - 1) rest)
+
+pub loop-left-preserved : goal.loop-left-preserved
+loop-left-preserved c =
+    let core = c.args.core.now in
+    let items = core.frames.items in
+    let x = c.index.result.now in
+    let rest = frames_onto [] (take c.in_ok-end.end items) in
+    let end = c.loop-left.invariant.end in
+    let below = c.in_ok-end.ensures.0 in
+    record {
+      end = omega arith;
+      outside =
+          c.loop-left.invariant.outside
+          ∙ outside_by_place c.loop-left.left c.loop-left.name.number core.next c.loop-left.end c.in_ok-end.end c.as_slice.result.now items x c.as_slice.ensures.value c.loop-left.invariant.end core.numbered c.in_ok-end.ensures c.index.ensures
+          ∙ next_link c.loop-left.left (frame_of x) (λ j. frame_outside rest j (number_of x.around)) c.loop-left-test.true
+          ∙ ap (λ (r : Option FrameName). frame_outside rest (c.loop-left.left - 1) (number_of r)) c.in_ok-name-2.was;
+    }
+
+pub returns : goal.returns
+returns c =
+    let core = c.args.core.now in
+    let items = core.frames.items in
+    let none : c.loop-left.left ≡ 0 = omega arith in
+    let same = c.loop-left.invariant.outside ∙ ap (λ (k : ℕ). frame_outside (frames_onto [] (take c.loop-left.end items)) k (Some c.loop-left.name.number)) none in
+    outside_same _ _ c.place_of-2.result items same
+    (outside_last c.loop-left.name.number core.next c.loop-left.end c.as_slice-2.result.now items c.place_of-2.result c.as_slice-2.ensures.value c.loop-left.invariant.end core.numbered c.place_of-2.ensures)

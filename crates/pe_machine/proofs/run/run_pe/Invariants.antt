@@ -1,0 +1,11 @@
+use Rattle.std.proofs.Common.{◌≡◌, false}
+use Rattle.pe_machine.specs.Seen.{seen}
+use Rattle.pe_machine.proofs.Reached.{Reached}
+use Rattle.pe_machine.proofs.run.run_pe.Given as goal
+
+abbrev pub invariant-loop-k : goal.invariant-loop-k
+invariant-loop-k g l = record {
+  reached : Reached l.code l.stack_words l.k (seen l.state) (record { left = g.I.Source.left l.fn.input; over = false; held = g.O.Sink.held l.fn.output }) (record { left = g.I.Source.left l.input; over = l.over; held = g.O.Sink.held l.output });
+  input_quiet : g.I.Source.faults l.input ≡ g.I.Source.faults l.fn.input;
+  output_quiet : g.O.Sink.faults l.output ≡ g.O.Sink.faults l.fn.output;
+}

@@ -1,0 +1,10 @@
+pub mod States
+pub mod Step
+pub mod Run
+pub mod Shown
+pub mod Sound
+pub mod Places
+pub mod Turns
+pub mod Seen
+pub mod Exchange
+pub mod Ends

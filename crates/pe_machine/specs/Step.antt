@@ -1,0 +1,259 @@
+-- The push-enter machine: what code does, step by step. An argument or a definition is pushed or bound as a thunk, a node of the source with a frame, and entered where its variable is
+-- used, as in Krivine's machine ("A call-by-name lambda-calculus machine", 2007). The steps, the load and the places of faults are those of the copy rule.
+use Rattle.std.specs.Prelude.{ℕ, ◌+◌, Bool, true, false, nat_eq, if◌then◌else◌, List, [], ◌∷◌, length, slice_get, Some, None, pos, negsuc}
+use Rattle.std.specs.declared.option.Option.{Option}
+use Rattle.fy_base.specs.declared.data.Place.{Place}
+use Rattle.fy_base.specs.declared.data.Datum.{Datum}
+use Rattle.fy_base.specs.declared.data.Datum.TheVariants as datum_kind
+use Rattle.fy_base.specs.declared.data.BinOp.{BinOp}
+use Rattle.fy_base.specs.declared.data.BinOp.TheVariants.{And, Or}
+use Rattle.fy_base.specs.declared.data.FaultKind.{FaultKind}
+use Rattle.fy_base.specs.declared.data.FaultKind.TheVariants.{Range}
+use Rattle.fy_base.specs.declared.arithmetic.Applied.{Applied}
+use Rattle.fy_base.specs.declared.arithmetic.Applied.TheVariants.{Gives, Faults, NoSense}
+use Rattle.fy_base.specs.Outside.{Bytes}
+use Rattle.fy_base.specs.Arithmetic.{unary_result, binary_result, written_text}
+use Rattle.fy_phrase.specs.Contexts.{op_1, op_l, op_r, if_c, case_c, arg_c, pick_c, then_c, assign_c, store_c, while_c, body_c, loop_c, new_c, drop_c, put_c, esc_c}
+use Rattle.fy_phrase.specs.Copy.{byte_or_end}
+use Rattle.pe_code.specs.declared.code.PeInsn.{PeInsn}
+use Rattle.pe_code.specs.declared.code.PeInsn.TheVariants as insn
+use Rattle.pe_code.specs.declared.code.PeItem.{PeItem}
+use Rattle.pe_code.specs.declared.code.PeCode.{PeCode}
+use Rattle.pe_code.specs.Code.{item_at, entry_of, picked_from}
+use Rattle.pe_machine.specs.States.{Pointer, Thunk, source, datum, cell_of, jump_of, Binding, to_thunk, to_cell, to_escape, Frame, Focus, code_at, value, completed, PeContext, Held, PeState, oldest, is_listed, frame_outside, datum_of, with_cell, handed_on}
+
+-- where a step leads
+pub data PeMove : Type 0 where
+  -- on to a state
+  goes : (s : PeState) → PeMove
+  -- bytes are put, and on to a state
+  puts : (text : Bytes) (s : PeState) → PeMove
+  -- the next byte of input is taken, or none at its end, and on to the state that it gives
+  takes : (go : Option ℕ → PeState) → PeMove
+  faults : (kind : FaultKind) (at : Place) → PeMove
+  -- no step is defined
+  sticks : PeMove
+  -- a frame that is named isn't in the list
+  loses : PeMove
+
+-- ---- words of the table
+
+-- the focus changes alone
+abbrev pub focus_on : Focus → PeState → PeState
+focus_on f s = record s { focus = f }
+
+-- a context is pushed: it keeps the load, to which it adds 8, and how many frames stand
+abbrev pub push : PeContext → PeState → PeState
+push c s = record s { contexts = (record { base = s.load; frames = length s.frames; context = c }) ∷ s.contexts; load = s.load + 8 }
+
+-- a frame of depth d is made in the frame around it: it takes the next number and adds 8 + d to the load
+abbrev pub bind : ℕ → Binding → Option ℕ → PeState → PeState
+bind d b around s =
+    record s { frames = (record { number = s.next; depth = d; binding = b; around = around }) ∷ s.frames; next = s.next + 1; load = s.load + (8 + d) }
+
+abbrev pub focused : Focus → PeState → PeMove
+focused f s = goes (focus_on f s)
+
+abbrev pub pushed : PeContext → Pointer → PeState → PeMove
+pushed c p s = goes (focus_on (code_at p) (push c s))
+
+-- a frame is made, and on with the body at the address, in that frame
+abbrev pub bound : ℕ → Binding → ℕ → Option ℕ → PeState → PeMove
+bound d b body around s = goes (focus_on (code_at (record { address = body; frame = Some s.next })) (bind d b around s))
+
+-- an answer takes the newest context off, sets the load to its base and cuts the frames back to those that stood; without a context the state is stuck
+abbrev pub answered : (PeContext → PeState → PeMove) → List Held → PeState → PeMove
+answered meets [] s = sticks
+answered meets (c ∷ cs) s = meets c.context (record s { contexts = cs; frames = oldest c.frames s.frames; load = c.base })
+
+-- the newest context is taken off; the load and the frames stay
+abbrev pub taken : (PeContext → PeState → PeMove) → List Held → PeState → PeMove
+taken meets [] s = sticks
+taken meets (c ∷ cs) s = meets c.context (record s { contexts = cs })
+
+-- ---- a datum meets a context
+
+-- the result of an operator, or its fault
+abbrev pub operated : Applied → Place → PeState → PeMove
+operated (Gives v) at s = focused (value v) s
+operated (Faults kind) at s = faults kind at
+operated NoSense at s = sticks
+
+-- the left operand's value: of `and` and `or` it may decide
+abbrev pub left_meets : BinOp → Datum → Pointer → Place → PeState → PeMove
+left_meets And (datum_kind.Bool true) q at s = focused (code_at q) s
+left_meets And (datum_kind.Bool false) q at s = focused (value (datum_kind.Bool false)) s
+left_meets And _ q at s = sticks
+left_meets Or (datum_kind.Bool true) q at s = focused (value (datum_kind.Bool true)) s
+left_meets Or (datum_kind.Bool false) q at s = focused (code_at q) s
+left_meets Or _ q at s = sticks
+left_meets op v q at s = pushed (op_r op v at) q s
+
+-- a condition's value chooses
+abbrev pub chosen : Datum → PeMove → PeMove → PeMove
+chosen (datum_kind.Bool true) m n = m
+chosen (datum_kind.Bool false) m n = n
+chosen _ m n = sticks
+
+-- the addresses of the parts of the instruction
+abbrev pub parts_at : Option PeItem → List ℕ
+parts_at (Some i) = picked_from i.insn
+parts_at None = []
+
+abbrev pub focused_if_some : Option ℕ → Option ℕ → Place → PeState → PeMove
+focused_if_some (Some a) frame at s = focused (code_at (record { address = a; frame = frame })) s
+focused_if_some None frame at s = faults Range at
+
+-- the part that an index picks, or the fault where there is none
+abbrev pub indexed : Datum → List ℕ → Option ℕ → Place → PeState → PeMove
+indexed (datum_kind.Int (pos n)) parts frame at s = focused_if_some (slice_get parts n) frame at s
+indexed (datum_kind.Int (negsuc n)) parts frame at s = faults Range at
+indexed _ parts frame at s = sticks
+
+-- the text of a datum, or none where it is of another kind
+abbrev pub written : Option Bytes → PeState → PeMove
+written (Some text) s = puts text (focus_on completed s)
+written None s = sticks
+
+-- a new cell holds v as long as the body runs
+abbrev pub stored : Datum → ℕ → Pointer → PeState → PeMove
+stored v d body s = bound d (to_cell v) body.address body.frame (push (drop_c s.next) s)
+
+abbrev pub datum_meets : PeCode → Datum → PeContext → PeState → PeMove
+datum_meets code v (op_1 op at) s = operated (unary_result op v) at s
+datum_meets code v (op_l op q at) s = left_meets op v q at s
+datum_meets code v (op_r op u at) s = operated (binary_result op u v) at s
+datum_meets code v (if_c p q) s = chosen v (focused (code_at p) s) (focused (code_at q) s)
+datum_meets code v (case_c parts at) s = indexed v (parts_at (item_at code parts.address)) parts.frame at s
+datum_meets code v (while_c loop c) s = chosen v (pushed (body_c loop) c s) (focused completed s)
+datum_meets code v (new_c d body) s = stored v d body s
+datum_meets code v (assign_c p) s = pushed (store_c v) p s
+datum_meets code v (put_c kind) s = written (written_text kind v) s
+datum_meets code v _ s = sticks
+
+-- ---- a finished command meets a context
+
+abbrev pub completion_meets : PeContext → PeState → PeMove
+completion_meets (then_c q) s = focused (code_at q) s
+completion_meets (body_c loop) s = focused (code_at loop) s
+completion_meets (loop_c loop) s = focused (code_at loop) s
+completion_meets (drop_c n) s = focused completed s
+completion_meets (esc_c n) s = focused completed s
+completion_meets _ s = sticks
+
+-- ---- a procedure, a field and an acceptor meet the context that demands them
+
+abbrev pub bind_meets : ℕ → ℕ → Option ℕ → PeContext → PeState → PeMove
+bind_meets d body around (arg_c t) s = bound d (to_thunk t) body around s
+bind_meets d body around _ s = sticks
+
+abbrev pub field_meets : ℕ → Pointer → PeContext → PeState → PeMove
+field_meets i p (pick_c j) s = if nat_eq i j then focused (code_at p) s else sticks
+field_meets i p _ s = sticks
+
+abbrev pub accept_meets : ℕ → ℕ → Option ℕ → PeContext → PeState → PeMove
+accept_meets d body around (store_c v) s = bound d (to_thunk (datum v)) body around s
+accept_meets d body around _ s = sticks
+
+-- ---- a thunk is entered at a shape
+
+-- a cell gives its datum
+abbrev pub loaded : Option Datum → PeState → PeMove
+loaded (Some v) s = focused (value v) s
+loaded None s = loses
+
+-- or takes a new one
+abbrev pub assigned : Option Datum → ℕ → Datum → PeState → PeMove
+assigned (Some u) n v s = focused completed (record s { frames = with_cell n v s.frames })
+assigned None n v s = loses
+
+abbrev pub assignment_meets : ℕ → PeContext → PeState → PeMove
+assignment_meets n (store_c v) s = assigned (datum_of n s.frames) n v s
+assignment_meets n _ s = sticks
+
+-- a cell takes a datum at the shape that asks for an assignment, and gives its own at every other
+abbrev pub cell_entered : Bool → ℕ → PeState → PeMove
+cell_entered true n s = taken (assignment_meets n) s.contexts s
+cell_entered false n s = loaded (datum_of n s.frames) s
+
+-- whether a context is that of jump n
+abbrev pub is_target : ℕ → PeContext → Bool
+is_target n (esc_c m) = nat_eq m n
+is_target n _ = false
+
+-- a jump takes off the contexts before its own and that one too, sets the load to its base and cuts the frames back
+abbrev pub jumped : ℕ → List Held → PeState → PeMove
+jumped n [] s = sticks
+jumped n (c ∷ cs) s =
+    if is_target n c.context then goes (record s { focus = completed; contexts = cs; frames = oldest c.frames s.frames; load = c.base })
+    else jumped n cs s
+
+-- an entry in a frame
+abbrev pub at_entry : Option ℕ → Option ℕ → PeState → PeMove
+at_entry (Some a) frame s = focused (code_at (record { address = a; frame = frame })) s
+at_entry None frame s = sticks
+
+-- where the frame that is named is in the list
+abbrev pub if_listed : Bool → PeMove → PeMove
+if_listed true m = m
+if_listed false m = loses
+
+-- whether the shape is the one that asks for an assignment
+abbrev pub is_assignment : Option ℕ → ℕ → Bool
+is_assignment None shape = false
+is_assignment (Some n) shape = nat_eq n shape
+
+abbrev pub entered : PeCode → ℕ → Thunk → PeState → PeMove
+entered code shape (source node frame) s = if_listed (is_listed frame s.frames) (at_entry (entry_of code node shape) frame s)
+entered code shape (datum v) s = focused (value v) s
+entered code shape (cell_of n) s = cell_entered (is_assignment code.assignment shape) n s
+entered code shape (jump_of n) s = if_listed (is_listed (Some n) s.frames) (jumped n s.contexts s)
+
+-- what the variable that is bound in the frame hands on
+abbrev pub with_variable : Option Frame → (Thunk → PeMove) → PeMove
+with_variable (Some f) go = go (handed_on f.number f.binding)
+with_variable None go = loses
+
+-- ---- one step, by the focus
+
+-- an instruction that stands at an address and is executed in a frame
+abbrev pub executed : PeCode → PeInsn → ℕ → Place → Pointer → PeState → PeMove
+executed code (insn.UseVar k shape) d at here s = with_variable (frame_outside s.frames k here.frame) (λ t. entered code shape t s)
+executed code (insn.Answer v) d at here s = focused (value v) s
+executed code (insn.Op1 op x) d at here s = pushed (op_1 op at) (record here { address = x }) s
+executed code (insn.Op2 op x y) d at here s = pushed (op_l op (record here { address = y }) at) (record here { address = x }) s
+executed code (insn.Cond x y z) d at here s = pushed (if_c (record here { address = y }) (record here { address = z })) (record here { address = x }) s
+executed code (insn.Case x ys) d at here s = pushed (case_c here at) (record here { address = x }) s
+executed code (insn.Bind y) d at here s = taken (bind_meets d y here.frame) s.contexts s
+executed code (insn.Pass n y) d at here s = pushed (arg_c (source n here.frame)) (record here { address = y }) s
+executed code (insn.PassVar k y) d at here s =
+    with_variable (frame_outside s.frames k here.frame) (λ t. pushed (arg_c t) (record here { address = y }) s)
+executed code (insn.Field i x) d at here s = taken (field_meets i (record here { address = x })) s.contexts s
+executed code (insn.Pick i x) d at here s = pushed (pick_c i) (record here { address = x }) s
+executed code (insn.Let n y) d at here s = bound d (to_thunk (source n here.frame)) y here.frame s
+executed code (insn.LetVar k y) d at here s =
+    with_variable (frame_outside s.frames k here.frame) (λ t. bound d (to_thunk t) y here.frame s)
+executed code (insn.Knot n y) d at here s = bound d (to_thunk (source n here.frame)) y here.frame s
+executed code insn.Done d at here s = focused completed s
+executed code (insn.Seq x y) d at here s = pushed (then_c (record here { address = y })) (record here { address = x }) s
+executed code (insn.Assign x y) d at here s = pushed (assign_c (record here { address = x })) (record here { address = y }) s
+executed code (insn.While x y) d at here s = pushed (while_c here (record here { address = y })) (record here { address = x }) s
+executed code (insn.Loop x) d at here s = pushed (loop_c here) (record here { address = x }) s
+executed code (insn.New x y) d at here s = pushed (new_c d (record here { address = y })) (record here { address = x }) s
+executed code (insn.Escape y) d at here s = bound d to_escape y here.frame (push (esc_c s.next) s)
+executed code (insn.Accept y) d at here s = taken (accept_meets d y here.frame) s.contexts s
+executed code (insn.Put kind x) d at here s = pushed (put_c kind) (record here { address = x }) s
+executed code (insn.Read x) d at here s = takes (λ byte. focus_on (code_at (record here { address = x })) (push (store_c (byte_or_end byte)) s))
+
+-- where no item stands at the address, no step is defined
+abbrev pub item_executed : PeCode → Option PeItem → Pointer → PeState → PeMove
+item_executed code (Some i) here s = executed code i.insn i.depth i.place here s
+item_executed code None here s = sticks
+
+abbrev pub step_at : PeCode → Focus → PeState → PeMove
+step_at code (code_at here) s = item_executed code (item_at code here.address) here s
+step_at code (value v) s = answered (datum_meets code v) s.contexts s
+step_at code completed s = answered completion_meets s.contexts s
+
+abbrev pub pe_step : PeCode → PeState → PeMove
+pe_step code s = step_at code s.focus s

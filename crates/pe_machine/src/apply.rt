@@ -1,0 +1,177 @@
+//! Plans are carried out.
+
+ghost use Rattle.std.specs.Prelude.{◌≡◌, ◌+◌, ◌^◌, ◌<◌, ◌≤◌};
+ghost use Rattle.pe_machine.specs.States.{PeState, with_datum, with_cell};
+ghost use Rattle.pe_machine.specs.Run.{load_after};
+ghost use Rattle.pe_machine.specs.Step.{bind, bound, focus_on, goes, push};
+ghost use Rattle.pe_machine.specs.Shown.{binding_of, context_of, focus_of, number_of};
+ghost use Rattle.pe_machine.specs.Turns.{IsFair, change_move, kept_of, state_of};
+
+use crate::contexts::{Context, Focus, Held, Pointer};
+use crate::core_state::Core;
+use crate::frames::{Binding, Frame, FrameName};
+use crate::lookup::place_of;
+use crate::turns::{Change, Kept};
+use fy_base::Datum;
+
+/// Another focus.
+pub fn set_focus(core: &mut Core, focus: Focus)
+    ensures state { state_of core.new ≡ focus_on (focus_of focus) (state_of core.old) }
+    ensures limit { core.new.limit ≡ core.old.limit }
+    ensures next { core.new.next ≡ core.old.next }
+    ensures load { core.new.load ≡ core.old.load }
+{
+    core.focus = focus;
+}
+
+/// Cuts the stacks back.
+#[tactic(auto, using(crate::proofs::Stacks::stacks))]
+pub fn cut(core: &mut Core, kept: Kept)
+    requires { IsFair core.old.limit kept }
+    ensures state { state_of core.new ≡ kept_of kept (state_of core.old) }
+    ensures limit { core.new.limit ≡ core.old.limit }
+    ensures next { core.new.next ≡ core.old.next }
+    ensures load { core.new.load ≡ kept.load }
+{
+    core.contexts.truncate(kept.contexts);
+    core.frames.truncate(kept.frames);
+    core.load = kept.load;
+}
+
+/// Pushes a context, which fits the limit.
+#[tactic(auto, using(crate::proofs::Stacks::stacks))]
+pub fn push_context(core: &mut Core, context: Context)
+    requires { core.old.load + 8 ≤ core.old.limit }
+    ensures state { state_of core.new ≡ push (context_of context) (state_of core.old) }
+    ensures limit { core.new.limit ≡ core.old.limit }
+    ensures next { core.new.next ≡ core.old.next }
+    ensures load { core.new.load ≡ core.old.load + 8 }
+{
+    let held = Held {
+        base: core.load,
+        frames: core.frames.len() as u32,
+        context,
+    };
+    match core.contexts.push(held) {
+        Ok(()) => {}
+        Err(_) => unreachable!(),
+    }
+    core.load += 8;
+}
+
+// Makes a frame, which fits the limit.
+#[tactic(auto, using(crate::proofs::Stacks::stacks))]
+fn push_frame(core: &mut Core, depth: u32, binding: Binding, around: Option<FrameName>)
+    requires load { core.old.load + (8 + depth) ≤ core.old.limit }
+    requires next { core.old.next + 1 < 2 ^ 64 }
+    ensures state { state_of core.new ≡ bind depth (binding_of binding) (number_of around) (state_of core.old) }
+    ensures limit { core.new.limit ≡ core.old.limit }
+    ensures next { core.new.next ≡ core.old.next + 1 }
+{
+    let frame = Frame {
+        number: core.next,
+        depth,
+        binding,
+        around,
+    };
+    match core.frames.push(frame) {
+        Ok(()) => {}
+        Err(_) => unreachable!(),
+    }
+    core.next += 1;
+    core.load += 8 + u64::from(depth);
+}
+
+// Makes a frame, and goes on with the body in it.
+fn enter_body(core: &mut Core, depth: u32, binding: Binding, body: Pointer)
+    requires load { core.old.load + (8 + depth) ≤ core.old.limit }
+    requires next { core.old.next + 1 < 2 ^ 64 }
+    ensures state { bound depth (binding_of binding) body.address (number_of body.frame) (state_of core.old) ≡ goes (state_of core.new) }
+    ensures limit { core.new.limit ≡ core.old.limit }
+    ensures next { core.new.next ≡ core.old.next + 1 }
+{
+    let name = FrameName {
+        place: core.frames.len() as u32,
+        number: core.next,
+    };
+    push_frame(core, depth, binding, body.frame);
+    let inner = Pointer {
+        address: body.address,
+        frame: Some(name),
+    };
+    set_focus(core, Focus::Code(inner));
+}
+
+// A cell holds another datum.
+fn with_datum(binding: Binding, v: Datum) -> Binding
+    ensures { binding_of result ≡ with_datum v (binding_of binding) }
+{
+    match binding {
+        Binding::ToCell(_) => Binding::ToCell(v),
+        other => other,
+    }
+}
+
+// The cell of a frame takes a datum, if the frame is there.
+fn set_cell(core: &mut Core, name: FrameName, v: Datum)
+    ensures state { state_of core.new ≡ record (state_of core.old) { frames = with_cell name.number v (state_of core.old).frames } }
+    ensures limit { core.new.limit ≡ core.old.limit }
+    ensures next { core.new.next ≡ core.old.next }
+{
+    if let Some(place) = place_of(core.frames.as_slice(), core.frames.len(), name) {
+        let frame = core.frames[place];
+        core.frames[place] = Frame {
+            number: frame.number,
+            depth: frame.depth,
+            binding: with_datum(frame.binding, v),
+            around: frame.around,
+        };
+    }
+}
+
+/// What a change adds to the load.
+pub fn cost_of(change: Change) -> u64
+    ensures cost { (s : PeState) → load_after (change_move change s) ≡ s.load + result }
+    ensures small { result < 2 ^ 33 }
+{
+    match change {
+        Change::Focus(_) => 0,
+        Change::Push(..) => 8,
+        Change::Bind(depth, ..) => 8 + u64::from(depth),
+        Change::NewCell(depth, ..) => 16 + u64::from(depth),
+        Change::NewEscape(depth, _) => 16 + u64::from(depth),
+        Change::SetCell(..) => 0,
+    }
+}
+
+/// Makes a change, which fits the limit.
+pub fn make(core: &mut Core, change: Change)
+    requires load { load_after (change_move change (state_of core.old)) ≤ core.old.limit }
+    requires next { core.old.next + 1 < 2 ^ 64 }
+    ensures state { change_move change (state_of core.old) ≡ goes (state_of core.new) }
+    ensures limit { core.new.limit ≡ core.old.limit }
+    ensures next { core.new.next ≤ core.old.next + 1 }
+{
+    match change {
+        Change::Focus(focus) => set_focus(core, focus),
+        Change::Push(context, p) => {
+            push_context(core, context);
+            set_focus(core, Focus::Code(p));
+        }
+        Change::Bind(depth, binding, body) => enter_body(core, depth, binding, body),
+        Change::NewCell(depth, v, body) => {
+            let number = core.next;
+            push_context(core, Context::Drop(number));
+            enter_body(core, depth, Binding::ToCell(v), body);
+        }
+        Change::NewEscape(depth, body) => {
+            let number = core.next;
+            push_context(core, Context::Escape(number));
+            enter_body(core, depth, Binding::ToEscape, body);
+        }
+        Change::SetCell(name, v) => {
+            set_cell(core, name, v);
+            set_focus(core, Focus::Completed);
+        }
+    }
+}

@@ -1,0 +1,27 @@
+//! What a step changes.
+
+ghost use Rattle.std.specs.Prelude.{◌+◌, ◌*◌, ◌^◌, ◌<◌, ◌≤◌, [], vec_len, vec_capacity};
+ghost use Rattle.pe_machine.specs.Shown.{frames_onto, contexts_onto};
+ghost use Rattle.pe_machine.specs.Sound.{IsNumbered, AreBased, numbered_prop, based_prop};
+
+use crate::contexts::{Focus, Held};
+use crate::frames::Frame;
+
+/// What a step changes, with the newest contexts and frames last, and the limit on the load. Frames
+/// and contexts take at least 8 of the load each, so there is room for all that the limit lets stand.
+#[derive(Debug, Drop)]
+pub struct Core {
+    pub focus: Focus,
+    pub contexts: Vec<Held>,
+    pub frames: Vec<Frame>,
+    pub next: u64,
+    pub load: u64,
+    pub limit: u64,
+    ghost numbered: { IsNumbered next (frames_onto [] frames.items) } by { numbered_prop next (frames_onto [] frames.items) },
+    ghost based: { AreBased limit (contexts_onto [] contexts.items) } by { based_prop limit (contexts_onto [] contexts.items) },
+    ghost counted: { 8 * (vec_len frames + vec_len contexts) ≤ load },
+    ghost within: { load ≤ limit },
+    ghost small: { limit < 2 ^ 32 },
+    ghost frame_room: { limit < 8 * (vec_capacity frames + 1) },
+    ghost context_room: { limit < 8 * (vec_capacity contexts + 1) },
+}

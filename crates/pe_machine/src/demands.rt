@@ -1,0 +1,116 @@
+//! What demands the newest context, and thunks that are entered.
+
+ghost use Rattle.std.specs.Prelude.{◌≡◌, Some};
+ghost use Rattle.pe_code.specs.Code.{entry_of};
+ghost use Rattle.pe_machine.specs.States.{PeState, datum_of, is_listed};
+ghost use Rattle.pe_machine.specs.Step.{assigned, at_entry, cell_entered, entered, if_listed, is_assignment, jumped, loaded};
+ghost use Rattle.pe_machine.specs.Shown.{context_of, number_of, thunk_of};
+ghost use Rattle.pe_machine.specs.Turns.{IsFair, demand_move, plan_move, state_of, turn_move};
+
+use crate::answers::{give_value, go_to};
+use crate::contexts::{Context, Pointer};
+use crate::core_state::Core;
+use crate::frames::{Binding, FrameName, Thunk};
+use crate::lookup::{datum_in, is_there};
+use crate::plans::{ask, jump, stay};
+use crate::turns::{Change, Demand, Plan, Turn};
+use fy_base::Datum;
+use pe_code::PeCode;
+
+// A cell takes a datum.
+fn assign(name: FrameName, v: Datum, core: &Core) -> Turn
+    ensures { (s : PeState) → s.frames ≡ (state_of core.now).frames → turn_move result s ≡ assigned (datum_of name.number s.frames) name.number v s }
+{
+    match datum_in(core, name) {
+        Some(_) => Turn::On(Change::SetCell(name, v)),
+        None => Turn::Gone,
+    }
+}
+
+/// What the context that is asked gives.
+pub fn meet_demand(demand: Demand, context: Context, core: &Core) -> Turn
+    ensures { (s : PeState) → s.frames ≡ (state_of core.now).frames → turn_move result s ≡ demand_move demand (context_of context) s }
+{
+    match (demand, context) {
+        (Demand::Argument(depth, body), Context::Arg(thunk)) => {
+            Turn::On(Change::Bind(depth, Binding::ToThunk(thunk), body))
+        }
+        (Demand::Selection(i, p), Context::Pick(j)) => {
+            if i == j { go_to(p) } else { Turn::Stuck }
+        }
+        (Demand::Assigned(depth, body), Context::Store(v)) => {
+            let thunk = Thunk::Literal(v);
+            Turn::On(Change::Bind(depth, Binding::ToThunk(thunk), body))
+        }
+        (Demand::Cell(name), Context::Store(v)) => assign(name, v, core),
+        _ => Turn::Stuck,
+    }
+}
+
+// A node is entered at a shape, in a frame.
+fn enter_source(code: &PeCode, node: u32, shape: u32, frame: Option<FrameName>, core: &Core) -> Turn
+    ensures { turn_move result (state_of core.now) ≡ if_listed (is_listed (number_of frame) (state_of core.now).frames) (at_entry (entry_of code.now node shape) (number_of frame) (state_of core.now)) }
+{
+    if !is_there(core, frame) {
+        return Turn::Gone;
+    }
+    match code.entry(node, shape) {
+        Some(address) => go_to(Pointer { address, frame }),
+        None => Turn::Stuck,
+    }
+}
+
+// A cell gives its datum.
+fn load_cell(name: FrameName, core: &Core) -> Turn
+    ensures { turn_move result (state_of core.now) ≡ loaded (datum_of name.number (state_of core.now).frames) (state_of core.now) }
+{
+    match datum_in(core, name) {
+        Some(v) => give_value(v),
+        None => Turn::Gone,
+    }
+}
+
+// Whether the shape is the one that asks for an assignment.
+fn is_assignment(code: &PeCode, shape: u32) -> bool
+    ensures { result ≡ is_assignment code.now.assignment shape }
+{
+    match code.assignment {
+        Some(number) => number == shape,
+        None => false,
+    }
+}
+
+// A cell takes a datum at the shape that asks for an assignment, and gives its own at every other.
+fn enter_cell(code: &PeCode, shape: u32, name: FrameName, core: &Core) -> Plan
+    ensures moves { plan_move result (state_of core.now) ≡ cell_entered (is_assignment code.now.assignment shape) name.number (state_of core.now) }
+    ensures fair { IsFair core.now.limit result.kept }
+{
+    if is_assignment(code, shape) {
+        return ask(Demand::Cell(name), core);
+    }
+    stay(core, load_cell(name, core))
+}
+
+// A jump to an escape that is still there.
+fn enter_jump(name: FrameName, core: &Core) -> Plan
+    ensures moves { plan_move result (state_of core.now) ≡ if_listed (is_listed (Some name.number) (state_of core.now).frames) (jumped name.number (state_of core.now).contexts (state_of core.now)) }
+    ensures fair { IsFair core.now.limit result.kept }
+{
+    if is_there(core, Some(name)) {
+        return jump(name.number, core);
+    }
+    stay(core, Turn::Gone)
+}
+
+/// A thunk is entered at a shape.
+pub fn enter(code: &PeCode, shape: u32, thunk: Thunk, core: &Core) -> Plan
+    ensures moves { plan_move result (state_of core.now) ≡ entered code.now shape (thunk_of thunk) (state_of core.now) }
+    ensures fair { IsFair core.now.limit result.kept }
+{
+    match thunk {
+        Thunk::Source(node, frame) => stay(core, enter_source(code, node, shape, frame, core)),
+        Thunk::Literal(v) => stay(core, give_value(v)),
+        Thunk::Cell(name) => enter_cell(code, shape, name, core),
+        Thunk::Jump(name) => enter_jump(name, core),
+    }
+}

@@ -1,0 +1,91 @@
+//! Frames by their names.
+
+ghost use Rattle.std.specs.Prelude.{◌≡◌, ◌<◌, ◌≤◌, ◌^◌, length};
+ghost use Rattle.std.specs.Option.{option_map};
+ghost use Rattle.pe_machine.specs.States.{datum_of, frame_outside, is_listed};
+ghost use Rattle.pe_machine.specs.Shown.{frame_of, number_of, thunk_of};
+ghost use Rattle.pe_machine.specs.Places.{IsOutside, IsPlace, handed_by};
+ghost use Rattle.pe_machine.specs.Turns.{state_of};
+
+use crate::core_state::Core;
+use crate::frames::{Binding, Frame, FrameName, Thunk};
+use fy_base::Datum;
+
+/// The place of the frame that is named among the oldest `end` frames. A frame that is there stands at the
+/// place of its name, so the others are looked through only where it is gone, and then the run is over.
+pub fn place_of(frames: &[Frame], end: usize, name: FrameName) -> Option<usize>
+    requires { end ≤ length frames.now }
+    ensures { IsPlace frames.now end name.number result }
+{
+    let place = name.place as usize;
+    if place < end && frames[place].number == name.number {
+        return Some(place);
+    }
+    for i in (0..end).rev() {
+        if frames[i].number == name.number {
+            return Some(i);
+        }
+    }
+    None
+}
+
+// The place of the frame so many links outside the one that is named, if one is.
+fn place_outside(core: &Core, links: u32, frame: Option<FrameName>) -> Option<usize>
+    ensures { IsOutside core.now.frames.items links frame result }
+{
+    let mut end = core.frames.len();
+    let mut name = frame?;
+    let mut left = links;
+    while left > 0 {
+        end = place_of(core.frames.as_slice(), end, name)?;
+        name = core.frames[end].around?;
+        left -= 1;
+    }
+    place_of(core.frames.as_slice(), end, name)
+}
+
+// What a variable of the frame at a place hands on.
+fn handed_on(place: usize, frame: Frame) -> Thunk
+    requires { place < 2 ^ 32 }
+    ensures { thunk_of result ≡ handed_by (frame_of frame) }
+{
+    let name = FrameName {
+        place: place as u32,
+        number: frame.number,
+    };
+    match frame.binding {
+        Binding::ToThunk(thunk) => thunk,
+        Binding::ToCell(_) => Thunk::Cell(name),
+        Binding::ToEscape => Thunk::Jump(name),
+    }
+}
+
+/// What the variable of the frame so many links outside the one that is named hands on. `None` is that a
+/// frame isn't there.
+pub fn variable(core: &Core, links: u32, frame: Option<FrameName>) -> Option<Thunk>
+    ensures { option_map thunk_of result ≡ option_map handed_by (frame_outside (state_of core.now).frames links (number_of frame)) }
+{
+    let place = place_outside(core, links, frame)?;
+    Some(handed_on(place, core.frames[place]))
+}
+
+/// Whether the frame that is named is there; where none is named, nothing is missing.
+pub fn is_there(core: &Core, frame: Option<FrameName>) -> bool
+    ensures { result ≡ is_listed (number_of frame) (state_of core.now).frames }
+{
+    match frame {
+        None => true,
+        Some(name) => place_of(core.frames.as_slice(), core.frames.len(), name).is_some(),
+    }
+}
+
+/// The datum in the cell of the frame that is named. `None` is that the frame isn't there, or holds no cell.
+pub fn datum_in(core: &Core, name: FrameName) -> Option<Datum>
+    ensures { result ≡ datum_of name.number (state_of core.now).frames }
+{
+    let place = place_of(core.frames.as_slice(), core.frames.len(), name)?;
+    match core.frames[place].binding {
+        Binding::ToCell(v) => Some(v),
+        _ => None,
+    }
+}

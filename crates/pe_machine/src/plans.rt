@@ -1,0 +1,121 @@
+//! Plans: what stays of the stacks, and what a step comes to then.
+
+ghost use Rattle.std.specs.Prelude.{◌≡◌, ◌-◌, [], length, MatchOption};
+ghost use Rattle.pe_machine.specs.Step.{answered, completion_meets, datum_meets, is_target, jumped, taken};
+ghost use Rattle.pe_machine.specs.Shown.{context_of};
+ghost use Rattle.pe_machine.specs.Places.{IsHeldAt};
+ghost use Rattle.pe_machine.specs.Turns.{IsFair, demand_move, plan_move, state_of, turn_move};
+
+use crate::answers::{complete, meet_completion, meet_datum};
+use crate::contexts::{Context, Held};
+use crate::core_state::Core;
+use crate::demands::meet_demand;
+use crate::turns::{Demand, Kept, Plan, Turn};
+use fy_base::Datum;
+use pe_code::PeCode;
+
+/// A step that cuts nothing.
+pub fn stay(core: &Core, turn: Turn) -> Plan
+    ensures moves { plan_move result (state_of core.now) ≡ turn_move turn (state_of core.now) }
+    ensures fair { IsFair core.now.limit result.kept }
+{
+    let kept = Kept {
+        contexts: core.contexts.len(),
+        frames: core.frames.len(),
+        load: core.load,
+    };
+    Plan { kept, turn }
+}
+
+// The newest context.
+fn newest(core: &Core) -> Option<Held>
+    ensures { MatchOption result ((state_of core.now).contexts ≡ []) (λ held. IsHeldAt held (length core.now.contexts.items - 1) core.now.contexts.items) }
+{
+    core.contexts.as_slice().last().copied()
+}
+
+// What stays where the context at a place and those after it are taken off, with the load and the frames that it keeps.
+fn kept_before(core: &Core, place: usize, held: Held) -> Kept
+    requires { IsHeldAt held place core.now.contexts.items }
+    ensures kept { result ≡ record { contexts = place; frames = held.frames; load = held.base } }
+    ensures fair { IsFair core.now.limit result }
+{
+    Kept {
+        contexts: place,
+        frames: held.frames as usize,
+        load: held.base,
+    }
+}
+
+/// A datum meets the newest context.
+pub fn answer(code: &PeCode, v: Datum, core: &Core) -> Plan
+    ensures moves { plan_move result (state_of core.now) ≡ answered (datum_meets code.now v) (state_of core.now).contexts (state_of core.now) }
+    ensures fair { IsFair core.now.limit result.kept }
+{
+    match newest(core) {
+        None => stay(core, Turn::Stuck),
+        Some(held) => Plan {
+            kept: kept_before(core, core.contexts.len() - 1, held),
+            turn: meet_datum(code, v, held.context),
+        },
+    }
+}
+
+/// A finished command meets the newest context.
+pub fn finish(core: &Core) -> Plan
+    ensures moves { plan_move result (state_of core.now) ≡ answered completion_meets (state_of core.now).contexts (state_of core.now) }
+    ensures fair { IsFair core.now.limit result.kept }
+{
+    match newest(core) {
+        None => stay(core, Turn::Stuck),
+        Some(held) => Plan {
+            kept: kept_before(core, core.contexts.len() - 1, held),
+            turn: meet_completion(held.context),
+        },
+    }
+}
+
+/// The newest context is asked, and taken off.
+pub fn ask(demand: Demand, core: &Core) -> Plan
+    ensures moves { plan_move result (state_of core.now) ≡ taken (demand_move demand) (state_of core.now).contexts (state_of core.now) }
+    ensures fair { IsFair core.now.limit result.kept }
+{
+    match newest(core) {
+        None => stay(core, Turn::Stuck),
+        Some(held) => Plan {
+            kept: Kept {
+                contexts: core.contexts.len() - 1,
+                frames: core.frames.len(),
+                load: core.load,
+            },
+            turn: meet_demand(demand, held.context, core),
+        },
+    }
+}
+
+// Whether a context is that of the jump.
+fn is_target(n: u64, context: Context) -> bool
+    ensures { result ≡ is_target n (context_of context) }
+{
+    match context {
+        Context::Escape(m) => m == n,
+        _ => false,
+    }
+}
+
+/// A jump to the context of its number.
+pub fn jump(n: u64, core: &Core) -> Plan
+    ensures moves { plan_move result (state_of core.now) ≡ jumped n (state_of core.now).contexts (state_of core.now) }
+    ensures fair { IsFair core.now.limit result.kept }
+{
+    for place in (0..core.contexts.len()).rev() {
+        let held = core.contexts[place];
+        if is_target(n, held.context) {
+            return Plan {
+                kept: kept_before(core, place, held),
+                turn: complete(),
+            };
+        }
+    }
+    stay(core, Turn::Stuck)
+}
