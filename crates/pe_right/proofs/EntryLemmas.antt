@@ -1,0 +1,114 @@
+-- What the code has for a node: its entries, and the instruction of its form.
+use Rattle.std.proofs.Common.{ℕ, ◌+◌, ◌≡◌, Bool, true, false, nat_eq, List, Option, Some, None, refl, sym, ap, ◌∙◌, ◌⊎◌, inl, inr, eq-eqb, eqb-true}
+use Rattle.fy_phrase.specs.declared.shapes.ShapeTable.{ShapeTable}
+use Rattle.fy_phrase.specs.declared.shapes.Pair.{Pair}
+use Rattle.fy_phrase.specs.Tree.{Tree, var, lit, unary, binary, cond as conditional, case, lam, app, field, sel, merge, let_in, rec, skip, seq, assign, while_do, forever, new, escape, accept, put, read, mark}
+use Rattle.fy_phrase.specs.Sizes.{nodes}
+use Rattle.fy_derive.specs.Shapes.{PlainShape, at_end, a_call, a_field, a_value, an_assignment, a_run}
+use Rattle.fy_derive.specs.ShapeTables.{shape_at, HasPairOf}
+use Rattle.pe_code.specs.declared.code.PeInsn.{PeInsn}
+use Rattle.pe_code.specs.declared.code.PeInsn.TheVariants as insn
+use Rattle.pe_code.specs.declared.code.PeCode.{PeCode}
+use Rattle.pe_code.specs.Code.{entry_of}
+use Rattle.pe_machine.specs.Step.{is_assignment}
+use Rattle.pe_right.specs.Right.{is_variable, Enters, EachEnters, IsInsnOf, of_var, of_lit, of_unary, of_binary, of_cond, of_case, of_lam, of_app, of_app_variable, of_field, of_sel, of_let, of_let_variable, of_rec, of_skip, of_seq, of_assign, of_while, of_forever, of_new, of_escape, of_accept, of_put, of_read}
+use Rattle.pe_right.proofs.Invariants.{Compiled}
+
+-- ---- the instruction of a form
+
+module _ (table : ShapeTable) (code : PeCode) where
+  -- what the instruction of the form that is node k and is demanded at the shape is
+  abbrev pub InsnIs : ℕ → Tree → PlainShape → PeInsn → Type 0
+  InsnIs k (var j at) s i = (n : ℕ) × (shape_at table n ≡ Some s) × (i ≡ insn.UseVar j n)
+  InsnIs k (lit v at) s i = i ≡ insn.Answer v
+  InsnIs k (unary op p at) s i = (x : ℕ) × Enters table code (k + 1) (at_end a_value) x × (i ≡ insn.Op1 op x)
+  InsnIs k (binary op p q at) s i =
+      (x y : ℕ) × Enters table code (k + 1) (at_end a_value) x × Enters table code (k + 1 + nodes p) (at_end a_value) y × (i ≡ insn.Op2 op x y)
+  InsnIs k (conditional b p q at) s i =
+      (x y z : ℕ) × Enters table code (k + 1) (at_end a_value) x × Enters table code (k + 1 + nodes b) s y × Enters table code (k + 1 + nodes b + nodes p) s z
+      × (i ≡ insn.Cond x y z)
+  InsnIs k (case e parts at) s i =
+      (x : ℕ) × (ys : List ℕ) × Enters table code (k + 1) (at_end a_value) x × EachEnters table code (k + 1 + nodes e) parts s ys × (i ≡ insn.Case x ys)
+  InsnIs k (lam d As b at) s i = (y : ℕ) × (t : PlainShape) × (s ≡ a_call t) × Enters table code (k + 1) t y × (i ≡ insn.Bind y)
+  InsnIs k (app p q at) s i =
+      (y : ℕ) × Enters table code (k + 1) (a_call s) y
+      × (((is_variable q ≡ None) × (i ≡ insn.Pass (k + 1 + nodes p) y)) ⊎ ((j : ℕ) × (is_variable q ≡ Some j) × (i ≡ insn.PassVar j y)))
+  InsnIs k (field f p at) s i = (x : ℕ) × (t : PlainShape) × (s ≡ a_field f t) × Enters table code (k + 1) t x × (i ≡ insn.Field f x)
+  InsnIs k (sel p f at) s i = (x : ℕ) × Enters table code (k + 1) (a_field f s) x × (i ≡ insn.Pick f x)
+  InsnIs k (merge p q at) s i = ⊥
+  InsnIs k (let_in d p b at) s i =
+      (y : ℕ) × Enters table code (k + 1 + nodes p) s y
+      × (((is_variable p ≡ None) × (i ≡ insn.Let (k + 1) y)) ⊎ ((j : ℕ) × (is_variable p ≡ Some j) × (i ≡ insn.LetVar j y)))
+  InsnIs k (rec d T b at) s i = (y : ℕ) × Enters table code (k + 1) s y × (i ≡ insn.Knot k y)
+  InsnIs k (skip at) s i = i ≡ insn.Done
+  InsnIs k (seq p q at) s i =
+      (x y : ℕ) × Enters table code (k + 1) (at_end a_run) x × Enters table code (k + 1 + nodes p) (at_end a_run) y × (i ≡ insn.Seq x y)
+  InsnIs k (assign p q at) s i =
+      (x y : ℕ) × Enters table code (k + 1) (at_end an_assignment) x × Enters table code (k + 1 + nodes p) (at_end a_value) y × (i ≡ insn.Assign x y)
+  InsnIs k (while_do b c at) s i =
+      (x y : ℕ) × Enters table code (k + 1) (at_end a_value) x × Enters table code (k + 1 + nodes b) (at_end a_run) y × (i ≡ insn.While x y)
+  InsnIs k (forever c at) s i = (x : ℕ) × Enters table code (k + 1) (at_end a_run) x × (i ≡ insn.Loop x)
+  InsnIs k (new d D e b at) s i =
+      (x y : ℕ) × Enters table code (k + 1) (at_end a_value) x × Enters table code (k + 1 + nodes e) (at_end a_run) y × (i ≡ insn.New x y)
+  InsnIs k (escape d b at) s i = (x : ℕ) × Enters table code (k + 1) (at_end a_run) x × (i ≡ insn.Escape x)
+  InsnIs k (accept d D b at) s i = (x : ℕ) × Enters table code (k + 1) (at_end a_run) x × (i ≡ insn.Accept x)
+  InsnIs k (put kind p at) s i = (x : ℕ) × Enters table code (k + 1) (at_end a_value) x × (i ≡ insn.Put kind x)
+  InsnIs k (read p at) s i = (x : ℕ) × Enters table code (k + 1) (at_end an_assignment) x × (i ≡ insn.Read x)
+  InsnIs k (mark m at) s i = ⊥
+
+  pub insn-is : {k : ℕ} {q : Tree} {s : PlainShape} {i : PeInsn} → IsInsnOf table code k q s i → InsnIs k q s i
+  insn-is (of_var {n = n} e) = (n, e, refl)
+  insn-is of_lit = refl
+  insn-is (of_unary {x = x} a) = (x, a, refl)
+  insn-is (of_binary {x = x} {y = y} a b) = (x, y, a, b, refl)
+  insn-is (of_cond {x = x} {y = y} {z = z} a b c) = (x, y, z, a, b, c, refl)
+  insn-is (of_case {x = x} {ys = ys} a each) = (x, ys, a, each, refl)
+  insn-is (of_lam {y = y} {s = s} a) = (y, s, refl, a, refl)
+  insn-is (of_app {y = y} e a) = (y, a, inl (e, refl))
+  insn-is (of_app_variable {j = j} {y = y} e a) = (y, a, inr (j, e, refl))
+  insn-is (of_field {x = x} {s = s} a) = (x, s, refl, a, refl)
+  insn-is (of_sel {x = x} a) = (x, a, refl)
+  insn-is (of_let {y = y} e a) = (y, a, inl (e, refl))
+  insn-is (of_let_variable {j = j} {y = y} e a) = (y, a, inr (j, e, refl))
+  insn-is (of_rec {y = y} a) = (y, a, refl)
+  insn-is of_skip = refl
+  insn-is (of_seq {x = x} {y = y} a b) = (x, y, a, b, refl)
+  insn-is (of_assign {x = x} {y = y} a b) = (x, y, a, b, refl)
+  insn-is (of_while {x = x} {y = y} a b) = (x, y, a, b, refl)
+  insn-is (of_forever {x = x} a) = (x, a, refl)
+  insn-is (of_new {x = x} {y = y} a b) = (x, y, a, b, refl)
+  insn-is (of_escape {x = x} a) = (x, a, refl)
+  insn-is (of_accept {x = x} a) = (x, a, refl)
+  insn-is (of_put {x = x} a) = (x, a, refl)
+  insn-is (of_read {x = x} a) = (x, a, refl)
+
+-- ---- entries
+
+module _ (g : Compiled) where
+  -- a pair of the table has an entry, whatever number its shape goes by
+  pub entry-found : (k n : ℕ) (s : PlainShape) → HasPairOf g.table k s → shape_at g.table n ≡ Some s → (a : ℕ) × (entry_of g.code k n ≡ Some a)
+  entry-found k n s h e =
+      let once : h.pair.shape ≡ n = g.typed.pairs.sound.shapes_once h.pair.shape n s h.shape_is e in
+      let is : h.pair ≡ record { node = k; shape = n } = named h.pair k n h.node_is once in
+      (g.right.entries k n).0 (h.place, h.stands ∙ ap Some is)
+    where
+      named : (x : Pair) (k n : ℕ) → x.node ≡ k → x.shape ≡ n → x ≡ record { node = k; shape = n }
+      named x k n e f = ap (λ (i : ℕ). record { node = i; shape = x.shape }) e ∙ ap (λ (i : ℕ). record { node = k; shape = i }) f
+
+  -- the shape that asks for an assignment is found among the numbers, and no other is
+  pub assignment-asked : (n : ℕ) → shape_at g.table n ≡ Some (at_end an_assignment) → is_assignment g.code.assignment n ≡ true
+  assignment-asked n e = ap (λ (o : Option ℕ). is_assignment o n) ((g.right.assignment n).1 e) ∙ eq-eqb n n refl
+
+  pub value-asked : (n : ℕ) → shape_at g.table n ≡ Some (at_end a_value) → is_assignment g.code.assignment n ≡ false
+  value-asked n e = by g.code.assignment refl
+    where
+      other : (m : ℕ) (b : Bool) → g.code.assignment ≡ Some m → nat_eq m n ≡ b → b ≡ false
+      other m false is t = refl
+      other m true is t =
+          let same : m ≡ n = eqb-true m n t in
+          let f = sym ((g.right.assignment n).0 (is ∙ ap Some same)) ∙ e in
+          absurd cc
+
+      by : (o : Option ℕ) → g.code.assignment ≡ o → is_assignment o n ≡ false
+      by None is = refl
+      by (Some m) is = other m (nat_eq m n) is refl

@@ -1,0 +1,17 @@
+pub mod Demanding
+pub mod ClosingLemmas
+pub mod FrameLemmas
+pub mod AnswerLemmas
+pub mod DerivedLemmas
+pub mod Invariants
+pub mod NodeLemmas
+pub mod EntryLemmas
+pub mod Growing
+pub mod ContextLemmas
+pub mod Moves
+pub mod MeetingLemmas
+pub mod EnteringLemmas
+pub mod TakingLemmas
+pub mod InstructionLemmas
+pub mod Reading
+pub mod RunLemmas

@@ -1,0 +1,186 @@
+-- Which code is that of a phrase and a table of demand shapes.
+use Rattle.std.specs.Prelude.{ℕ, ◌+◌, ◌≡◌, ◌⊎◌, ◌↔◌, true, false, List, [], ◌∷◌, ◌++◌, length, slice_get, Option, Some, None}
+use Rattle.fy_base.specs.declared.data.Place.{Place}
+use Rattle.fy_base.specs.declared.data.Datum.{Datum}
+use Rattle.fy_base.specs.declared.data.UnOp.{UnOp}
+use Rattle.fy_base.specs.declared.data.BinOp.{BinOp}
+use Rattle.fy_base.specs.declared.data.PutKind.{PutKind}
+use Rattle.fy_types.specs.Types.{PlainType, PlainTypes}
+use Rattle.fy_phrase.specs.declared.phrase.DataTy.{DataTy}
+use Rattle.fy_phrase.specs.declared.shapes.ShapeTable.{ShapeTable}
+use Rattle.fy_phrase.specs.Tree.{Tree, Trees, place_of, var, lit, unary, binary, cond, case, lam, app, field, sel, merge, let_in, rec, skip, seq, assign, while_do, forever, new, escape, accept, put, read, mark, no_trees, and_tree}
+use Rattle.fy_phrase.specs.Sizes.{nodes}
+use Rattle.fy_derive.specs.Kinds.{Kind, kind_of}
+use Rattle.fy_derive.specs.Shapes.{PlainShape, at_end, a_call, a_field, a_value, an_assignment, a_run, shape_begins}
+use Rattle.fy_derive.specs.ShapeTables.{shape_at}
+use Rattle.pe_code.specs.declared.code.PeInsn.{PeInsn}
+use Rattle.pe_code.specs.declared.code.PeInsn.TheVariants as insn
+use Rattle.pe_code.specs.declared.code.PeItem.{PeItem}
+use Rattle.pe_code.specs.declared.code.PeCode.{PeCode}
+use Rattle.pe_code.specs.Code.{item_at, entry_of}
+
+-- ---- nodes of a phrase, with the number of binders around them
+
+abbrev pub with_depth : ℕ → Trees → List (ℕ × Tree)
+with_depth d no_trees = []
+with_depth d (and_tree p ps) = (d, p) ∷ with_depth d ps
+
+-- the direct parts of a phrase under d binders, in order, each with the number of binders around it
+abbrev pub parts_under : ℕ → Tree → List (ℕ × Tree)
+parts_under d (var k at) = []
+parts_under d (lit v at) = []
+parts_under d (unary op p at) = (d, p) ∷ []
+parts_under d (binary op p q at) = (d, p) ∷ (d, q) ∷ []
+parts_under d (cond b p q at) = (d, b) ∷ (d, p) ∷ (d, q) ∷ []
+parts_under d (case e parts at) = (d, e) ∷ with_depth d parts
+parts_under d (lam n As b at) = (d + 1, b) ∷ []
+parts_under d (app p q at) = (d, p) ∷ (d, q) ∷ []
+parts_under d (field i p at) = (d, p) ∷ []
+parts_under d (sel p i at) = (d, p) ∷ []
+parts_under d (merge p q at) = (d, p) ∷ (d, q) ∷ []
+parts_under d (let_in n p b at) = (d, p) ∷ (d + 1, b) ∷ []
+parts_under d (rec n T b at) = (d + 1, b) ∷ []
+parts_under d (skip at) = []
+parts_under d (seq p q at) = (d, p) ∷ (d, q) ∷ []
+parts_under d (assign p q at) = (d, p) ∷ (d, q) ∷ []
+parts_under d (while_do b c at) = (d, b) ∷ (d, c) ∷ []
+parts_under d (forever c at) = (d, c) ∷ []
+parts_under d (new n D e b at) = (d, e) ∷ (d + 1, b) ∷ []
+parts_under d (escape n b at) = (d + 1, b) ∷ []
+parts_under d (accept n D b at) = (d + 1, b) ∷ []
+parts_under d (put kind p at) = (d, p) ∷ []
+parts_under d (read p at) = (d, p) ∷ []
+parts_under d (mark m at) = []
+
+mutual
+  -- q has the preorder number k and e binders around it, in p with the number m and d binders around it
+  pub data IsNodeUnder : (d m : ℕ) → Tree → (e k : ℕ) → Tree → Type 0 where
+    itself : {d m : ℕ} {p : Tree} → IsNodeUnder d m p d m p
+    in_part : {d m e k : ℕ} {p q : Tree} → IsNodeAmongUnder (m + 1) (parts_under d p) e k q → IsNodeUnder d m p e k q
+
+  pub data IsNodeAmongUnder : ℕ → List (ℕ × Tree) → (e k : ℕ) → Tree → Type 0 where
+    in_first : {d m e k : ℕ} {p q : Tree} {ps : List (ℕ × Tree)} → IsNodeUnder d m p e k q → IsNodeAmongUnder m ((d, p) ∷ ps) e k q
+    in_later : {d m e k : ℕ} {p q : Tree} {ps : List (ℕ × Tree)} → IsNodeAmongUnder (m + nodes p) ps e k q → IsNodeAmongUnder m ((d, p) ∷ ps) e k q
+
+abbrev mutual
+  -- the nodes of which thunks are made, in preorder of what makes them: a call the argument's, a definition the defined phrase's, a recursion its own
+  pub thunk_nodes : ℕ → Tree → List ℕ
+  thunk_nodes m (var k at) = []
+  thunk_nodes m (lit v at) = []
+  thunk_nodes m (unary op p at) = thunk_nodes (m + 1) p
+  thunk_nodes m (binary op p q at) = thunk_nodes (m + 1) p ++ thunk_nodes (m + 1 + nodes p) q
+  thunk_nodes m (cond b p q at) = thunk_nodes (m + 1) b ++ (thunk_nodes (m + 1 + nodes b) p ++ thunk_nodes (m + 1 + nodes b + nodes p) q)
+  thunk_nodes m (case e parts at) = thunk_nodes (m + 1) e ++ all_thunk_nodes (m + 1 + nodes e) parts
+  thunk_nodes m (lam d As b at) = thunk_nodes (m + 1) b
+  thunk_nodes m (app p q at) = (m + 1 + nodes p) ∷ (thunk_nodes (m + 1) p ++ thunk_nodes (m + 1 + nodes p) q)
+  thunk_nodes m (field i p at) = thunk_nodes (m + 1) p
+  thunk_nodes m (sel p i at) = thunk_nodes (m + 1) p
+  thunk_nodes m (merge p q at) = thunk_nodes (m + 1) p ++ thunk_nodes (m + 1 + nodes p) q
+  thunk_nodes m (let_in d p b at) = (m + 1) ∷ (thunk_nodes (m + 1) p ++ thunk_nodes (m + 1 + nodes p) b)
+  thunk_nodes m (rec d T b at) = m ∷ thunk_nodes (m + 1) b
+  thunk_nodes m (skip at) = []
+  thunk_nodes m (seq p q at) = thunk_nodes (m + 1) p ++ thunk_nodes (m + 1 + nodes p) q
+  thunk_nodes m (assign p q at) = thunk_nodes (m + 1) p ++ thunk_nodes (m + 1 + nodes p) q
+  thunk_nodes m (while_do b c at) = thunk_nodes (m + 1) b ++ thunk_nodes (m + 1 + nodes b) c
+  thunk_nodes m (forever c at) = thunk_nodes (m + 1) c
+  thunk_nodes m (new d D e b at) = thunk_nodes (m + 1) e ++ thunk_nodes (m + 1 + nodes e) b
+  thunk_nodes m (escape d b at) = thunk_nodes (m + 1) b
+  thunk_nodes m (accept d D b at) = thunk_nodes (m + 1) b
+  thunk_nodes m (put kind p at) = thunk_nodes (m + 1) p
+  thunk_nodes m (read p at) = thunk_nodes (m + 1) p
+  thunk_nodes m (mark k at) = []
+
+  pub all_thunk_nodes : ℕ → Trees → List ℕ
+  all_thunk_nodes m no_trees = []
+  all_thunk_nodes m (and_tree p ps) = thunk_nodes m p ++ all_thunk_nodes (m + nodes p) ps
+
+-- ---- the instruction of a form
+
+abbrev pub is_variable : Tree → Option ℕ
+is_variable (var k at) = Some k
+is_variable _ = None
+
+module _ (table : ShapeTable) (code : PeCode) where
+  -- node k is entered at the shape at the address
+  abbrev pub Enters : ℕ → PlainShape → ℕ → Type 0
+  Enters k s a = (n : ℕ) × (shape_at table n ≡ Some s) × (entry_of code k n ≡ Some a)
+
+  -- each of the parts, from node k on, is entered at the shape at its address
+  pub data EachEnters : ℕ → Trees → PlainShape → List ℕ → Type 0 where
+    no_parts : {k : ℕ} {s : PlainShape} → EachEnters k no_trees s []
+    and_part : {k y : ℕ} {p : Tree} {ps : Trees} {s : PlainShape} {ys : List ℕ} →
+        Enters k s y → EachEnters (k + nodes p) ps s ys → EachEnters k (and_tree p ps) s (y ∷ ys)
+
+  -- the instruction of a form that is node k and is demanded at a shape; its parts are entered at what it passes to them
+  pub data IsInsnOf : ℕ → Tree → PlainShape → PeInsn → Type 0 where
+    of_var : {k j n : ℕ} {at : Place} {s : PlainShape} → shape_at table n ≡ Some s → IsInsnOf k (var j at) s (insn.UseVar j n)
+    of_lit : {k : ℕ} {v : Datum} {at : Place} {s : PlainShape} → IsInsnOf k (lit v at) s (insn.Answer v)
+    of_unary : {k x : ℕ} {op : UnOp} {p : Tree} {at : Place} {s : PlainShape} →
+        Enters (k + 1) (at_end a_value) x → IsInsnOf k (unary op p at) s (insn.Op1 op x)
+    of_binary : {k x y : ℕ} {op : BinOp} {p q : Tree} {at : Place} {s : PlainShape} →
+        Enters (k + 1) (at_end a_value) x → Enters (k + 1 + nodes p) (at_end a_value) y → IsInsnOf k (binary op p q at) s (insn.Op2 op x y)
+    of_cond : {k x y z : ℕ} {b p q : Tree} {at : Place} {s : PlainShape} →
+        Enters (k + 1) (at_end a_value) x → Enters (k + 1 + nodes b) s y → Enters (k + 1 + nodes b + nodes p) s z →
+        IsInsnOf k (cond b p q at) s (insn.Cond x y z)
+    of_case : {k x : ℕ} {ys : List ℕ} {e : Tree} {parts : Trees} {at : Place} {s : PlainShape} →
+        Enters (k + 1) (at_end a_value) x → EachEnters (k + 1 + nodes e) parts s ys → IsInsnOf k (case e parts at) s (insn.Case x ys)
+    of_lam : {k d y : ℕ} {As : PlainTypes} {b : Tree} {at : Place} {s : PlainShape} →
+        Enters (k + 1) s y → IsInsnOf k (lam d As b at) (a_call s) (insn.Bind y)
+    -- an argument that is a variable has no thunk of its own
+    of_app : {k y : ℕ} {p q : Tree} {at : Place} {s : PlainShape} →
+        is_variable q ≡ None → Enters (k + 1) (a_call s) y → IsInsnOf k (app p q at) s (insn.Pass (k + 1 + nodes p) y)
+    of_app_variable : {k j y : ℕ} {p q : Tree} {at : Place} {s : PlainShape} →
+        is_variable q ≡ Some j → Enters (k + 1) (a_call s) y → IsInsnOf k (app p q at) s (insn.PassVar j y)
+    of_field : {k i x : ℕ} {p : Tree} {at : Place} {s : PlainShape} →
+        Enters (k + 1) s x → IsInsnOf k (field i p at) (a_field i s) (insn.Field i x)
+    of_sel : {k i x : ℕ} {p : Tree} {at : Place} {s : PlainShape} →
+        Enters (k + 1) (a_field i s) x → IsInsnOf k (sel p i at) s (insn.Pick i x)
+    -- nor has a definition that is one
+    of_let : {k d y : ℕ} {p b : Tree} {at : Place} {s : PlainShape} →
+        is_variable p ≡ None → Enters (k + 1 + nodes p) s y → IsInsnOf k (let_in d p b at) s (insn.Let (k + 1) y)
+    of_let_variable : {k d j y : ℕ} {p b : Tree} {at : Place} {s : PlainShape} →
+        is_variable p ≡ Some j → Enters (k + 1 + nodes p) s y → IsInsnOf k (let_in d p b at) s (insn.LetVar j y)
+    of_rec : {k d y : ℕ} {T : PlainType} {b : Tree} {at : Place} {s : PlainShape} →
+        Enters (k + 1) s y → IsInsnOf k (rec d T b at) s (insn.Knot k y)
+    of_skip : {k : ℕ} {at : Place} {s : PlainShape} → IsInsnOf k (skip at) s insn.Done
+    of_seq : {k x y : ℕ} {p q : Tree} {at : Place} {s : PlainShape} →
+        Enters (k + 1) (at_end a_run) x → Enters (k + 1 + nodes p) (at_end a_run) y → IsInsnOf k (seq p q at) s (insn.Seq x y)
+    of_assign : {k x y : ℕ} {p q : Tree} {at : Place} {s : PlainShape} →
+        Enters (k + 1) (at_end an_assignment) x → Enters (k + 1 + nodes p) (at_end a_value) y → IsInsnOf k (assign p q at) s (insn.Assign x y)
+    of_while : {k x y : ℕ} {b c : Tree} {at : Place} {s : PlainShape} →
+        Enters (k + 1) (at_end a_value) x → Enters (k + 1 + nodes b) (at_end a_run) y → IsInsnOf k (while_do b c at) s (insn.While x y)
+    of_forever : {k x : ℕ} {c : Tree} {at : Place} {s : PlainShape} →
+        Enters (k + 1) (at_end a_run) x → IsInsnOf k (forever c at) s (insn.Loop x)
+    of_new : {k d x y : ℕ} {D : DataTy} {e b : Tree} {at : Place} {s : PlainShape} →
+        Enters (k + 1) (at_end a_value) x → Enters (k + 1 + nodes e) (at_end a_run) y → IsInsnOf k (new d D e b at) s (insn.New x y)
+    of_escape : {k d x : ℕ} {b : Tree} {at : Place} {s : PlainShape} →
+        Enters (k + 1) (at_end a_run) x → IsInsnOf k (escape d b at) s (insn.Escape x)
+    of_accept : {k d x : ℕ} {D : DataTy} {b : Tree} {at : Place} {s : PlainShape} →
+        Enters (k + 1) (at_end a_run) x → IsInsnOf k (accept d D b at) s (insn.Accept x)
+    of_put : {k x : ℕ} {kind : PutKind} {p : Tree} {at : Place} {s : PlainShape} →
+        Enters (k + 1) (at_end a_value) x → IsInsnOf k (put kind p at) s (insn.Put kind x)
+    of_read : {k x : ℕ} {p : Tree} {at : Place} {s : PlainShape} →
+        Enters (k + 1) (at_end an_assignment) x → IsInsnOf k (read p at) s (insn.Read x)
+
+  -- the item of a form with d binders around it
+  pub record IsItemOf (d k : ℕ) (q : Tree) (s : PlainShape) (item : PeItem) : Type 0 where
+    pub insn : IsInsnOf k q s item.insn
+    pub depth : item.depth ≡ d
+    pub place : item.place ≡ place_of q
+
+  -- what stands where node k is entered at a shape: a merge is entered where the operand that takes the demand is, every other form at its own item
+  abbrev pub IsRightAt : (d k : ℕ) → Tree → PlainShape → ℕ → Type 0
+  IsRightAt d k (merge p q at) s a =
+      (kind : Kind) × (kind_of q ≡ Some kind) × ((shape_begins kind s ≡ true) × Enters (k + 1 + nodes p) s a ⊎ (shape_begins kind s ≡ false) × Enters (k + 1) s a)
+  IsRightAt d k q s a = (item : PeItem) × (item_at code a ≡ Some item) × IsItemOf d k q s item
+
+-- the code is that of the phrase and the table
+pub record IsCodeOf (p : Tree) (table : ShapeTable) (code : PeCode) : Type 0 where
+  -- there is an entry for each pair of the table, and for no other
+  pub entries : (k n : ℕ) → (((i : ℕ) × (slice_get table.pairs i ≡ Some (record { node = k; shape = n }))) ↔ ((a : ℕ) × (entry_of code k n ≡ Some a)))
+  -- the program's own entry is item 0
+  pub program : Enters table code 0 (at_end a_run) 0
+  pub right : (d k a : ℕ) (q : Tree) (s : PlainShape) → IsNodeUnder 0 0 p d k q → Enters table code k s a → IsRightAt table code d k q s a
+  pub shapes : code.shapes ≡ length table.shapes
+  pub assignment : (n : ℕ) → (code.assignment ≡ Some n) ↔ (shape_at table n ≡ Some (at_end an_assignment))
+  pub thunks : code.thunks ≡ thunk_nodes 0 p
