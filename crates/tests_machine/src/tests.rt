@@ -3,3 +3,4 @@ mod image;
 mod insn;
 mod machine;
 mod pe;
+mod shapes;

@@ -1,0 +1,10 @@
+pub mod Counts
+pub mod Shaping
+pub mod Closed
+pub mod Numbering
+pub mod Shown
+pub mod Contexts
+pub mod Parts
+pub mod Origins
+pub mod Standing
+pub mod Finding

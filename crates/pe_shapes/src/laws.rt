@@ -1,0 +1,10 @@
+//! The law of demand shapes.
+
+ghost use Rattle.pe_shapes.specs.Closed.{ShapeTablesAreClosed};
+
+/// The shape table of a derivation that [`check`](fy_derive::check) accepts is closed: it has the
+/// program's own node as a run, and with each pair of a node and a shape the pairs that the node's
+/// form passes to its parts. It does nothing: its contract is the law.
+pub fn shape_tables_are_closed()
+    ensures { ShapeTablesAreClosed }
+{}
