@@ -1,10 +1,9 @@
 -- Texts that are checked.
-use Rattle.std.proofs.Common.{◌≡◌, ℕ, ◌<◌, ◌≤◌, List, [], ◌∙◌, length, refl, sym, ap, subst, arith, inl, inr}
+use Rattle.std.proofs.Common.{◌≡◌, ℕ, ◌+◌, ◌<◌, ◌≤◌, List, [], ◌∙◌, length, refl, sym, ap, subst, arith, inl, inr}
 use Rattle.std.specs.Prelude.{◌≢◌, ◌⊎◌, IfOk, MatchResult, Some, None, Ok, Err}
 use Rattle.std.specs.declared.option.Option.{Option}
 use Rattle.std.specs.declared.result.Result.{Result}
 use Rattle.fy_base.specs.Outside.{Bytes, GainedPart, appended}
-use Rattle.fy_base.specs.declared.data.Place.{Place}
 use Rattle.fy_types.specs.Names.{first_names}
 use Rattle.fy_lexer.specs.declared.error.LexError.{LexError}
 use Rattle.fy_lexer.specs.declared.error.LexError.TheVariants as lexing
@@ -33,9 +32,18 @@ use Rattle.fy_derive.proofs.RunSafety.{accepted-typed}
 use Rattle.fy_least.specs.Blame.{blame_of}
 use Rattle.fy_least.specs.Finding.{IsFinding}
 use Rattle.fy_least.specs.Limits.{KeepTypeLimits}
+use Rattle.fy_least.proofs.ShapeLemmas.{shapes-least}
 use Rattle.fy_least.specs.declared.error.FindError.{FindError}
 use Rattle.fy_least.specs.declared.error.FindError.TheVariants as finding
-use Rattle.fy_tool.specs.Checked.{lex_refusal, parse_refusal, expand_refusal, find_refusal, IsProgramText, IsRefusedFor, not_judged, too_large, no_command, HasNames}
+use Rattle.fy_phrase.specs.Reads.{reads}
+use Rattle.fy_derive.specs.Reading.{plain_derivation}
+use Rattle.pe_shapes.specs.Counts.{HasMany, IsCount}
+use Rattle.pe_shapes.specs.Shaping.{most_shapes, most_pairs, IsShapeOf, IsPairOf, IsShaping}
+use Rattle.pe_shapes.specs.declared.error.ShapeError.{ShapeError}
+use Rattle.pe_shapes.specs.declared.error.ShapeError.TheVariants as shaping
+use Rattle.fy_tool.specs.Checked.{lex_refusal, parse_refusal, expand_refusal, find_refusal, shapes_refusal, IsProgramText, IsInUse, IsShownBy, IsLeastShape, IsLeastPair, IsAccepted, IsRefusedFor, not_judged, too_large, no_command, many_shapes, many_entries, large_tables, HasNames}
+use Rattle.fy_tool.specs.declared.check.Program.{Program as ProgramOfText}
+use Rattle.fy_tool.specs.Working.{IsOfText}
 use Rattle.fy_tool.specs.declared.refusal.Refusal.{Refusal}
 use Rattle.fy_tool.specs.declared.refusal.Refusal.TheVariants as refusal
 use Rattle.fy_tool.specs.declared.world.Stop.{Stop}
@@ -152,6 +160,42 @@ not_found P text p finding.OutOfMemory result is memory found = found_so P text 
 -- a phrase that a derivation concludes `comm` for is a command
 pub is_program : (text : Bytes) (p : Tree) (d : PlainDerivation) → IsJudged text (Ok p) → KeepTypeLimits (visits 0 [] p) → refusal_of (conclusion_of p d) ≡ None → IsProgramText text p
 is_program text p d is within accepted = record { is_judged = is; within = within; is_command = accepted-typed p d accepted }
+
+-- ---- demand shapes
+
+-- what many have, many have that it implies
+many_more : {X : Type 0} (n : ℕ) (F G : X → Type 0) → ((x : X) → F x → G x) → HasMany n F → HasMany n G
+many_more n F G f many = record { members = many.members; number = many.number; distinct = many.distinct; each = λ x here. f x (many.each x here) }
+
+counted_more : {X : Type 0} (n : ℕ) (F G : X → Type 0) → ((x : X) → F x → G x) → IsCount F n → HasMany n G
+counted_more n F G f count = record { members = count.members; number = count.number; distinct = count.distinct; each = λ x here. f x (count.each x here) }
+
+-- what finding the demand shapes of a derivation answers of a text with this core phrase
+pub not_shaped : {T : Type 0} (P : T → Type 0) (text : Bytes) (p : Tree) (d : PlainDerivation) (error : ShapeError) (result : Result (Result T Refusal) Stop) → IsShownBy text p d → IsShaping (Err error) p d → Found (shapes_refusal error) result
+    → Checked P text result
+not_shaped P text p d shaping.TooManyShapes result is many found =
+    found_so P text (Some refusal.Shapes) result found
+    (λ w told.
+    let same : refusal.Shapes ≡ w = cc in
+    subst (λ r. IsRefusedFor text r) same (many_shapes p d is many (many_more (most_shapes + 1) (IsShapeOf p d) (IsLeastShape p) (λ s has. (has.0, shapes-least p d has.0 s has.1)) many)))
+not_shaped P text p d shaping.TooManyEntries result is (few, many) found =
+    found_so P text (Some refusal.Entries) result found
+    (λ w told.
+    let same : refusal.Entries ≡ w = cc in
+    subst (λ r. IsRefusedFor text r) same (many_entries p d is few many (many_more (most_pairs + 1) (IsPairOf p d) (IsLeastPair p) (λ x has. shapes-least p d x.0 x.1 has) many)))
+not_shaped P text p d shaping.TablesTooLarge result is (passes, few) found =
+    found_so P text (Some refusal.Tables) result found
+    (λ w told.
+    let same : refusal.Tables ≡ w = cc in
+    subst (λ r. IsRefusedFor text r) same (large_tables p d is passes few (counted_more passes.shapes (IsShapeOf p d) (IsLeastShape p) (λ s has. (has.0, shapes-least p d has.0 s has.1)) passes.counted)))
+not_shaped P text p d shaping.OutOfMemory result is memory found = found_so P text None result found (λ w told. absurd cc)
+
+-- the derivation of a program is in use
+abbrev pub in_use : {text : Bytes} {program : ProgramOfText} → IsOfText text program → IsInUse (reads program.phrase) (plain_derivation program.derivation)
+in_use {text} {program} is = record { accepted = is.derived; table = program.table; just = is.table_is; limits = is.table_limits }
+
+pub is_accepted : {text : Bytes} {program : ProgramOfText} → IsOfText text program → IsAccepted text
+is_accepted {text} {program} is = record { phrase = reads program.phrase; is_program = is.is_program; derivation = plain_derivation program.derivation; in_use = in_use is }
 
 -- ---- what is written
 

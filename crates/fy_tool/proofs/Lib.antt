@@ -2,6 +2,7 @@ pub mod Contents
 pub mod Counting
 pub mod Lines
 pub mod Judging
+pub mod Programs
 pub mod Checking
 pub mod WholeRuns
 pub mod Parts
@@ -9,6 +10,9 @@ pub mod Executing
 pub mod Copying
 pub mod Tracing
 pub mod Keeping
+pub mod Stepwise
+pub mod StepLines
+pub mod StepRuns
 pub mod Listing
 pub mod Serving
 pub mod Auditing

@@ -16,17 +16,21 @@ use Rattle.fy_image.specs.Form.{IsImageBytes}
 use Rattle.fy_image.specs.Refusals.{refusal_of}
 use Rattle.fy_image.specs.declared.error.ImageError.{ImageError}
 use Rattle.fy_image.specs.declared.image.Image.{Image}
+use Rattle.pe_code.specs.declared.code.PeCode.{PeCode}
 use Rattle.rv_insn.specs.Program.{Program}
 use Rattle.rv_machine.specs.Start.{start_of, IsProgramOf as IsProgramOfImage}
 use Rattle.rv_machine.specs.Ends.{IsMachineEnd}
 use Rattle.fy_tool.specs.World.{Contents, Counts}
 use Rattle.fy_small.specs.Said.{image_of}
-use Rattle.fy_tool.specs.Checked.{IsProgramText, IsAccepted, IsRefusedFor}
+use Rattle.fy_tool.specs.Checked.{IsAccepted, IsRefusedFor}
 use Rattle.fy_tool.specs.declared.refusal.Refusal.{Refusal}
 use Rattle.fy_words.specs.Order.{Order, check, derive, build, exec, run, copy, list}
+use Rattle.fy_words.specs.Order as orders
 use Rattle.fy_tool.specs.Note.{refusal_note}
+use Rattle.fy_tool.specs.Stepping.{HasStepped, HasTraced}
+use Rattle.fy_tool.specs.Due.{IsRightCode, traces}
 use Rattle.fy_tool.specs.Due.{Due, told, BuildsText, TypesText, TakesImage, IsRefused, IsBuilt, IsOwnEnd, IsDue, usage, stopped, refused, accepted, written, accepts, faults, derives, copies, builds, lists, unread, executes, runs, kept_as, file_of, keeps_of, IsReadyFirst}
-use Rattle.fy_words.specs.Order.{copy_wanted, steps_wanted, stack_wanted}
+use Rattle.fy_words.specs.Order.{copy_wanted, trace_steps_wanted, steps_wanted, stack_wanted}
 use Rattle.fy_tool.specs.Counted.{Faulted, Counted}
 use Rattle.fy_tool.specs.Answers.{Did, IsOwn, Serves}
 use Rattle.fy_tool.specs.Working.{IsProgramOf, IsUnbegun, Keeps, Executes, KeepsAndRuns, HasRun, HasCopied, IsOfText, listed}
@@ -37,6 +41,7 @@ use Rattle.fy_tool.specs.declared.world.Stop.{Stop}
 use Rattle.fy_tool.specs.declared.world.Stop.TheVariants.{Input, Memory}
 use Rattle.fy_tool.proofs.Counting.{short_of_memory, faulted_keeps, counted_after, counted_reads}
 use Rattle.fy_tool.proofs.Parts.{content_of, part_none}
+use Rattle.fy_tool.proofs.Checking.{in_use}
 use Rattle.fy_tool.proofs.Keeping.{some_input}
 use Rattle.fy_read.proofs.PrintedLemmas.{printed_is_text}
 use Rattle.fy_small.proofs.Headlines.{small_runs_as_copy_rule, small_never_sticks, shows_copy_rule, one_program}
@@ -148,13 +153,28 @@ pub serves_derived : (file text : Bytes) (program : ProgramOfText) (b c d : Cont
 serves_derived file text program b c d k k1 k2 result is a ready (inl unbegun) = none_done (derive file) text b c d k k1 k2 result a unbegun
 serves_derived file text program b c d k k1 k2 result is a ready (inr did) =
     let input = some_input c.input in
-    done (derive file) text b c d k k1 k2 result _ input.0 a input.1 (derives file text input.0 (reads program.phrase) program.names (plain_derivation program.derivation) is.is_program is.named is.derived is.limits (printed_is_text program.names (plain_derivation program.derivation) is.printable)) did (λ _ memory. ready memory)
+    done (derive file) text b c d k k1 k2 result _ input.0 a input.1 (derives file text input.0 (reads program.phrase) program.names (plain_derivation program.derivation) is.is_program is.named (in_use is) is.limits (printed_is_text program.names (plain_derivation program.derivation) is.printable)) did (λ _ memory. ready memory)
 
 -- `copy` of a program
-pub serves_copied : (file : Bytes) (steps : Option ℕ) (text : Bytes) (p : Tree) (b c d : Contents) (k k1 k2 : Counts) (result : Result ℕ Stop) → IsProgramText text p → After (copy file steps) text b c d k k1 k2 result
-    → HasCopied p (copy_wanted steps) c d result → Serves (Some (copy file steps)) b d k k2 result
-serves_copied file steps text p b c d k k1 k2 result is a r =
-    done (copy file steps) text b c d k k1 k2 result _ r.input a r.fed (copies file steps text r.input p r.n r.end is r.is_run) r.did (λ ready. absurd ready)
+pub serves_copied : (file : Bytes) (steps : Option ℕ) (text : Bytes) (program : ProgramOfText) (b c d : Contents) (k k1 k2 : Counts) (result : Result ℕ Stop) → IsOfText text program → After (copy file steps) text b c d k k1 k2 result
+    → HasCopied (reads program.phrase) (copy_wanted steps) c d result → Serves (Some (copy file steps)) b d k k2 result
+serves_copied file steps text program b c d k k1 k2 result is a r =
+    done (copy file steps) text b c d k k1 k2 result _ r.input a r.fed (copies file steps text r.input (reads program.phrase) (plain_derivation program.derivation) r.n r.end is.is_program (in_use is) r.is_run) r.did (λ ready. absurd ready)
+
+-- code ran that is right
+pub traced_by : (program : ProgramOfText) (code : PeCode) (limit : ℕ) (c d : Contents) (result : Result ℕ Stop) → IsRightCode (reads program.phrase) program.table code → IsUnbegun c d result ⊎ HasStepped code program.names limit c d result
+    → IsUnbegun c d result ⊎ HasTraced program limit c d result
+traced_by program code limit c d result right (inl unbegun) = inl unbegun
+traced_by program code limit c d result right (inr r) = inr (record { code = code; right = right; run = r })
+
+-- `trace` of a program
+pub serves_traced : (file : Bytes) (steps : Option ℕ) (text : Bytes) (program : ProgramOfText) (b c d : Contents) (k k1 k2 : Counts) (result : Result ℕ Stop) → IsOfText text program → After (orders.trace file steps) text b c d k k1 k2 result
+    → IsUnbegun c d result ⊎ HasTraced program (trace_steps_wanted steps) c d result → Serves (Some (orders.trace file steps)) b d k k2 result
+serves_traced file steps text program b c d k k1 k2 result is a (inl unbegun) = none_done (orders.trace file steps) text b c d k k1 k2 result a unbegun
+serves_traced file steps text program b c d k k1 k2 result is a (inr t) =
+    let r = t.run in
+    done (orders.trace file steps) text b c d k k1 k2 result _ r.input a r.fed
+    (traces file steps text r.input (reads program.phrase) program.names (plain_derivation program.derivation) t.code r.n r.end is.is_program is.named (in_use is) t.right r.is_run) r.did (λ ready. absurd ready)
 
 is_built : (text : Bytes) (stack : ℕ) (p : Tree) → IsProgramOf text p → IsBuilt text stack p (image_of stack p)
 is_built text stack p is = record { short = is.short; program = is.program; stack_is = refl; runs = small_runs_as_copy_rule stack p is.command is.few }

@@ -10,11 +10,13 @@ use Rattle.fy_phrase.specs.Copy.{copy_after}
 use Rattle.rv_machine.specs.Ends.{AsksAt}
 use Rattle.rv_machine.specs.Run.{run}
 use Rattle.fy_copy.specs.Ends as copy
+use Rattle.pe_machine.specs.Ends as entered
+use Rattle.pe_machine.specs.Run.{pe_after}
 use Rattle.fy_tool.specs.World.{Contents, Counts, Later}
 use Rattle.fy_tool.specs.Counted.{Caused, OthersStand, Counted}
 use Rattle.fy_tool.specs.Note.{texts, ended_lines}
 use Rattle.fy_words.specs.Order.{Order}
-use Rattle.fy_tool.specs.Due.{Due, Runs, of_machine, of_phrase, IsDue, file_of, keeps_of, IsReadyFirst}
+use Rattle.fy_tool.specs.Due.{Due, Runs, of_machine, of_phrase, of_code, IsDue, file_of, keeps_of, IsReadyFirst}
 use Rattle.fy_tool.specs.declared.note.Note.TheVariants as note
 use Rattle.fy_tool.specs.declared.world.Stop.{Stop}
 use Rattle.fy_tool.specs.declared.world.Stop.TheVariants.{Fetch, Keep, Input, Output, Notes, Memory}
@@ -51,11 +53,13 @@ FilesPart (Some kept) stop before now = (now ≡ before) ⊎ Kept before now kep
 abbrev pub limit_of : Runs → ℕ
 limit_of (of_machine running) = running.limit
 limit_of (of_phrase copying) = copying.limit
+limit_of (of_code stepping) = stepping.limit
 
 -- what a run has left of its input after so many of them
 abbrev pub rest_after : Runs → ℕ → Bytes
 rest_after (of_machine running) n = (run running.program n running.first).input
 rest_after (of_phrase copying) n = (copy_after copying.phrase copying.input n).input
+rest_after (of_code stepping) n = (pe_after stepping.code stepping.input n).input
 
 -- what is left is what the run has left after some number of its steps, within its limit
 pub record IsLeftBy (running : Runs) (before now : Option Bytes) : Type 0 where
@@ -73,6 +77,7 @@ abbrev pub Asks : Option Runs → Type 0
 Asks None = ⊥
 Asks (Some (of_machine running)) = (n : ℕ) × (n ≤ running.limit) × AsksAt running.program running.first n
 Asks (Some (of_phrase copying)) = (n : ℕ) × (n ≤ copying.limit) × copy.AsksAt copying.phrase copying.input n
+Asks (Some (of_code stepping)) = (n : ℕ) × (n ≤ stepping.limit) × entered.AsksAt stepping.code stepping.input n
 
 -- whole lines of the due notes
 pub record WholeLines (notes : List Bytes) (before now : Option Bytes) : Type 0 where

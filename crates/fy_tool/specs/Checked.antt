@@ -1,6 +1,7 @@
 -- Which texts are accepted, and why the others are refused: by the first stage that refuses, where the stages are the length, the tokens,
--- the syntax with its nesting, the expansion, the core limits, and the typing with its limits.
-use Rattle.std.specs.Prelude.{◌≡◌, List, [], Some, None, Ok, Err}
+-- the syntax with its nesting, the expansion, the core limits, the typing with its limits, and the limits on the demand shapes of the
+-- derivation that is in use.
+use Rattle.std.specs.Prelude.{ℕ, ◌≡◌, ◌+◌, List, [], Some, None, Ok, Err}
 use Rattle.std.specs.declared.option.Option.{Option}
 use Rattle.fy_base.specs.Outside.{Bytes}
 use Rattle.fy_types.specs.Names.{first_names}
@@ -13,16 +14,25 @@ use Rattle.fy_lexer.specs.Tokens.{IsTokensOf}
 use Rattle.fy_grammar.specs.declared.error.ParseError.{ParseError}
 use Rattle.fy_grammar.specs.declared.error.ParseError.TheVariants as parsing
 use Rattle.fy_phrase.specs.Tree.{Tree}
+use Rattle.fy_phrase.specs.declared.shapes.ShapeTable.{ShapeTable}
 use Rattle.fy_expand.specs.declared.error.ExpandError.{ExpandError}
 use Rattle.fy_expand.specs.declared.error.ExpandError.TheVariants as expanding
 use Rattle.fy_expand.specs.Judged.{IsJudged, length_refused, tokens_refused, syntax_refused, depth_refused, expansion_refused}
 use Rattle.fy_expand.specs.Judged as judged
+use Rattle.fy_derive.specs.Derivations.{PlainDerivation}
+use Rattle.fy_derive.specs.Judging.{conclusion_of, refusal as refusal_of}
 use Rattle.fy_derive.specs.Typing.{HasType}
-use Rattle.fy_derive.specs.Least.{visits}
+use Rattle.fy_derive.specs.Least.{visits, least_shape_table}
+use Rattle.fy_derive.specs.Shapes.{PlainShape, shape_table}
+use Rattle.fy_derive.specs.ShapeTables.{HasJustPairs}
 use Rattle.fy_least.specs.Blame.{blame_of}
 use Rattle.fy_least.specs.Limits.{KeepTypeLimits, PassTypeLimits}
 use Rattle.fy_least.specs.declared.error.FindError.{FindError}
 use Rattle.fy_least.specs.declared.error.FindError.TheVariants as finding
+use Rattle.pe_shapes.specs.Counts.{HasMany, HasAtMost}
+use Rattle.pe_shapes.specs.Shaping.{most_shapes, most_pairs, IsShapeOf, IsPairOf, PassesWords, KeepsLimits as KeepsShapeLimits}
+use Rattle.pe_shapes.specs.declared.error.ShapeError.{ShapeError}
+use Rattle.pe_shapes.specs.declared.error.ShapeError.TheVariants as shaping
 use Rattle.fy_tool.specs.declared.refusal.Refusal.{Refusal}
 use Rattle.fy_tool.specs.declared.refusal.Refusal.TheVariants as refusal
 
@@ -57,6 +67,12 @@ find_refusal (finding.NoType place) = Some (refusal.NoType place)
 find_refusal finding.TypeTooLarge = Some refusal.LeastSize
 find_refusal finding.OutOfMemory = None
 
+abbrev pub shapes_refusal : ShapeError → Option Refusal
+shapes_refusal shaping.TooManyShapes = Some refusal.Shapes
+shapes_refusal shaping.TooManyEntries = Some refusal.Entries
+shapes_refusal shaping.TablesTooLarge = Some refusal.Tables
+shapes_refusal shaping.OutOfMemory = None
+
 -- how a refusal of the judged text is told
 abbrev pub told_as : judged.Refusal → Option Refusal
 told_as length_refused = Some refusal.Length
@@ -71,15 +87,48 @@ pub record IsProgramText (text : Bytes) (p : Tree) : Type 0 where
   pub within : KeepTypeLimits (visits 0 [] p)
   pub is_command : HasType [] p (atom Comm)
 
+-- ---- demand shapes
+
+-- a derivation that is in use: it shows that the phrase is a command, and the table of its demand shapes keeps the limits
+pub record IsInUse (p : Tree) (d : PlainDerivation) : Type 0 where
+  pub accepted : refusal_of (conclusion_of p d) ≡ None
+  pub table : ShapeTable
+  pub just : HasJustPairs table (shape_table p d)
+  pub limits : KeepsShapeLimits p table
+
+-- the text's core phrase is a command, as the derivation shows
+pub record IsShownBy (text : Bytes) (p : Tree) (d : PlainDerivation) : Type 0 where
+  pub is_program : IsProgramText text p
+  pub accepted : refusal_of (conclusion_of p d) ≡ None
+
+-- a shape of the least types, and a pair of a node and one of them
+abbrev pub IsLeastShape : Tree → PlainShape → Type 0
+IsLeastShape p s = (k : ℕ) × least_shape_table p k s
+
+abbrev pub IsLeastPair : Tree → ℕ × PlainShape → Type 0
+IsLeastPair p x = least_shape_table p x.0 x.1
+
+-- ---- texts
+
+-- the text's core phrase is a command by a derivation in use
 pub record IsAccepted (text : Bytes) : Type 0 where
   pub phrase : Tree
   pub is_program : IsProgramText text phrase
+  pub derivation : PlainDerivation
+  pub in_use : IsInUse phrase derivation
 
--- the first stage that refuses the text, and why; typing refuses for its limits before the type
+-- the first stage that refuses the text, and why; typing refuses for its limits before the type. Where a derivation passes a limit on
+-- demand shapes, so do the least types, which have the shapes of every derivation
 pub data IsRefusedFor (text : Bytes) : Refusal → Type 0 where
   not_judged : {why : Refusal} (cause : judged.Refusal) → IsJudged text (Err cause) → told_as cause ≡ Some why → IsRefusedFor text why
   too_large : (p : Tree) → IsJudged text (Ok p) → PassTypeLimits (visits 0 [] p) → IsRefusedFor text refusal.LeastSize
   no_command : (p : Tree) → IsJudged text (Ok p) → KeepTypeLimits (visits 0 [] p) → ¬ HasType [] p (atom Comm) → IsRefusedFor text (refusal.NoType (blame_of [] p))
+  many_shapes : (p : Tree) (d : PlainDerivation) → IsShownBy text p d → HasMany (most_shapes + 1) (IsShapeOf p d)
+      → HasMany (most_shapes + 1) (IsLeastShape p) → IsRefusedFor text refusal.Shapes
+  many_entries : (p : Tree) (d : PlainDerivation) → IsShownBy text p d → HasAtMost most_shapes (IsShapeOf p d) → HasMany (most_pairs + 1) (IsPairOf p d)
+      → HasMany (most_pairs + 1) (IsLeastPair p) → IsRefusedFor text refusal.Entries
+  large_tables : (p : Tree) (d : PlainDerivation) → IsShownBy text p d → (passes : PassesWords p d) → HasAtMost most_pairs (IsPairOf p d)
+      → HasMany passes.shapes (IsLeastShape p) → IsRefusedFor text refusal.Tables
 
 -- the names of the text: those that are always there, and then its others in the order in which they first stand in it
 pub record HasNames (text : Bytes) (names : List Bytes) : Type 0 where

@@ -7,10 +7,15 @@ use Rattle.fy_base.specs.declared.data.Ending.{Ending}
 use Rattle.fy_base.specs.declared.data.Ending.TheVariants as ends
 use Rattle.fy_phrase.specs.Tree.{Tree}
 use Rattle.fy_phrase.specs.Copy.{copy_after, peak_load}
+use Rattle.fy_phrase.specs.declared.shapes.ShapeTable.{ShapeTable}
 use Rattle.fy_copy.specs.Ends.{IsHeldBelow}
 use Rattle.fy_copy.specs.Ends as copy
+use Rattle.pe_code.specs.Valid.{IsValid}
+use Rattle.pe_code.specs.declared.code.PeCode.{PeCode}
+use Rattle.pe_machine.specs.Run.{pe_after}
+use Rattle.pe_right.specs.Right.{IsCodeOf}
+use Rattle.pe_right.specs.Follows.{FollowsCopyRule}
 use Rattle.fy_derive.specs.Derivations.{PlainDerivation}
-use Rattle.fy_derive.specs.Judging.{conclusion_of, refusal}
 use Rattle.fy_derive.specs.Limits.{KeepsLimits}
 use Rattle.fy_derive.specs.Print.{derivation_text}
 use Rattle.fy_read.specs.Spelling.{IsTextOf}
@@ -25,12 +30,13 @@ use Rattle.rv_machine.specs.Start.{IsProgramOf, start_of}
 use Rattle.rv_machine.specs.Run.{World, run, going_world}
 use Rattle.rv_machine.specs.Ends.{EndsSo}
 use Rattle.fy_small.specs.Small.{IsProgram}
-use Rattle.fy_tool.specs.Checked.{IsProgramText, IsAccepted, IsRefusedFor, HasNames}
+use Rattle.fy_tool.specs.Checked.{IsProgramText, IsInUse, IsAccepted, IsRefusedFor, HasNames}
 use Rattle.fy_small.specs.Headline.{RunsAsCopyRule, ShowsCopyRule}
-use Rattle.fy_words.specs.Order.{Order, stack_wanted, steps_wanted, copy_wanted}
+use Rattle.fy_words.specs.Order.{Order, stack_wanted, steps_wanted, copy_wanted, trace_steps_wanted}
 use Rattle.fy_words.specs.Order as orders
 use Rattle.fy_tool.specs.Note.{texts, ended_lines, refusal_note}
 use Rattle.fy_tool.specs.Shown.{shown, listing}
+use Rattle.fy_tool.specs.Steps.{Stepping, IsSteppedRun, step_lines}
 use Rattle.fy_tool.specs.declared.refusal.Refusal.{Refusal}
 use Rattle.fy_tool.specs.declared.note.Note.{Note}
 use Rattle.fy_tool.specs.declared.note.Note.TheVariants as note
@@ -50,6 +56,7 @@ pub record Copying : Type 0 where
 pub data Runs : Type 0 where
   of_machine : Running → Runs
   of_phrase : Copying → Runs
+  of_code : Stepping → Runs
 
 -- what is due; where the rest of the input is none, the input is as before. The notes are lines
 pub record Due : Type 0 where
@@ -182,6 +189,29 @@ copied copying n end = record {
   running = Some (of_phrase copying);
 }
 
+-- ---- push-enter code
+
+-- what is due for a run that ends so after n steps: a line for each, and how it ended
+abbrev pub stepped : Stepping → ℕ → Ending → Due
+stepped stepping n end = record {
+  status = status_of end;
+  output = (pe_after stepping.code stepping.input n).output;
+  notes = step_lines stepping.code stepping.names stepping.input n ++ texts (option_to_list (note_of end));
+  kept = None;
+  rest = Some (pe_after stepping.code stepping.input n).input;
+  running = Some (of_code stepping);
+}
+
+-- the code of a phrase by a table of the demand shapes of a derivation in use: it is right, and so it does what the copy rule does
+pub record IsRightCode (p : Tree) (table : ShapeTable) (code : PeCode) : Type 0 where
+  pub valid : IsValid code
+  pub right : IsCodeOf p table code
+  pub follows : FollowsCopyRule p code
+
+-- the run of code on an input, with lines by these names
+abbrev pub stepping_of : PeCode → List Bytes → Bytes → Option ℕ → Stepping
+stepping_of code names input steps = record { code = code; names = names; input = input; limit = trace_steps_wanted steps }
+
 -- ---- orders
 
 -- an order that makes the image of a text
@@ -190,6 +220,7 @@ BuildsText (orders.exec image steps trace) = ⊥
 BuildsText (orders.check file) = ⊥
 BuildsText (orders.derive file) = ⊥
 BuildsText (orders.copy file steps) = ⊥
+BuildsText (orders.trace file steps) = ⊥
 BuildsText (orders.build file image stack) = Unit {0}
 BuildsText (orders.run file steps stack image) = Unit {0}
 BuildsText (orders.list file) = Unit {0}
@@ -200,6 +231,7 @@ abbrev pub TypesText : Order → Type 0
 TypesText (orders.check file) = Unit {0}
 TypesText (orders.derive file) = Unit {0}
 TypesText (orders.copy file steps) = Unit {0}
+TypesText (orders.trace file steps) = Unit {0}
 TypesText (orders.build file image stack) = ⊥
 TypesText (orders.exec image steps trace) = ⊥
 TypesText (orders.run file steps stack image) = ⊥
@@ -215,6 +247,7 @@ TakesImage (orders.derive file) = ⊥
 TakesImage (orders.build file image stack) = ⊥
 TakesImage (orders.run file steps stack image) = ⊥
 TakesImage (orders.copy file steps) = ⊥
+TakesImage (orders.trace file steps) = ⊥
 TakesImage (orders.list file) = ⊥
 
 -- what is due for the words, by the content of the file that they name, if it has one, and by the input
@@ -229,13 +262,17 @@ pub data IsDue : Option Order → Option Bytes → Bytes → Due → Type 0 wher
   faults : (order : Order) (text input : Bytes) (why : Refusal) → TypesText order → IsRefusedFor text why → IsDue (Some order) (Some text) input (told 2 (note.Refused why ∷ []))
   -- `check` of a text that is one
   accepts : (file text input : Bytes) → IsAccepted text → IsDue (Some (orders.check file)) (Some text) input accepted
-  -- `derive` writes the text of a derivation that the phrase is a command; it can be read back, since it is one of that derivation, which keeps the limits
-  derives : (file text input : Bytes) (p : Tree) (names : List Bytes) (d : PlainDerivation) → IsProgramText text p → HasNames text names → refusal (conclusion_of p d) ≡ None
+  -- `derive` writes the text of the derivation in use, which shows that the phrase is a command; it can be read back, since it is one of that derivation, which keeps the limits
+  derives : (file text input : Bytes) (p : Tree) (names : List Bytes) (d : PlainDerivation) → IsProgramText text p → HasNames text names → IsInUse p d
       → KeepsLimits d → IsTextOf names d (derivation_text names d) → IsDue (Some (orders.derive file)) (Some text) input (written (derivation_text names d))
   -- `copy` runs the phrase by the copy rule
-  copies : (file : Bytes) (steps : Option ℕ) (text input : Bytes) (p : Tree) (n : ℕ) (end : Ending) → IsProgramText text p
+  copies : (file : Bytes) (steps : Option ℕ) (text input : Bytes) (p : Tree) (d : PlainDerivation) (n : ℕ) (end : Ending) → IsProgramText text p → IsInUse p d
       → IsCopyRun (record { phrase = p; input = input; limit = copy_wanted steps }) n end
       → IsDue (Some (orders.copy file steps)) (Some text) input (copied (record { phrase = p; input = input; limit = copy_wanted steps }) n end)
+  -- `trace` runs the phrase's code by that derivation, on a machine with so many words of stack, and tells each step
+  traces : (file : Bytes) (steps : Option ℕ) (text input : Bytes) (p : Tree) (names : List Bytes) (d : PlainDerivation) (code : PeCode) (n : ℕ) (end : Ending) → IsProgramText text p → HasNames text names
+      → (used : IsInUse p d) → IsRightCode p used.table code → IsSteppedRun (stepping_of code names input steps) n end
+      → IsDue (Some (orders.trace file steps)) (Some text) input (stepped (stepping_of code names input steps) n end)
   -- `build` keeps the image's bytes
   builds : (file name : Bytes) (stack : Option ℕ) (text input : Bytes) (p : Tree) (image : Image) (bytes : Bytes) → IsBuilt text (stack_wanted stack) p image → IsImageBytes image bytes
       → IsDue (Some (orders.build file name stack)) (Some text) input (record { status = 0; output = []; notes = []; kept = Some (name, bytes); rest = None; running = None })
@@ -266,6 +303,7 @@ file_of (orders.build file image stack) = file
 file_of (orders.exec image steps trace) = image
 file_of (orders.run file steps stack image) = file
 file_of (orders.copy file steps) = file
+file_of (orders.trace file steps) = file
 file_of (orders.list file) = file
 file_of (orders.audit image) = image
 
@@ -276,6 +314,7 @@ keeps_of (orders.check file) = []
 keeps_of (orders.derive file) = []
 keeps_of (orders.exec image steps trace) = []
 keeps_of (orders.copy file steps) = []
+keeps_of (orders.trace file steps) = []
 keeps_of (orders.list file) = []
 keeps_of (orders.audit image) = []
 
@@ -284,6 +323,7 @@ abbrev pub IsReadyFirst : Order → Type 0
 IsReadyFirst (orders.exec image steps (Some count)) = ⊥
 IsReadyFirst (orders.exec image steps None) = Unit {0}
 IsReadyFirst (orders.copy file steps) = ⊥
+IsReadyFirst (orders.trace file steps) = ⊥
 IsReadyFirst (orders.list file) = ⊥
 IsReadyFirst (orders.check file) = Unit {0}
 IsReadyFirst (orders.derive file) = Unit {0}

@@ -2,8 +2,10 @@ pub mod World
 pub mod Note
 pub mod Shown
 pub mod Checked
+pub mod Steps
 pub mod Due
 pub mod Counted
 pub mod Answers
 pub mod Working
 pub mod Audited
+pub mod Stepping

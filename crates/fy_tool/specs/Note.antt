@@ -11,7 +11,7 @@ use Rattle.fy_base.specs.declared.data.FaultKind.TheVariants.{Overflow, Zero, Ra
 use Rattle.fy_base.specs.declared.data.TrapKind.{TrapKind}
 use Rattle.fy_base.specs.declared.data.TrapKind.TheVariants.{Illegal, FetchAlign, FetchRange, LoadAlign, LoadRange, StoreAlign, StoreRange, Service}
 use Rattle.fy_tool.specs.declared.refusal.Refusal.{Refusal}
-use Rattle.fy_tool.specs.declared.refusal.Refusal.TheVariants.{Length, Byte, Unclosed, Number, Tokens, Syntax, Deep, Name, TypeName, Double, Letrec, Merge, Alternatives, TypeSize, CoreDepth, CoreSize, Visits, NoType, LeastSize}
+use Rattle.fy_tool.specs.declared.refusal.Refusal.TheVariants.{Length, Byte, Unclosed, Number, Tokens, Syntax, Deep, Name, TypeName, Double, Letrec, Merge, Alternatives, TypeSize, CoreDepth, CoreSize, Visits, NoType, LeastSize, Shapes, Entries, Tables}
 use Rattle.fy_tool.specs.declared.note.Note.{Note}
 use Rattle.fy_tool.specs.declared.note.Note.TheVariants.{Fault, StackExhausted, StepsSpent, CopyLimit, Trapped, Refused, Unbuilt, Usage, OutsideFiles, OutsideInput, OutsideOutput, Memory, Instructions, Copied, ImageMagic, ImageVersion, ImageTruncated, ImageTrailing, ImageField, ImageLength, Audit}
 
@@ -55,6 +55,9 @@ word_of CoreSize = codes "coresize"
 word_of Visits = codes "visits"
 word_of (NoType place) = codes "type "
 word_of LeastSize = codes "least"
+word_of Shapes = codes "shapes"
+word_of Entries = codes "entries"
+word_of Tables = codes "tables"
 
 abbrev pub place_of : Refusal → Option Place
 place_of Length = None
@@ -76,6 +79,9 @@ place_of CoreSize = None
 place_of Visits = None
 place_of (NoType place) = Some place
 place_of LeastSize = None
+place_of Shapes = None
+place_of Entries = None
+place_of Tables = None
 
 abbrev pub maybe_place_text : Option Place → Bytes
 maybe_place_text None = []

@@ -16,6 +16,9 @@ use Rattle.fy_derive.specs.Judging.{conclusion_of, refusal}
 use Rattle.fy_derive.specs.Limits.{KeepsLimits}
 use Rattle.fy_derive.specs.Printable.{IsPrintable}
 use Rattle.fy_derive.specs.Reading.{plain_derivation}
+use Rattle.fy_derive.specs.Shapes.{shape_table}
+use Rattle.fy_derive.specs.ShapeTables.{HasJustPairs}
+use Rattle.pe_shapes.specs.Shaping.{KeepsLimits as KeepsShapeLimits}
 use Rattle.rv_insn.specs.Program.{Program, AreRead}
 use Rattle.rv_insn.specs.Step.{Core}
 use Rattle.rv_machine.specs.Run.{going_world}
@@ -60,7 +63,7 @@ pub record IsCore (text : Bytes) (core : CoreOfText) : Type 0 where
   pub shallow : depth (reads core.phrase) ≤ 1023
   pub named : HasNames text core.names
 
--- the program of a text, with its names and a derivation that it is a command, which keeps the limits and can be written under these names
+-- the program of a text, with its names and a derivation that it is a command, which keeps the limits and can be written under these names, and whose demand shapes keep theirs
 pub record IsOfText (text : Bytes) (program : ProgramOfText) : Type 0 where
   pub is_program : IsProgramText text (reads program.phrase)
   pub shallow : depth (reads program.phrase) ≤ 1023
@@ -68,6 +71,8 @@ pub record IsOfText (text : Bytes) (program : ProgramOfText) : Type 0 where
   pub derived : refusal (conclusion_of (reads program.phrase) (plain_derivation program.derivation)) ≡ None
   pub limits : KeepsLimits (plain_derivation program.derivation)
   pub printable : IsPrintable program.names (plain_derivation program.derivation)
+  pub table_is : HasJustPairs program.table (shape_table (reads program.phrase) (plain_derivation program.derivation))
+  pub table_limits : KeepsShapeLimits (reads program.phrase) program.table
 
 -- a text that was checked
 abbrev pub Checks : Bytes → Option Folder → Result (Result ProgramOfText Refusal) Stop → Type 0

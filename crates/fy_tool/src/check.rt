@@ -5,7 +5,9 @@ ghost use Rattle.fy_tool.specs.Counted.{Counted};
 ghost use Rattle.fy_tool.specs.Checked.{IsRefusedFor};
 ghost use Rattle.fy_tool.specs.Working.{Checks, IsCore, IsOfText};
 
-use crate::refusal::{Refusal, expand_refusal, find_refusal, lex_refusal, parse_refusal};
+use crate::refusal::{
+    Refusal, expand_refusal, find_refusal, lex_refusal, parse_refusal, shapes_refusal,
+};
 use crate::world::{Stop, World};
 use fy_base::OutOfMemory;
 use fy_derive::Derivation;
@@ -13,18 +15,21 @@ use fy_expand::expand;
 use fy_grammar::parse;
 use fy_least::find;
 use fy_lexer::lex;
-use fy_phrase::Phrase;
+use fy_phrase::{Phrase, ShapeTable};
 use fy_types::Names;
+use pe_shapes::shapes_of;
 use std::alloc::Global;
 
 // The most bytes that a text has.
 const TEXT_LIMIT: usize = 1_048_576;
 
-/// What a text stands for: its core phrase, a derivation that this is a command, and its names.
+/// What a text stands for: its core phrase, a derivation that this is a command, the table of the
+/// derivation's demand shapes, and its names.
 #[derive(Debug, Drop)]
 pub(crate) struct Program {
     pub phrase: Phrase,
     pub derivation: Derivation,
+    pub table: ShapeTable,
     pub names: Names,
 }
 
@@ -80,19 +85,24 @@ fn program_of(alloc: Global, text: &[u8]) -> Result<Result<Program, Refusal>, St
         Ok(core) => core,
         Err(why) => return Ok(Err(why)),
     };
-    match find(alloc, &core.phrase) {
-        Ok(derivation) => Ok(Ok(Program {
+    let derivation = match find(alloc, &core.phrase) {
+        Ok(derivation) => derivation,
+        Err(error) => return refused(find_refusal(error)),
+    };
+    match shapes_of(alloc, &core.phrase, &derivation) {
+        Ok(table) => Ok(Ok(Program {
             phrase: core.phrase,
             derivation,
+            table,
             names: core.names,
         })),
-        Err(error) => refused(find_refusal(error)),
+        Err(error) => refused(shapes_refusal(error)),
     }
 }
 
 /// The program of the text in a file, or why it is none. The stages are its length, its tokens, its
-/// syntax with its nesting, its expansion, the core limits, and its typing with its limits; the first
-/// that refuses is told.
+/// syntax with its nesting, its expansion, the core limits, its typing with its limits, and the limits
+/// on the demand shapes of the derivation that is found; the first that refuses is told.
 pub(crate) fn program_in<W: World>(
     alloc: Global,
     file: &str,

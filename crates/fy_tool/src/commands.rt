@@ -11,18 +11,20 @@ ghost use Rattle.rv_insn.specs.declared.events.Status.TheVariants.{Running};
 ghost use Rattle.rv_machine.specs.Start.{IsProgramOf, start_of};
 ghost use Rattle.fy_tool.specs.Counted.{Counted};
 ghost use Rattle.fy_small.specs.Said.{IsCommand, puts_of, image_of};
-ghost use Rattle.fy_words.specs.Order.{order_of, check, derive, build, exec, run, copy, list};
+ghost use Rattle.fy_words.specs.Order.{order_of, check, derive, build, exec, run, copy, trace, list};
 ghost use Rattle.fy_tool.specs.Due.{written, kept_as};
-ghost use Rattle.fy_words.specs.Order.{copy_wanted, steps_wanted, stack_wanted, IsInRange};
+ghost use Rattle.fy_words.specs.Order.{copy_wanted, trace_steps_wanted, steps_wanted, stack_wanted, IsInRange};
 ghost use Rattle.fy_tool.specs.Answers.{Did, IsOwn, Serves};
+ghost use Rattle.fy_tool.specs.Stepping.{HasTraced, IsOfSomeText};
 ghost use Rattle.fy_tool.specs.Working.{Executes, Keeps, KeepsAndRuns, IsUnbegun, ReadsImage, listed};
 
 use crate::audit::audit_file;
-use crate::check::program_in;
+use crate::check::{Program as ProgramOfText, program_in};
 use crate::note::{Note, refusal_note};
 use crate::runs::{run_copied, run_machine, run_traced};
 use crate::shown::line_of;
 use crate::source::{image_of, keep_image, source};
+use crate::steps::run_stepped;
 use crate::tell::refuse;
 use crate::world::{Stop, World};
 use fy_base::OutOfMemory;
@@ -31,6 +33,7 @@ use fy_image::{Image, read_image};
 use fy_phrase::Phrase;
 use fy_types::Names;
 use fy_words::Command;
+use pe_gen::generate;
 use rv_machine::{Fetched, Machine};
 use std::alloc::Global;
 
@@ -45,6 +48,9 @@ const RUN_LIMIT: u64 = 1_000_000_000;
 
 // The most steps of the copy rule where no option says them.
 const COPY_LIMIT: u64 = 100_000;
+
+// The most steps of push-enter code where no option says them.
+const TRACE_LIMIT: u64 = 10_000;
 
 // The address of the first word of code.
 const CODE_START: u64 = 65_536;
@@ -206,6 +212,52 @@ fn copy_file<W: World>(
         Err(stop) => Err(stop),
         Ok(Err(why)) => refuse(2, Note::Refused(why), world),
         Ok(Ok(program)) => run_copied(alloc, &program.phrase, copy_wanted(steps), world),
+    }
+}
+
+// The most steps of push-enter code that are wanted.
+fn trace_steps_wanted(steps: Option<u64>) -> u64
+    ensures { result ≡ trace_steps_wanted steps }
+{
+    steps.unwrap_or(TRACE_LIMIT)
+}
+
+// Runs the push-enter code of a program, and tells each step.
+fn trace_program<W: World>(
+    alloc: Global,
+    program: &ProgramOfText,
+    steps: u64,
+    world: &mut W,
+) -> Result<u8, Stop>
+    requires text { IsOfSomeText program.now }
+    requires steps { steps ≤ 1000000 }
+    ensures traced { IsUnbegun (W.holds world.old) (W.holds world.new) result
+        ⊎ HasTraced program.now steps (W.holds world.old) (W.holds world.new) result }
+    ensures own { IfOk result IsOwn }
+    ensures counted { Counted [] [] (W.counts world.old) (W.counts world.new) result }
+    ensures same { W.names world.new ≡ W.names world.old }
+{
+    match generate(alloc, &program.phrase, &program.table) {
+        Ok(code) => run_stepped(alloc, &code, &program.names, steps, world),
+        Err(OutOfMemory) => Err(Stop::Memory),
+    }
+}
+
+// Runs the push-enter code of the text in a file, and tells each step.
+fn trace_file<W: World>(
+    alloc: Global,
+    file: &str,
+    steps: Option<u64>,
+    world: &mut W,
+) -> Result<u8, Stop>
+    requires { trace_steps_wanted steps ≤ 1000000 }
+    ensures serves { Serves (Some (trace file.now steps)) (W.holds world.old) (W.holds world.new) (W.counts world.old) (W.counts world.new) result }
+    ensures same { W.names world.new ≡ W.names world.old }
+{
+    match program_in(alloc, file, world) {
+        Err(stop) => Err(stop),
+        Ok(Err(why)) => refuse(2, Note::Refused(why), world),
+        Ok(Ok(program)) => trace_program(alloc, &program, trace_steps_wanted(steps), world),
     }
 }
 
@@ -438,6 +490,7 @@ pub fn serve<W: World>(alloc: Global, command: Command, world: &mut W) -> Result
             image,
         } => run_file(alloc, file, steps, stack, image, world),
         Command::Copy { file, steps } => copy_file(alloc, file, steps, world),
+        Command::Trace { file, steps } => trace_file(alloc, file, steps, world),
         Command::List { file } => list_file(alloc, file, world),
         Command::Audit { image } => audit_file(alloc, image, world),
     }

@@ -9,6 +9,7 @@ mod refusal;
 mod runs;
 mod shown;
 mod source;
+mod steps;
 mod tell;
 mod top;
 mod trace;

@@ -2,13 +2,14 @@
 
 ghost use Rattle.std.specs.Prelude.{◌≡◌, ◌≤◌, length};
 ghost use Rattle.fy_tool.specs.Note.{word_of, place_of};
-ghost use Rattle.fy_tool.specs.Checked.{lex_refusal, parse_refusal, expand_refusal, find_refusal};
+ghost use Rattle.fy_tool.specs.Checked.{lex_refusal, parse_refusal, expand_refusal, find_refusal, shapes_refusal};
 
 use fy_base::Place;
 use fy_expand::ExpandError;
 use fy_grammar::ParseError;
 use fy_least::FindError;
 use fy_lexer::LexError;
+use pe_shapes::ShapeError;
 
 /// Why a text is refused, and where.
 #[derive(Clone, Copy, PartialEq, Eq, Debug)]
@@ -51,6 +52,12 @@ pub enum Refusal {
     NoType(Place),
     /// A least type or a written type is too large, or all least types together are.
     LeastSize,
+    /// The derivation that is in use has over 256 demand shapes.
+    Shapes,
+    /// It has over 65,536 pairs of a node and a demand shape.
+    Entries,
+    /// The tables for its demand shapes would have over 1,048,576 words.
+    Tables,
 }
 
 impl Refusal {
@@ -79,6 +86,9 @@ impl Refusal {
             Refusal::Visits => "visits",
             Refusal::NoType(_) => "type ",
             Refusal::LeastSize => "least",
+            Refusal::Shapes => "shapes",
+            Refusal::Entries => "entries",
+            Refusal::Tables => "tables",
         }
     }
 
@@ -92,7 +102,10 @@ impl Refusal {
             | Refusal::CoreDepth
             | Refusal::CoreSize
             | Refusal::Visits
-            | Refusal::LeastSize => None,
+            | Refusal::LeastSize
+            | Refusal::Shapes
+            | Refusal::Entries
+            | Refusal::Tables => None,
             Refusal::Byte(place)
             | Refusal::Unclosed(place)
             | Refusal::Number(place)
@@ -161,5 +174,18 @@ pub(crate) fn find_refusal(error: FindError) -> Option<Refusal>
         FindError::NoType(place) => Some(Refusal::NoType(place)),
         FindError::TypeTooLarge => Some(Refusal::LeastSize),
         FindError::OutOfMemory => None,
+    }
+}
+
+/// The refusal of a derivation whose table of demand shapes passes a limit, or `None` where memory
+/// was wanting.
+pub(crate) fn shapes_refusal(error: ShapeError) -> Option<Refusal>
+    ensures { result ≡ shapes_refusal error }
+{
+    match error {
+        ShapeError::TooManyShapes => Some(Refusal::Shapes),
+        ShapeError::TooManyEntries => Some(Refusal::Entries),
+        ShapeError::TablesTooLarge => Some(Refusal::Tables),
+        ShapeError::OutOfMemory => None,
     }
 }

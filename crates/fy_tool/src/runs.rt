@@ -27,7 +27,8 @@ use fy_phrase::Phrase;
 use rv_machine::{Machine, MachineRun, Unwatched};
 use std::alloc::Global;
 
-fn status_of(end: Ending) -> u8
+/// The status that a run's end is told by.
+pub(crate) fn status_of(end: Ending) -> u8
     ensures status { result ≡ status_of end }
     ensures own { IsOwn result }
 {
@@ -40,7 +41,8 @@ fn status_of(end: Ending) -> u8
     }
 }
 
-fn note_of(end: Ending) -> Option<Note>
+/// The note that a run's end is told by, if it has one.
+pub(crate) fn note_of(end: Ending) -> Option<Note>
     ensures { result ≡ note_of end }
 {
     match end {

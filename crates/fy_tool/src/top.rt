@@ -38,7 +38,7 @@ fn answer<W: World>(alloc: Global, command: Option<Command>, world: &mut W) -> u
 /// |---|---|
 /// | 0 | done, or the program ended |
 /// | 1 | the program faulted |
-/// | 2 | `check`, `derive` or `copy` refuses the text, or it can't be built yet: it has over 4,096 bytes or isn't of the small grammar |
+/// | 2 | `check`, `derive`, `copy` or `trace` refuses the text, or it can't be built yet: it has over 4,096 bytes or isn't of the small grammar |
 /// | 3 | the stack was exhausted |
 /// | 4 | all the instructions or steps that were allowed are spent, or the next focus of the copy rule is too large to hold |
 /// | 5 | the words are no command |

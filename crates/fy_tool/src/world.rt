@@ -1,9 +1,9 @@
 //! The four objects of a call as one.
 
-ghost use Rattle.std.specs.Prelude.{◌≡◌, ◌≢◌, ◌≤◌, ◌⊎◌, OnOk, OnErr, IfOk, IfErr, MatchOption, List, [], ◌∷◌, Some, Err, length};
-ghost use Rattle.std.specs.Option.{ForSome};
+ghost use Rattle.std.specs.Prelude.{◌≡◌, ◌≢◌, ◌≤◌, ◌⊎◌, IsTrue, is_none, OnOk, OnErr, IfOk, IfErr, MatchOption, List, [], ◌∷◌, Some, Err, length};
+ghost use Rattle.std.specs.Option.{ForSome, option_to_list};
 ghost use Rattle.std.specs.Borrow.{GName};
-ghost use Rattle.fy_base.specs.Outside.{GainedPart, Tells, IsLong, OthersStay, appended};
+ghost use Rattle.fy_base.specs.Outside.{Drew, GainedPart, IsAtEnd, Tells, IsLong, OthersStay, appended};
 ghost use Rattle.fy_copy.specs.Ends.{DoesPart, IsCopyEnd, RunsTo as CopyRunsTo};
 ghost use Rattle.fy_phrase.specs.Reads.{reads};
 ghost use Rattle.fy_phrase.specs.Sizes.{depth};
@@ -13,7 +13,7 @@ ghost use Rattle.rv_insn.specs.declared.events.Status.TheVariants.{Running};
 ghost use Rattle.fy_tool.specs.World.{Contents, Counts};
 ghost use Rattle.fy_tool.specs.Counted.{Counted, Faulted};
 
-use fy_base::{Ending, FetchError, Files, KeepError, OutOfMemory, Sink, Source};
+use fy_base::{Ending, FetchError, Files, KeepError, OutOfMemory, Sink, Source, next_byte};
 use fy_copy::{CopyRun, run_copy};
 use fy_phrase::Phrase;
 use rv_machine::{Machine, MachineRun, Watch, run_watched};
@@ -75,6 +75,17 @@ pub trait World {
         ensures rest { holds self.new ≡ record (holds self.old) { output = (holds self.new).output } }
         ensures part { OnErr result (GainedPart (holds self.old).output (holds self.new).output bytes.now) }
         ensures stop { IfErr result (λ stop. stop ≡ Stop.Output) }
+        ensures counted { Counted [] [] (counts self.old) (counts self.new) result }
+        ensures same { names self.new ≡ names self.old };
+
+    /// Takes the next byte of the input, or `None` at its end, after which no more is asked for.
+    fn take(&mut self, over: &mut bool) -> Result<Option<u8>, Stop>
+        requires { IsTrue over.old → IsAtEnd (holds self.old).input }
+        ensures drew { IfOk result (λ byte. Drew (holds self.old).input (holds self.new).input over.old over.new (option_to_list byte)) }
+        ensures over { IfOk result (λ byte. over.new ≡ is_none byte) }
+        ensures rest { holds self.new ≡ record (holds self.old) { input = (holds self.new).input } }
+        ensures none { OnErr result (holds self.new ≡ holds self.old) }
+        ensures stop { IfErr result (λ stop. stop ≡ Stop.Input) }
         ensures counted { Counted [] [] (counts self.old) (counts self.new) result }
         ensures same { names self.new ≡ names self.old };
 
@@ -157,6 +168,13 @@ impl<F: Files, I: Source, O: Sink, N: Sink> World for Outside<'_, '_, '_, '_, F,
         match self.output.put(bytes) {
             Ok(()) => Ok(()),
             Err(_) => Err(Stop::Output),
+        }
+    }
+
+    fn take(&mut self, over: &mut bool) -> Result<Option<u8>, Stop> {
+        match next_byte(self.input, over) {
+            Ok(byte) => Ok(byte),
+            Err(_) => Err(Stop::Input),
         }
     }
 

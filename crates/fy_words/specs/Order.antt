@@ -14,9 +14,10 @@ pub data Order : Type 0 where
   check : (file : Bytes) → Order
   derive : (file : Bytes) → Order
   build : (file image : Bytes) (stack : Option ℕ) → Order
-  exec : (image : Bytes) (steps trace : Option ℕ) → Order
+  exec : (image : Bytes) (steps last : Option ℕ) → Order
   run : (file : Bytes) (steps stack : Option ℕ) (image : Option Bytes) → Order
   copy : (file : Bytes) (steps : Option ℕ) → Order
+  trace : (file : Bytes) (steps : Option ℕ) → Order
   list : (file : Bytes) → Order
   audit : (image : Bytes) → Order
 
@@ -25,9 +26,10 @@ abbrev pub order_of : Command → Order
 order_of (command.Check file) = check file.now
 order_of (command.Derive file) = derive file.now
 order_of (command.Build file image stack) = build file.now image.now stack
-order_of (command.Exec image steps trace) = exec image.now steps trace
+order_of (command.Exec image steps last) = exec image.now steps last
 order_of (command.Run file steps stack image) = run file.now steps stack (option_map (λ name. name.now) image)
 order_of (command.Copy file steps) = copy file.now steps
+order_of (command.Trace file steps) = trace file.now steps
 order_of (command.List file) = list file.now
 order_of (command.Audit image) = audit image.now
 
@@ -102,6 +104,10 @@ steps_option words = at_most_once (number_in 1 1000000000000) (values (codes "--
 abbrev pub copy_option : List Bytes → Option (Option ℕ)
 copy_option words = at_most_once (number_in 1 1000000000) (values (codes "--steps=") words)
 
+-- the steps of push-enter code
+abbrev pub trace_steps_option : List Bytes → Option (Option ℕ)
+trace_steps_option words = at_most_once (number_in 1 1000000) (values (codes "--steps=") words)
+
 abbrev pub trace_option : List Bytes → Option (Option ℕ)
 trace_option words = at_most_once (number_in 1 4096) (values (codes "--trace=") words)
 
@@ -126,7 +132,7 @@ build_from words =
 
 -- `exec IMAGE [--steps=N] [--trace=K]`
 abbrev pub exec_with : Option Bytes → Option (Option ℕ) → Option (Option ℕ) → Option Order
-exec_with (Some image) (Some steps) (Some trace) = Some (exec image steps trace)
+exec_with (Some image) (Some steps) (Some last) = Some (exec image steps last)
 exec_with _ _ _ = None
 
 abbrev pub exec_from : List Bytes → Option Order
@@ -150,6 +156,14 @@ copy_with _ _ = None
 abbrev pub copy_from : List Bytes → Option Order
 copy_from words = if are_known (codes "--steps=" ∷ []) words then copy_with (only_operand (operands words)) (copy_option words) else None
 
+-- `trace FILE [--steps=N]`
+abbrev pub trace_with : Option Bytes → Option (Option ℕ) → Option Order
+trace_with (Some file) (Some steps) = Some (trace file steps)
+trace_with _ _ = None
+
+abbrev pub trace_from : List Bytes → Option Order
+trace_from words = if are_known (codes "--steps=" ∷ []) words then trace_with (only_operand (operands words)) (trace_steps_option words) else None
+
 -- `list FILE`
 abbrev pub list_from : List Bytes → Option Order
 list_from words = if are_known [] words then option_map list (only_operand (operands words)) else None
@@ -168,9 +182,10 @@ command_from (name ∷ words) =
     else (if bytes_eq name (codes "exec") then exec_from words
     else (if bytes_eq name (codes "run") then run_from words
     else (if bytes_eq name (codes "copy") then copy_from words
+    else (if bytes_eq name (codes "trace") then trace_from words
     else (if bytes_eq name (codes "list") then list_from words
     else (if bytes_eq name (codes "audit") then audit_from words
-    else None)))))))
+    else None))))))))
 
 -- ---- what is wanted where no option says it
 
@@ -186,13 +201,18 @@ steps_wanted steps = unwrap_or steps 1000000000
 abbrev pub copy_wanted : Option ℕ → ℕ
 copy_wanted steps = unwrap_or steps 100000
 
+-- steps of push-enter code
+abbrev pub trace_steps_wanted : Option ℕ → ℕ
+trace_steps_wanted steps = unwrap_or steps 10000
+
 -- an order whose image has a stack of a size that images have, or whose steps are few enough
 abbrev pub IsInRange : Order → Type 0
 IsInRange (build file image stack) = (1024 ≤ stack_wanted stack) × (stack_wanted stack ≤ 16777216)
 IsInRange (run file steps stack image) = (1024 ≤ stack_wanted stack) × (stack_wanted stack ≤ 16777216)
 IsInRange (copy file steps) = copy_wanted steps ≤ 1000000000
+IsInRange (trace file steps) = trace_steps_wanted steps ≤ 1000000
 IsInRange (check file) = Unit {0}
 IsInRange (derive file) = Unit {0}
-IsInRange (exec image steps trace) = Unit {0}
+IsInRange (exec image steps last) = Unit {0}
 IsInRange (list file) = Unit {0}
 IsInRange (audit image) = Unit {0}

@@ -2,8 +2,8 @@
 
 ghost use Rattle.std.specs.Prelude.{◌≡◌, ◌≤◌, map, string_bytes, IfSome};
 ghost use Rattle.std.specs.Option.{option_map};
-ghost use Rattle.fy_words.specs.Order.{IsInRange, copy_wanted, stack_wanted};
-ghost use Rattle.fy_words.specs.Order.{stack_option, trace_option, steps_option, check_from, build_from, exec_from, run_from, list_from, command_from, order_of, copy_option, copy_from, derive_from, audit_from};
+ghost use Rattle.fy_words.specs.Order.{IsInRange, copy_wanted, trace_steps_wanted, stack_wanted};
+ghost use Rattle.fy_words.specs.Order.{stack_option, trace_option, steps_option, check_from, build_from, exec_from, run_from, list_from, command_from, order_of, copy_option, copy_from, trace_steps_option, trace_from, derive_from, audit_from};
 
 use crate::words::{are_known, name_option, number_option, only_operand};
 
@@ -39,6 +39,11 @@ pub enum Command<'a> {
     },
     /// Runs the text in the file by the copy rule.
     Copy {
+        file: &'a str,
+        steps: Option<u64>,
+    },
+    /// Runs the push-enter code of the text in the file, and tells each step.
+    Trace {
         file: &'a str,
         steps: Option<u64>,
     },
@@ -88,6 +93,14 @@ fn copy_option(words: &[String]) -> Option<Option<u64>>
     ensures range { IfSome result (λ steps. copy_wanted steps ≤ 1000000000) }
 {
     number_option("--steps=", 1, 1_000_000_000, words)
+}
+
+// The most steps of push-enter code that `--steps=` allows.
+fn trace_steps_option(words: &[String]) -> Option<Option<u64>>
+    ensures option { result ≡ trace_steps_option (map string_bytes words.now) }
+    ensures range { IfSome result (λ steps. trace_steps_wanted steps ≤ 1000000) }
+{
+    number_option("--steps=", 1, 1_000_000, words)
 }
 
 // `check FILE`
@@ -179,6 +192,19 @@ fn copy_of(words: &[String]) -> Option<Command<'_>>
     Some(Command::Copy { file, steps })
 }
 
+// `trace FILE [--steps=N]`
+fn trace_of(words: &[String]) -> Option<Command<'_>>
+    ensures order { option_map order_of result ≡ trace_from (map string_bytes words.now) }
+    ensures stack { IfSome result (λ command. IsInRange (order_of command)) }
+{
+    if !are_known(&["--steps="], words) {
+        return None;
+    }
+    let file = only_operand(words)?;
+    let steps = trace_steps_option(words)?;
+    Some(Command::Trace { file, steps })
+}
+
 // `list FILE`
 fn list_of(words: &[String]) -> Option<Command<'_>>
     ensures order { option_map order_of result ≡ list_from (map string_bytes words.now) }
@@ -220,6 +246,7 @@ pub fn command_of(words: &[String]) -> Option<Command<'_>>
         "exec" => exec_of(words),
         "run" => run_of(words),
         "copy" => copy_of(words),
+        "trace" => trace_of(words),
         "list" => list_of(words),
         "audit" => audit_of(words),
         _ => None,

@@ -1,5 +1,5 @@
 -- Walking a derivation of each form.
-use Rattle.std.proofs.Common.{ℕ, ◌+◌, ◌≡◌, ◌≢◌, ◌⊎◌, inl, inr, Bool, List, [], ◌∷◌, length, map, replicate, nat_le, Option, option_map, Some, None, Result, Ok, Err, Vec, Global, IfOk, refl, sym, ap, ◌∙◌, subst, arith}
+use Rattle.std.proofs.Common.{ℕ, ◌+◌, ◌≡◌, ◌≢◌, inr, List, [], ◌∷◌, length, map, replicate, Option, option_map, Some, None, Result, Vec, Global, IfOk, refl, sym, ap, ◌∙◌, subst}
 use Rattle.fy_phrase.specs.declared.shapes.ShapeElem.TheVariants as elem
 use Rattle.fy_types.specs.Types.{PlainType, ns, arrow, meet}
 use Rattle.fy_types.specs.Reading.{types_from}
@@ -9,7 +9,7 @@ use Rattle.fy_derive.specs.Derivations.{PlainDerivation, PlainDerivations, by_ns
 use Rattle.fy_derive.specs.Kinds.{Kind}
 use Rattle.fy_derive.specs.Subsumption.{is_below}
 use Rattle.fy_derive.specs.Rules.{nothing, Premise, premises, provided, conclusion}
-use Rattle.fy_derive.specs.Judging.{Judged, concludes, all_conclude, at_node, alternative, operands, judged, each_judged, if_count, from_premises}
+use Rattle.fy_derive.specs.Judging.{concludes, all_conclude, at_node, alternative, operands, judged, each_judged, if_count, from_premises}
 use Rattle.fy_derive.specs.Shapes.{PlainShape, HasPair, in_sub, in_meet, in_alt, in_left, in_right, in_rule, OneHasPair, PremiseHasPair}
 use Rattle.pe_shapes.specs.declared.error.ShapeError.{ShapeError}
 use Rattle.pe_shapes.specs.declared.found.Found.{Found}
@@ -26,7 +26,7 @@ use Rattle.pe_shapes.proofs.FoundLemmas.{Adds-none, stop-inside, stop-own}
 use Rattle.pe_shapes.proofs.JudgedLemmas.{some_same, concluded_same, then-inner, node-inner, provided-inner, form-inner, count-inner, premises-inner, alt-inner, left-inner, right-inner, sub-inner, meets-inner}
 use Rattle.pe_shapes.proofs.PairLemmas.{own-pair, pair-ns, pair-sub, pair-meet, pair-alt, pair-left, pair-right, pair-rule}
 use Rattle.pe_shapes.proofs.PartLemmas.{both, operands-merged, premises-made}
-use Rattle.pe_shapes.proofs.ShapeLemmas.{AreJust-none, AreJust-as, AreJust-front, IsStop-front}
+use Rattle.pe_shapes.proofs.ShapeLemmas.{AreJust-none, AreJust-as, AreJust-front}
 use Rattle.pe_shapes.proofs.Standings.{Extends-itself}
 use Rattle.pe_shapes.proofs.WalkLemmas.{node-walked}
 

@@ -1,13 +1,12 @@
 -- What has been found grows.
-use Rattle.std.proofs.Common.{ℕ, ◌+◌, ◌<◌, ◌≤◌, ◌≡◌, ◌⊎◌, inl, inr, List, [], ◌∷◌, ◌++◌, length, map, slice_get, Some, Result, Ok, Err, Vec, Global, IfOk, refl, sym, ap, ◌∙◌, subst, arith}
+use Rattle.std.proofs.Common.{ℕ, ◌≡◌, ◌⊎◌, inl, inr, List, slice_get, Result, Ok, Err, Vec, Global, IfOk, sym, ap, ◌∙◌, subst, arith}
 use Rattle.std.specs.List.{Contains}
-use Rattle.fy_phrase.specs.declared.shapes.Pair.{Pair}
 use Rattle.fy_types.specs.Types.{PlainType}
 use Rattle.fy_derive.specs.Shapes.{PlainShape}
 use Rattle.pe_shapes.specs.declared.error.ShapeError.{ShapeError}
 use Rattle.pe_shapes.specs.declared.found.Found.{Found}
 use Rattle.pe_shapes.specs.declared.numbers.ShapeNumbers.{ShapeNumbers}
-use Rattle.pe_shapes.specs.Finding.{used_shapes, pair_of, IsRecorded, IsFull, IsFound, IsSeen, Adds, NoPair, IsWalkStop, PairsOf, IsRecording, IsWalk, Stays}
+use Rattle.pe_shapes.specs.Finding.{used_shapes, pair_of, IsFound, IsSeen, Adds, NoPair, IsWalkStop, IsRecording, IsWalk, Stays}
 use Rattle.pe_shapes.specs.Shown.{all_shown, Extends, AreIn}
 use Rattle.pe_shapes.specs.Standing.{HasShape, AreJust, IsStop}
 use Rattle.pe_shapes.proofs.Members.{Contains-at, place_of}

@@ -1,5 +1,5 @@
 -- One turn of each loop over a list.
-use Rattle.std.proofs.Common.{ℕ, ◌+◌, ◌<◌, ◌≤◌, ◌≡◌, ◌⊎◌, inl, inr, Option, Some, None, MatchOption, List, [], ◌∷◌, ◌++◌, length, get_or, map, take, drop, eqb, refl, sym, ap, ◌∙◌, subst, arith}
+use Rattle.std.proofs.Common.{ℕ, ◌+◌, ◌<◌, ◌≡◌, ◌⊎◌, inl, inr, Option, Some, None, MatchOption, List, [], ◌∷◌, ◌++◌, length, get_or, map, take, drop, eqb, refl, sym, ap, ◌∙◌, subst}
 use Rattle.std.specs.List.{Contains}
 use Rattle.std.proofs.lemmas.List.{map_push, take_more, take-append-drop, map-append}
 use Rattle.std.proofs.lemmas.List.Elements.{Contains-append_left, Contains-get_or, Contains-push, Contains-push_cases}
@@ -14,7 +14,7 @@ use Rattle.pe_shapes.specs.declared.found.Found.{Found}
 use Rattle.pe_shapes.specs.declared.numbers.ShapeNumbers.{ShapeNumbers}
 use Rattle.pe_shapes.specs.Finding.{Adds, NoPair, PairsOf, OnePair, IsWalkStop}
 use Rattle.pe_shapes.specs.Numbering.{in_front}
-use Rattle.pe_shapes.specs.Shown.{shown, all_shown, total, Extends, AreIn}
+use Rattle.pe_shapes.specs.Shown.{shown, all_shown, Extends, AreIn}
 use Rattle.pe_shapes.specs.Standing.{AreJust}
 use Rattle.pe_shapes.proofs.FoundLemmas.{Adds-inside, Adds-step, stop-inside}
 use Rattle.pe_shapes.proofs.Members.{Contains-map}

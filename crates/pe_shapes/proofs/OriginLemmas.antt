@@ -1,5 +1,5 @@
 -- A rule's conclusion comes from where its form says.
-use Rattle.std.proofs.Common.{ℕ, zero, suc, ◌≡◌, Bool, true, false, ◌&&◌, ◌||◌, eqb, eqb-true, List, [], ◌∷◌, Option, Some, None, slice_get, refl, sym, ap, ◌∙◌, subst}
+use Rattle.std.proofs.Common.{ℕ, ◌≡◌, Bool, ◌&&◌, ◌||◌, eqb, eqb-true, List, [], ◌∷◌, Some, refl, sym, ap, ◌∙◌}
 use Rattle.fy_base.specs.declared.data.Datum.{Datum}
 use Rattle.fy_base.specs.declared.data.Datum.TheVariants as datum
 use Rattle.fy_base.specs.declared.data.UnOp.{UnOp}
@@ -9,7 +9,6 @@ use Rattle.fy_base.specs.declared.data.BinOp.TheVariants.{Add, Sub, Mul, Div, Re
 use Rattle.fy_types.specs.declared.types.Atom.{Atom}
 use Rattle.fy_types.specs.declared.types.Atom.TheVariants.{Int, Bool as Truth, Comm, Compl, IntAcc}
 use Rattle.fy_types.specs.Types.{PlainType, atom, arrow, field as field_type}
-use Rattle.fy_types.proofs.OnceLemmas.{both_true}
 use Rattle.fy_phrase.specs.declared.phrase.DataTy.{DataTy}
 use Rattle.fy_phrase.specs.declared.phrase.DataTy.TheVariants as data_type
 use Rattle.fy_phrase.specs.declared.shapes.ShapeEnd.{ShapeEnd}
@@ -21,7 +20,7 @@ use Rattle.fy_derive.specs.Shapes.{end_shape, a_value, an_assignment}
 use Rattle.fy_derive.specs.ShapeTables.{plain_end}
 use Rattle.fy_derive.specs.Tables.{type_at}
 use Rattle.fy_derive.proofs.RuleLemmas.{same_type-true}
-use Rattle.pe_shapes.specs.Origins.{origin, IsFronted, ComesFrom}
+use Rattle.pe_shapes.specs.Origins.{origin, ComesFrom}
 use Rattle.pe_shapes.proofs.JudgedLemmas.{some_same, provided-inner}
 
 datum_end : (v : Datum) → end_shape (datum_atom v) ≡ a_value

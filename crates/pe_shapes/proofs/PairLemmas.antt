@@ -1,5 +1,5 @@
 -- The pairs of a derivation: those of its own conclusion, and those of the derivations in it.
-use Rattle.std.proofs.Common.{ℕ, ◌+◌, ◌≡◌, ◌⊎◌, inl, inr, List, [], ◌∷◌, ◌++◌, Some, refl, sym, ap, ◌∙◌, subst}
+use Rattle.std.proofs.Common.{ℕ, ◌+◌, ◌≡◌, ◌⊎◌, inl, inr, List, [], ◌∷◌, ◌++◌, Some, refl, sym, ◌∙◌, subst}
 use Rattle.fy_types.specs.Types.{PlainType}
 use Rattle.fy_types.specs.Paths.{PlainPath, paths}
 use Rattle.fy_phrase.specs.Tree.{Tree}

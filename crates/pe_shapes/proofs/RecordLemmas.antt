@@ -1,8 +1,8 @@
 -- One shape of a node is recorded.
-use Rattle.std.proofs.Common.{ℕ, zero, suc, ◌+◌, ◌<◌, ◌≤◌, ◌≡◌, ◌⊎◌, inl, inr, Bool, true, false, cond, eqb, eqb-true, eq-eqb, List, [], ◌∷◌, ◌++◌, length, get_or, map, slice_get, Option, Some, None, refl, sym, ap, ◌∙◌, subst, arith}
+use Rattle.std.proofs.Common.{ℕ, zero, suc, ◌<◌, ◌≤◌, ◌≡◌, ◌⊎◌, inl, inr, Bool, true, false, cond, eqb, eqb-true, eq-eqb, List, [], ◌∷◌, ◌++◌, length, slice_get, Some, refl, sym, ap, ◌∙◌, subst, arith}
 use Rattle.std.specs.List.{All, Contains, IsDistinct, list_any}
 use Rattle.std.proofs.lemmas.List.{append-nil, length-append, length_push, map-append, length-map}
-use Rattle.std.proofs.lemmas.List.Elements.{All-append, All-weaker, All-contains, All-cons, All-nil, Contains-append_left, Contains-append_right, Contains-append_cases}
+use Rattle.std.proofs.lemmas.List.Elements.{All-append, All-weaker, All-contains, All-cons, All-nil, Contains-append_left, Contains-append_cases}
 use Rattle.std.proofs.lemmas.Option.{slice_get_within}
 use Rattle.indexmap.specs.IndexSet.{insert_key}
 use Rattle.indexmap.proofs.CallerLemmas.{Contains-insert_key}
@@ -13,12 +13,12 @@ use Rattle.fy_types.proofs.OnceLemmas.{both_true}
 use Rattle.fy_derive.specs.Shapes.{PlainShape}
 use Rattle.pe_shapes.specs.declared.error.ShapeError.TheVariants.{TooManyShapes}
 use Rattle.pe_shapes.specs.declared.found.Found.{Found}
-use Rattle.pe_shapes.specs.Counts.{StandOnce, HasMany}
+use Rattle.pe_shapes.specs.Counts.{StandOnce}
 use Rattle.pe_shapes.specs.Finding.{used_shapes, pair_of, IsRecorded, IsFull, IsFound, IsSeen, Adds, NoPair, IsWalkStop, OnePair}
 use Rattle.pe_shapes.specs.Shown.{total, shown, all_shown, Extends, AreIn}
 use Rattle.pe_shapes.proofs.JudgedLemmas.{some_same}
-use Rattle.pe_shapes.proofs.Members.{Contains-none, Contains-head, Contains-split, Contains-map, Contains-unmap, Contains-at, unmapped, mapped, StandOnce-distinct, HasMany-from}
-use Rattle.pe_shapes.proofs.Standings.{Extends-itself, AreIn-kept, AreIn-contained, all_shown-kept, StandOnce-shown}
+use Rattle.pe_shapes.proofs.Members.{Contains-none, Contains-split, Contains-unmap, Contains-at, mapped, StandOnce-distinct, HasMany-from}
+use Rattle.pe_shapes.proofs.Standings.{AreIn-contained, all_shown-kept, StandOnce-shown}
 
 abbrev pub same_pair : Pair → Pair → Bool
 same_pair = (pair_test.ghosts).eq

@@ -15,7 +15,6 @@ use Rattle.fy_phrase.specs.declared.phrase.DataTy.TheVariants as data_type
 use Rattle.fy_derive.specs.Atoms.{data_atom, acceptor_atom, cell_type}
 use Rattle.fy_derive.specs.Shapes.{PlainShape, a_value, an_assignment, end_shape, at_end, a_call, a_field, erase, HasPath, first_path, later_path}
 use Rattle.fy_derive.specs.ShapeTables.{plain_end}
-use Rattle.pe_shapes.specs.Counts.{HasMany}
 use Rattle.pe_shapes.specs.declared.error.ShapeError.{ShapeError}
 use Rattle.pe_shapes.specs.declared.error.ShapeError.TheVariants.{TooManyShapes, TooManyEntries, TablesTooLarge, OutOfMemory}
 use Rattle.pe_shapes.specs.Numbering.{in_front}

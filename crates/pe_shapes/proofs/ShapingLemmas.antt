@@ -1,5 +1,5 @@
 -- The answers of the whole.
-use Rattle.std.proofs.Common.{ℕ, ◌+◌, ◌*◌, ◌^◌, ◌<◌, ◌≤◌, ◌≡◌, ◌⊎◌, Bool, true, false, if◌then◌else◌, List, [], length, map, None, Some, Err, refl, sym, ap, ◌∙◌, subst, arith}
+use Rattle.std.proofs.Common.{ℕ, ◌+◌, ◌*◌, ◌^◌, ◌<◌, ◌≤◌, ◌≡◌, ◌⊎◌, length, map, None, Err, refl, sym, ap, ◌∙◌, subst, arith}
 use Rattle.std.specs.List.{Contains}
 use Rattle.std.proofs.Math.Nat.{mul-le-mul_left}
 use Rattle.fy_types.specs.Types.{PlainType}
@@ -8,15 +8,15 @@ use Rattle.fy_phrase.specs.Tree.{Tree}
 use Rattle.fy_phrase.specs.Sizes.{nodes, greatest_u32}
 use Rattle.fy_derive.specs.Derivations.{PlainDerivation}
 use Rattle.fy_derive.specs.Judging.{Judged, concludes, stops, refusal}
-use Rattle.fy_derive.specs.Shapes.{PlainShape, thunks, shape_table, table_words}
+use Rattle.fy_derive.specs.Shapes.{thunks, shape_table, table_words}
 use Rattle.fy_derive.specs.ShapeTables.{plain_shape}
 use Rattle.pe_shapes.specs.declared.error.ShapeError.{ShapeError}
 use Rattle.pe_shapes.specs.declared.error.ShapeError.TheVariants.{TooManyShapes, TooManyEntries, TablesTooLarge, OutOfMemory}
 use Rattle.pe_shapes.specs.declared.found.Found.{Found}
 use Rattle.pe_shapes.specs.Finding.{used_shapes, IsEmpty, IsWalkStop}
-use Rattle.pe_shapes.specs.Shaping.{IsShapeOf, IsShaping, KeepsLimits, PassesWords}
+use Rattle.pe_shapes.specs.Shaping.{IsShapeOf, IsShaping, KeepsLimits}
 use Rattle.pe_shapes.proofs.Members.{HasMany-weaker}
-use Rattle.pe_shapes.proofs.TableMade.{IsWhole, stopped, shapes-counted, shapes-few, pairs-many, pairs-few, table-made, table-size}
+use Rattle.pe_shapes.proofs.TableMade.{IsWhole, stopped, shapes-counted, shapes-few, pairs-many, pairs-few, table-size}
 use Rattle.pe_shapes.proofs.ThunkLemmas.{thunks-exact}
 
 -- what is refused at no node concludes something

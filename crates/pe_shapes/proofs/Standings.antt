@@ -1,6 +1,6 @@
 -- Numbers keep what they stand for as a table grows.
-use Rattle.std.proofs.Common.{ℕ, zero, suc, rules, ◌+◌, ◌<◌, ◌≤◌, ◌≡◌, ◌⊎◌, inl, inr, List, [], ◌∷◌, ◌++◌, length, get_or, map, slice_get, Option, Some, None, eqb, refl, sym, ap, ◌∙◌, subst, arith}
-use Rattle.std.specs.List.{Contains, IsDistinct, AllZip}
+use Rattle.std.proofs.Common.{ℕ, zero, suc, rules, ◌<◌, ◌≡◌, ◌⊎◌, inl, inr, List, [], ◌∷◌, ◌++◌, length, get_or, slice_get, Some, None, refl, sym, ap, ◌∙◌, subst, arith}
+use Rattle.std.specs.List.{Contains, AllZip}
 use Rattle.std.proofs.lemmas.List.{map_push}
 use Rattle.std.proofs.lemmas.List.Elements.{All-push, All-weaker, All-head, All-tail, All-get_or, All-cons, All-contains, All-nil}
 use Rattle.fy_types.specs.Types.{PlainType, meet}

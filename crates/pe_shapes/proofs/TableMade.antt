@@ -1,6 +1,6 @@
 -- What all that was found says of the pairs of the derivation.
-use Rattle.std.proofs.Common.{ℕ, zero, suc, ◌+◌, ◌*◌, ◌<◌, ◌≤◌, ◌≡◌, ◌⊎◌, inl, inr, ◌↔◌, List, [], ◌∷◌, length, get_or, map, slice_get, Option, Some, None, option_map, refl, sym, ap, ◌∙◌, subst, arith}
-use Rattle.std.specs.List.{All, Contains}
+use Rattle.std.proofs.Common.{ℕ, ◌<◌, ◌≤◌, ◌≡◌, ◌⊎◌, inl, inr, length, get_or, map, slice_get, Some, refl, sym, ap, ◌∙◌, subst, arith}
+use Rattle.std.specs.List.{Contains}
 use Rattle.std.proofs.lemmas.List.{length-map}
 use Rattle.std.proofs.lemmas.List.Elements.{All-contains}
 use Rattle.std.proofs.lemmas.Option.{slice_get-map, get_or_from_slice_get, slice_get-get_or, slice_get_within}
@@ -9,13 +9,12 @@ use Rattle.fy_phrase.specs.declared.shapes.ShapeTable.{ShapeTable}
 use Rattle.fy_phrase.specs.Tree.{Tree}
 use Rattle.fy_derive.specs.Derivations.{PlainDerivation}
 use Rattle.fy_derive.specs.Shapes.{PlainShape, a_value, a_run, at_end, shape_table, IsClosed}
-use Rattle.fy_derive.specs.ShapeTables.{plain_shape, shape_at, HasPairOf, IsShapeTable, HasJustPairs}
+use Rattle.fy_derive.specs.ShapeTables.{plain_shape, shape_at, HasPairOf, HasJustPairs}
 use Rattle.pe_shapes.specs.declared.found.Found.{Found}
 use Rattle.pe_shapes.specs.Counts.{StandOnce, HasMany, HasAtMost, IsCount}
-use Rattle.pe_shapes.specs.Finding.{used_shapes, pair_of, IsRecorded, IsFull, IsFound, IsEmpty, IsSeen, Adds, NoPair}
+use Rattle.pe_shapes.specs.Finding.{used_shapes, pair_of, IsRecorded, IsFound, IsEmpty, IsSeen, Adds, NoPair}
 use Rattle.pe_shapes.specs.Shaping.{IsShapeOf, IsPairOf}
 use Rattle.pe_shapes.specs.Shown.{shown, all_shown}
-use Rattle.pe_shapes.proofs.JudgedLemmas.{some_same}
 use Rattle.pe_shapes.proofs.Members.{Contains-none, Contains-at, Contains-map, Contains-unmap, place_of, StandOnce-map, HasMany-from}
 use Rattle.pe_shapes.proofs.Standings.{StandOnce-shown}
 

@@ -1,5 +1,5 @@
 -- A phrase has no more thunks than nodes.
-use Rattle.std.proofs.Common.{ℕ, ◌+◌, ◌≤◌, ◌≡◌, ◌^◌, refl, arith}
+use Rattle.std.proofs.Common.{◌≤◌, ◌≡◌, arith}
 use Rattle.fy_phrase.specs.Tree.{Tree, Trees, no_trees, and_tree, var, lit, unary, binary, cond, case, lam, app, field, sel, merge, let_in, rec, skip, seq, assign, while_do, forever, new, escape, accept, put, read, mark}
 use Rattle.fy_phrase.specs.Sizes.{nodes, all_nodes, greatest_u32}
 use Rattle.fy_derive.specs.Shapes.{thunks, all_thunks}

@@ -1,5 +1,5 @@
 -- Walking a derivation, node by node.
-use Rattle.std.proofs.Common.{ℕ, zero, suc, ◌+◌, ◌<◌, ◌≤◌, ◌≡◌, ◌⊎◌, inl, inr, List, [], ◌∷◌, ◌++◌, length, get_or, map, drop, replicate, Some, Result, Ok, Err, Vec, Global, Box, IfOk, refl, sym, ap, ◌∙◌, subst, arith}
+use Rattle.std.proofs.Common.{ℕ, suc, ◌+◌, ◌<◌, ◌≡◌, ◌⊎◌, List, [], ◌∷◌, ◌++◌, length, get_or, map, drop, replicate, Result, Vec, Global, Box, IfOk, sym, ap, ◌∙◌, subst, arith}
 use Rattle.std.specs.List.{Contains}
 use Rattle.fy_types.specs.declared.types.Ty.{Ty}
 use Rattle.fy_types.proofs.Steps.{drop_item}
@@ -13,21 +13,20 @@ use Rattle.fy_derive.specs.declared.derivation.Derivation.{Derivation, Derivatio
 use Rattle.fy_derive.specs.declared.derivation.Derivation.TheVariants.{rolls-Ns, rolls-Sub, rolls-Meet, rolls-Alt, rolls-Left, rolls-Right, rolls-Rule}
 use Rattle.fy_derive.specs.declared.derivation.DerivationList.{DerivationList}
 use Rattle.fy_derive.specs.Derivations.{PlainDerivation, PlainDerivations, by_ns, sub, meets, alt, left, right, rule, no_derivations, and_derivation, count, nodes as derivation_nodes}
-use Rattle.fy_derive.specs.Kinds.{Kind}
 use Rattle.fy_derive.specs.Reading.{plain_derivation, plain_derivations, derivations_from, derivation_step, derivations_step}
-use Rattle.fy_derive.specs.Rules.{nothing, Premise, premises, conclusion}
-use Rattle.fy_derive.specs.Judging.{concludes, all_conclude, then_others, judged, each_judged, under}
-use Rattle.fy_derive.specs.Shapes.{PlainShape, HasPair, in_sub, in_meet, in_alt, in_left, in_right, in_rule, OneHasPair, this_one, other_one, PremiseHasPair, this_premise, later_premise}
+use Rattle.fy_derive.specs.Rules.{nothing, Premise}
+use Rattle.fy_derive.specs.Judging.{concludes, all_conclude, judged, each_judged, under}
+use Rattle.fy_derive.specs.Shapes.{PlainShape, HasPair, OneHasPair, this_one, other_one, PremiseHasPair, this_premise, later_premise}
 use Rattle.pe_shapes.specs.declared.error.ShapeError.{ShapeError}
 use Rattle.pe_shapes.specs.declared.parts.Part.{Part}
 use Rattle.pe_shapes.specs.Contexts.{part_shown}
 use Rattle.pe_shapes.specs.declared.found.Found.{Found}
 use Rattle.pe_shapes.specs.declared.numbers.ShapeNumbers.{ShapeNumbers}
-use Rattle.pe_shapes.specs.Finding.{IsFound, Adds, NoPair, IsWalkStop, IsRecording, IsWalk, AreWalks}
+use Rattle.pe_shapes.specs.Finding.{IsFound, Adds, NoPair, IsWalkStop, IsRecording, IsWalk}
 use Rattle.pe_shapes.specs.Shown.{all_shown, Extends, AreIn, AreAllIn}
-use Rattle.pe_shapes.specs.Standing.{HasShape, AreJust, AreShapesOfEach, IsStop}
-use Rattle.pe_shapes.proofs.FoundLemmas.{Adds-none, Adds-step, Adds-inside, Adds-numbers, stop-inside, stop-own, recorded}
-use Rattle.pe_shapes.proofs.JudgedLemmas.{concluded_same, all_same_concluded, others-inner, judged-keeps}
+use Rattle.pe_shapes.specs.Standing.{AreJust, AreShapesOfEach}
+use Rattle.pe_shapes.proofs.FoundLemmas.{Adds-none, Adds-step, Adds-inside, Adds-numbers, stop-inside, recorded}
+use Rattle.pe_shapes.proofs.JudgedLemmas.{all_same_concluded, others-inner, judged-keeps}
 use Rattle.pe_shapes.proofs.PairLemmas.{IsOwn, own-pair, no_one, one-pair, no_premise, premise-pair}
 use Rattle.pe_shapes.proofs.Standings.{AreJust-kept, AreJust-added, AreShapesOfEach-kept, AreShapesOfEach-none, AreShapesOfEach-push}
 

@@ -1,6 +1,5 @@
 -- The derivations in a derivation are less deep.
 use Rattle.std.proofs.Common.{ℕ, ◌<◌, ◌≡◌, Box, Global, arith}
-use Rattle.fy_types.specs.declared.types.Ty.{Ty}
 use Rattle.fy_derive.specs.declared.derivation.Derivation as form
 use Rattle.fy_derive.specs.declared.derivation.Derivation.{Derivation, size-Derivation}
 use Rattle.fy_derive.specs.declared.derivation.DerivationList.{DerivationList, size-DerivationList}

@@ -9,7 +9,7 @@ use Rattle.pe_shapes.specs.declared.found.Found.{Found}
 use Rattle.pe_shapes.specs.Contexts.{numbers_of}
 use Rattle.pe_shapes.specs.Counts.{StandOnce}
 use Rattle.pe_shapes.specs.Shaping.{most_shapes, most_pairs}
-use Rattle.pe_shapes.specs.Shown.{total, shown, all_shown, Extends, AreIn, AreAllIn}
+use Rattle.pe_shapes.specs.Shown.{all_shown, Extends, AreIn, AreAllIn}
 use Rattle.pe_shapes.specs.Standing.{AreJust, AreShapesOfEach, IsStop}
 
 -- the shapes in use, by their places

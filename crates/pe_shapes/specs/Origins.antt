@@ -1,5 +1,5 @@
 -- Where the shapes of a rule's conclusion come from.
-use Rattle.std.specs.Prelude.{ℕ, ◌≡◌, List, Some, slice_get}
+use Rattle.std.specs.Prelude.{◌≡◌, List, Some, slice_get}
 use Rattle.fy_phrase.specs.declared.shapes.ShapeElem.{ShapeElem}
 use Rattle.fy_phrase.specs.declared.shapes.ShapeElem.TheVariants as elem
 use Rattle.fy_phrase.specs.declared.shapes.ShapeEnd.TheVariants as ending

@@ -1,5 +1,5 @@
 -- Sets of shapes for types.
-use Rattle.std.specs.Prelude.{ℕ, ◌≡◌, List, All, Contains, map, Result, Ok, Err, Vec}
+use Rattle.std.specs.Prelude.{ℕ, ◌≡◌, List, All, Contains, Result, Ok, Err, Vec}
 use Rattle.std.specs.List.{AllZip}
 use Rattle.std.specs.declared.alloc.Global.{Global}
 use Rattle.fy_types.specs.Types.{PlainType}

@@ -1,5 +1,4 @@
 use Rattle.std.proofs.Common.{sym, subst}
-use Rattle.fy_lexer.specs.declared.token.Token.{Token}
 use Rattle.fy_grammar.specs.Program.{IsEnded}
 use Rattle.fy_grammar.proofs.Lexed.{lexed_ended}
 use Rattle.fy_phrase.specs.Reads.{reads}

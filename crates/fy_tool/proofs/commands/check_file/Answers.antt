@@ -1,4 +1,5 @@
 use Rattle.fy_words.specs.Order.{check}
+use Rattle.fy_tool.proofs.Checking.{is_accepted}
 use Rattle.fy_tool.proofs.Serving.{after, serves_unread, serves_accepted, serves_faulted}
 use Rattle.fy_tool.proofs.commands.check_file.Goals as goal
 
@@ -16,5 +17,5 @@ pub returns-clause-serves : goal.returns-clause-serves
 returns-clause-serves g c =
     let h = rw c.in-Ok-Ok.field-0-is at c.in-Ok-Ok.ensures.read in
     let order = check c.args.file.now in
-    serves_accepted c.args.file.now h.0 _ _ _ _ _ _ _ (record { phrase = _; is_program = h.2.is_program })
+    serves_accepted c.args.file.now h.0 _ _ _ _ _ _ _ (is_accepted h.2)
     (after order h.0 _ _ _ _ _ _ _ h.1 c.in-Ok-Ok.ensures.holds c.in-Ok-Ok.ensures.counted c.write.ensures.own c.write.ensures.counted) c.write.ensures.memory c.write.ensures.did

@@ -20,6 +20,6 @@ returns-in-Ok-Ok-clause-serves g c =
     let h = rw c.in-Ok-Ok.field-0-is at c.in-Ok-Ok.ensures.read in
     let order = copy c.args.file.now c.args.steps in
     let holds = g.W.World.holds in
-    serves_copied c.args.file.now c.args.steps h.0 (reads c.in-Ok-Ok.program.phrase) _ _ _ _ _ _ _ h.2.is_program
+    serves_copied c.args.file.now c.args.steps h.0 c.in-Ok-Ok.program _ _ _ _ _ _ _ h.2
     (after order h.0 _ _ _ _ _ _ _ h.1 c.in-Ok-Ok.ensures.holds c.in-Ok-Ok.ensures.counted c.run_copied.ensures.own c.run_copied.ensures.counted)
     (subst (λ steps. HasCopied (reads c.in-Ok-Ok.program.phrase) steps (holds c.program_in.new.world) (holds c.run_copied.new.world) c.run_copied.result) c.copy_wanted.ensures c.run_copied.ensures.run)

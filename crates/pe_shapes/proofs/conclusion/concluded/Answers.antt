@@ -1,5 +1,4 @@
-use Rattle.std.proofs.Common.{[], List, ℕ, get_or, map, sym, ap, ◌∙◌, subst}
-use Rattle.fy_types.specs.Types.{PlainType}
+use Rattle.std.proofs.Common.{map, sym, ◌∙◌, subst}
 use Rattle.fy_phrase.specs.Reads.{reads}
 use Rattle.fy_derive.specs.Tables.{type_at}
 use Rattle.pe_shapes.specs.Contexts.{numbers_of}

@@ -1,7 +1,6 @@
-use Rattle.std.proofs.Common.{◌≡◌, ◌+◌, ◌-◌, length, sym, ap, ◌∙◌, arith}
+use Rattle.std.proofs.Common.{◌+◌, ◌-◌, length, arith}
 use Rattle.fy_phrase.specs.Reads.{reads}
-use Rattle.pe_shapes.specs.Contexts.{part_shown}
-use Rattle.pe_shapes.proofs.PartLemmas.{Keeps-trans, part-fewer, sizes-next, length-next, AreSizesMade, sizes-made, made-read}
+use Rattle.pe_shapes.proofs.PartLemmas.{Keeps-trans, part-fewer, sizes-next, length-next, sizes-made, made-read}
 use Rattle.pe_shapes.proofs.sizes.+add_sizes.Goals as goal
 
 pub add_sizes-requires : goal.add_sizes-requires

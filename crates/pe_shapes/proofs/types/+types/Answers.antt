@@ -1,12 +1,10 @@
-use Rattle.std.proofs.Common.{◌≡◌, ◌+◌, ◌∷◌, [], ℕ, ◌⊎◌, map, take, sym, ap, ◌∙◌, subst, refl, arith, eqb, length, get_or}
-use Rattle.std.specs.List.{Contains}
-use Rattle.std.proofs.lemmas.List.{length-map, take_all}
+use Rattle.std.proofs.Common.{◌+◌, map, sym, ap, ◌∙◌, subst, arith, eqb}
+use Rattle.std.proofs.lemmas.List.{length-map}
 use Rattle.std.proofs.lemmas.Result.{err_from_is_err_and}
 use Rattle.fy_phrase.specs.declared.shapes.ShapeElem.TheVariants as elem
-use Rattle.fy_types.specs.Types.{PlainType, arrow, meet}
-use Rattle.fy_types.specs.Reading.{plain_type, plain_types, types_from}
+use Rattle.fy_types.specs.Types.{arrow, meet}
+use Rattle.fy_types.specs.Reading.{plain_type, plain_types}
 use Rattle.fy_types.proofs.TypeForms.{reads_atom, reads_arrow, reads_field}
-use Rattle.fy_derive.specs.Shapes.{PlainShape, at_end}
 use Rattle.pe_shapes.specs.Shown.{shown, all_shown}
 use Rattle.pe_shapes.specs.Standing.{HasShape, AreJust}
 use Rattle.pe_shapes.proofs.LoopSteps.{types-next}

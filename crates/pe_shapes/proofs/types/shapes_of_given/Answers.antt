@@ -2,7 +2,7 @@ use Rattle.std.proofs.Common.{◌∷◌, [], ◌++◌, ap, ◌∙◌, refl, sym,
 use Rattle.fy_phrase.specs.declared.shapes.ShapeEnd.TheVariants as ending
 use Rattle.fy_types.specs.declared.types.Atom.TheVariants.{Compl}
 use Rattle.fy_derive.specs.Atoms.{data_atom, cell_type}
-use Rattle.fy_derive.specs.Shapes.{a_value, an_assignment, at_end}
+use Rattle.fy_derive.specs.Shapes.{an_assignment, at_end}
 use Rattle.pe_shapes.specs.Contexts.{given_type}
 use Rattle.pe_shapes.specs.Standing.{AreJust}
 use Rattle.pe_shapes.proofs.ShapeLemmas.{AreJust-end, AreJust-cell, AreJust-as, data_end}

@@ -1,13 +1,10 @@
-use Rattle.std.proofs.Common.{ℕ, ◌≡◌, ◌≢◌, ◌+◌, ◌<◌, [], ◌∷◌, ◌++◌, List, length, get_or, map, drop, take, Option, Some, None, option_map, sym, ap, ◌∙◌, subst, refl, arith}
-use Rattle.std.proofs.lemmas.List.{length_push, length-map, map_push, drop_all}
+use Rattle.std.proofs.Common.{◌≡◌, ◌≢◌, ◌+◌, ◌<◌, [], ◌∷◌, ◌++◌, length, get_or, map, drop, sym, ap, ◌∙◌, subst, refl, arith}
+use Rattle.std.proofs.lemmas.List.{length_push, map_push, drop_all}
 use Rattle.std.proofs.lemmas.Result.{err_from_is_err_and}
-use Rattle.fy_types.specs.Types.{PlainType}
 use Rattle.fy_types.specs.Reading.{plain_type}
-use Rattle.fy_phrase.specs.Tree.{Tree}
 use Rattle.fy_phrase.specs.Reads.{reads}
 use Rattle.fy_phrase.specs.Sizes.{nodes}
 use Rattle.fy_derive.specs.Derivations.{count}
-use Rattle.fy_derive.specs.Judging.{concludes, judged}
 use Rattle.fy_derive.specs.Reading.{plain_derivation, plain_derivations, derivations_from}
 use Rattle.fy_derive.proofs.DerivationSizes.{member_size}
 use Rattle.fy_derive.proofs.ReadLemmas.{count-in}

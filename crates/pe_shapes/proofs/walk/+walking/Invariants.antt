@@ -1,4 +1,4 @@
-use Rattle.std.proofs.Common.{◌≡◌, ◌+◌, ℕ, [], List, length, map, drop, replicate}
+use Rattle.std.proofs.Common.{◌≡◌, ℕ, [], List, length, map, drop, replicate}
 use Rattle.fy_types.specs.Types.{PlainType}
 use Rattle.fy_phrase.specs.Reads.{reads}
 use Rattle.fy_derive.specs.Derivations.{count}

@@ -1,6 +1,6 @@
 use Rattle.std.proofs.Common.{arith}
 use Rattle.pe_shapes.specs.declared.found.Found.{Found}
-use Rattle.pe_shapes.proofs.RecordLemmas.{one-more, one-more-full, one-added, one-found, one-stops, inserted-split, longer-by_one, same_pair, same_number-refl}
+use Rattle.pe_shapes.proofs.RecordLemmas.{one-more, one-more-full, one-added, one-found, one-stops, inserted-split, longer-by_one}
 use Rattle.pe_shapes.proofs.Standings.{Extends-itself}
 use Rattle.std.proofs.Common.{eqb, refl}
 use Rattle.pe_shapes.proofs.found.Found.record.Goals as goal

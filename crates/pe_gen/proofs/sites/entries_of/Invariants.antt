@@ -1,0 +1,7 @@
+use Rattle.std.proofs.Common.{map}
+use Rattle.pe_gen.specs.Preorder.{seen}
+use Rattle.pe_gen.proofs.EntryLists.{AreEntriesTo}
+use Rattle.pe_gen.proofs.sites.entries_of.Given as goal
+
+abbrev pub invariant-loop-pair : goal.invariant-loop-pair
+invariant-loop-pair l = AreEntriesTo (map seen l.nodes) l.shapes l.pairs l.sites.keys l.pair-index l.entries

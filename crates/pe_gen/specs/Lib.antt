@@ -1,0 +1,5 @@
+pub mod Preorder
+pub mod Steps
+pub mod Sites
+pub mod Thunks
+pub mod Plan

@@ -1,0 +1,13 @@
+//! Push-enter code of a phrase, from the demand shapes of a derivation.
+#![tactic(auto)]
+
+mod generating;
+mod items;
+mod listing;
+mod nodes;
+mod plan;
+mod sites;
+mod steps;
+mod thunks;
+
+pub use generating::generate;
