@@ -1,0 +1,4 @@
+pub mod Word
+pub mod Costs
+pub mod Discipline
+pub mod Laws
