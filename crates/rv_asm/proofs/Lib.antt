@@ -1,0 +1,11 @@
+pub mod Numbers
+pub mod Steps
+pub mod Jumps
+pub mod Constants
+pub mod Encodable
+pub mod Fetching
+pub mod Choices
+pub mod Loops
+pub mod Labels
+pub mod Refusals
+pub mod Whole

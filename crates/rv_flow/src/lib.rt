@@ -1,0 +1,10 @@
+//! From code for the word machine to images: what its micro-operations become, and that the image
+//! does what the word machine does, and is guarded.
+#![tactic(auto)]
+
+mod laws;
+
+pub use laws::{
+    code_can_be_assembled, code_is_short, images_are_guarded, images_follow, images_never_trap,
+    images_reach,
+};
