@@ -1,5 +1,5 @@
 -- The instructions of the forms are encodable.
-use Rattle.std.proofs.Common.{◌≡◌, ℕ, ◌+◌, ◌-◌, ◌*◌, ◌/◌, ◌%◌, ◌^◌, ◌<◌, ◌≤◌, ℤ, pos, negsuc, List, [], ◌∷◌, Bool, true, false, not, ◌||◌, refl, sym, subst, arith, lit<, inl, inr}
+use Rattle.std.proofs.Common.{◌≡◌, ℕ, ◌+◌, ◌-◌, ◌*◌, ◌/◌, ◌%◌, ◌^◌, ◌<◌, ◌≤◌, ℤ, List, [], ◌∷◌, Bool, true, false, not, ◌||◌, refl, sym, subst, arith, lit<, inl, inr}
 use Rattle.std.specs.List.{All}
 use Rattle.std.specs.Prelude.{FitsSigned}
 use Rattle.std.specs.Int.{w16}
@@ -7,11 +7,8 @@ use Rattle.std.proofs.lemmas.Bool.{cases_lt, true≢false}
 use Rattle.std.proofs.lemmas.List.Elements.{All-from_recursion}
 use Rattle.std.proofs.lemmas.Nat.{mod_below}
 use Rattle.rv_insn.specs.declared.instructions.BranchOp.{BranchOp}
-use Rattle.rv_insn.specs.declared.instructions.ImmOp.TheVariants.{Addi}
 use Rattle.rv_insn.specs.declared.instructions.Insn.{Insn}
-use Rattle.rv_insn.specs.declared.instructions.Insn.TheVariants.{Imm}
 use Rattle.rv_insn.specs.Encoding.{IsEncodable, IsWithin, IsEven}
-use Rattle.rv_asm.specs.Forms.{has_bits}
 use Rattle.rv_asm.specs.Choosing.{offset_between, upper_part, lower_part, near_jump, near_branch, far_jump, far_branch, address_form, word_form, double_form, is_within}
 use Rattle.rv_asm.proofs.Numbers.{offset_back, offset_on, lower_low, lower_high}
 
@@ -75,13 +72,6 @@ far_branch_encodable op rs1 rs2 here to a b =
 
 pub address_encodable : (rd here to : ℕ) → rd < 32 → AreEncodable (address_form rd here to)
 address_encodable rd here to a = All-from_recursion IsEncodable (address_form rd here to) ((a, upper_below _), ((a, a, lower_within _), tt))
-
-few_within : (value : ℤ) → has_bits 12 value ≡ true → IsWithin (2 ^ 11) value
-few_within (pos n) h = grind arith
-few_within (negsuc n) h = grind arith
-
-pub few_encodable : (rd : ℕ) (value : ℤ) → rd < 32 → has_bits 12 value ≡ true → AreEncodable (Imm Addi rd 0 value ∷ [])
-few_encodable rd value a h = one_encodable (Imm Addi rd 0 value) (a, lit< tt, few_within value h)
 
 pub word_encodable : (rd n : ℕ) → rd < 32 → AreEncodable (word_form rd n)
 word_encodable rd n a = All-from_recursion IsEncodable (word_form rd n) ((a, upper_below n), ((a, a, lower_within n), tt))

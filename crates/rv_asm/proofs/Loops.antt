@@ -1,15 +1,14 @@
 -- Steps of the loops over items: what is left of the lists gives the rest of the result.
-use Rattle.std.proofs.Common.{◌≡◌, ℕ, ◌+◌, ◌≤◌, List, [], ◌∷◌, ◌++◌, length, drop, true, refl, sym, ap, ◌∙◌, subst, append_assoc}
+use Rattle.std.proofs.Common.{◌≡◌, ℕ, ◌+◌, ◌≤◌, List, [], ◌∷◌, ◌++◌, length, drop, true, sym, ap, ◌∙◌, subst, append_assoc}
 use Rattle.std.specs.List.{slice_index, AllZip}
 use Rattle.std.proofs.lemmas.List.{append-nil, drop_all}
 use Rattle.rv_insn.specs.declared.instructions.Insn.{Insn}
 use Rattle.rv_insn.specs.Encoding.{IsWordOf}
 use Rattle.rv_asm.specs.declared.items.Item.{Item}
-use Rattle.rv_asm.specs.declared.items.LabelAt.{LabelAt}
 use Rattle.rv_asm.specs.declared.planning.Choice.{Choice}
 use Rattle.rv_asm.specs.Assembly.{joined}
 use Rattle.rv_asm.specs.Choosing.{form_of, size_of, is_reached}
-use Rattle.rv_asm.specs.Planning.{place_of, places_of, forms_of, AllReach, Appends, labelled}
+use Rattle.rv_asm.specs.Planning.{place_of, places_of, forms_of, AllReach, Appends}
 
 -- ---- words of instructions
 
@@ -17,15 +16,7 @@ use Rattle.rv_asm.specs.Planning.{place_of, places_of, forms_of, AllReach, Appen
 abbrev pub WordsTo : List Insn → List ℕ → ℕ → List ℕ → Type 0
 WordsTo insns old k words = (rest : List ℕ) → AllZip IsWordOf (drop k insns) rest → Appends insns old (words ++ rest)
 
-pub words_none : (insns : List Insn) (old : List ℕ) → WordsTo insns old 0 old
-words_none insns old rest h = record { words = rest; are = h; is = refl }
-
-pub words_more : (insns : List Insn) (old : List ℕ) (k : ℕ) (insn : Insn) (word : ℕ) (words new : List ℕ) → drop k insns ≡ insn ∷ drop (k + 1) insns → IsWordOf insn word → new ≡ words ++ word ∷ [] → WordsTo insns old k words → WordsTo insns old (k + 1) new
-words_more insns old k insn word words new next is pushed so_far rest h =
-    let Z : List Insn → Type 0 = λ l. AllZip IsWordOf l (word ∷ rest) in
-    let same : words ++ word ∷ rest ≡ new ++ rest = sym (append_assoc words (word ∷ []) rest) ∙ ap (λ l. l ++ rest) (sym pushed) in
-    subst (Appends insns old) same (so_far (word ∷ rest) (subst Z (sym next) (is, h)))
-
+-- no instruction is left
 pub words_all : (insns : List Insn) (old : List ℕ) (k : ℕ) (words : List ℕ) → length insns ≤ k → WordsTo insns old k words → Appends insns old words
 words_all insns old k words long so_far =
     let Z : List Insn → Type 0 = λ l. AllZip IsWordOf l [] in
@@ -33,6 +24,7 @@ words_all insns old k words long so_far =
 
 -- ---- places
 
+-- one item more
 pub places_more : (items : List Item) (choices : List Choice) (k here next : ℕ) (item : Item) (choice : Choice) (places new all : List ℕ) → drop k items ≡ item ∷ drop (k + 1) items → drop k choices ≡ choice ∷ drop (k + 1) choices
     → new ≡ places ++ place_of here item → next ≡ here + size_of choice.near item → places ++ places_of here (drop k items) (drop k choices) ≡ all → new ++ places_of next (drop (k + 1) items) (drop (k + 1) choices) ≡ all
 places_more items choices k here next item choice places new all e f pushed size so_far =
@@ -40,23 +32,7 @@ places_more items choices k here next item choice places new all e f pushed size
     ap (λ n. new ++ places_of n (drop (k + 1) items) (drop (k + 1) choices)) size ∙ ap (λ l. l ++ rest) pushed ∙ append_assoc places (place_of here item) rest
     ∙ ap (λ (l : List Item). places ++ places_of here l (choice ∷ drop (k + 1) choices)) (sym e) ∙ ap (λ (l : List Choice). places ++ places_of here (drop k items) l) (sym f) ∙ so_far
 
-pub places_all : (items : List Item) (choices : List Choice) (k here : ℕ) (places all : List ℕ) → length items ≤ k → places ++ places_of here (drop k items) (drop k choices) ≡ all → places ≡ all
-places_all items choices k here places all long so_far = sym (append-nil places) ∙ ap (λ (l : List Item). places ++ places_of here l (drop k choices)) (sym (drop_all k items long)) ∙ so_far
-
 -- ---- reach
-
-pub reach_more : (places : List ℕ) (items : List Item) (choices : List Choice) (k here next : ℕ) (item : Item) (choice : Choice) (R : Type 0) → drop k items ≡ item ∷ drop (k + 1) items → drop k choices ≡ choice ∷ drop (k + 1) choices
-    → next ≡ here + size_of choice.near item → is_reached choice.near item here (slice_index places choice.target) ≡ true → (AllReach places here (drop k items) (drop k choices) → R) → AllReach places next (drop (k + 1) items) (drop (k + 1) choices) → R
-reach_more places items choices k here next item choice R e f size reached so_far rest =
-    let A : ℕ → Type 0 = λ n. AllReach places n (drop (k + 1) items) (drop (k + 1) choices) in
-    let I : List Item → Type 0 = λ l. AllReach places here l (choice ∷ drop (k + 1) choices) in
-    let C : List Choice → Type 0 = λ l. AllReach places here (drop k items) l in
-    so_far (subst C (sym f) (subst I (sym e) (reached, subst A size rest)))
-
-pub reach_all : (places : List ℕ) (items : List Item) (choices : List Choice) (k here : ℕ) (R : Type 0) → length items ≤ k → (AllReach places here (drop k items) (drop k choices) → R) → R
-reach_all places items choices k here R long so_far =
-    let I : List Item → Type 0 = λ l. AllReach places here l (drop k choices) in
-    so_far (subst I (sym (drop_all k items long)) tt)
 
 -- the item at a place reaches, and those behind it
 pub reach_at : (places : List ℕ) (items : List Item) (choices : List Choice) (k here : ℕ) (item : Item) (choice : Choice) → drop k items ≡ item ∷ drop (k + 1) items → drop k choices ≡ choice ∷ drop (k + 1) choices
@@ -68,6 +44,7 @@ reach_at places items choices k here item choice e f all =
 
 -- ---- words of items
 
+-- words of instructions one behind the other
 zip-append : (xs ys : List Insn) (ws vs : List ℕ) → AllZip IsWordOf xs ws → AllZip IsWordOf ys vs → AllZip IsWordOf (xs ++ ys) (ws ++ vs)
 zip-append [] ys [] vs h k = k
 zip-append [] ys (w ∷ ws) vs h k = absurd h
@@ -78,9 +55,7 @@ zip-append (x ∷ xs) ys (w ∷ ws) vs h k = (h.0, zip-append xs ys ws vs h.1 k)
 abbrev pub ItemsTo : List ℕ → List Item → List Choice → ℕ → ℕ → List ℕ → Type 0
 ItemsTo places items choices k here words = (rest : List ℕ) → AllZip IsWordOf (joined (forms_of places here (drop k items) (drop k choices))) rest → AllZip IsWordOf (joined (forms_of places 0 items choices)) (words ++ rest)
 
-pub items_none : (places : List ℕ) (items : List Item) (choices : List Choice) → ItemsTo places items choices 0 0 []
-items_none places items choices rest h = h
-
+-- one item more, and none left
 pub items_more : (places : List ℕ) (items : List Item) (choices : List Choice) (k here next : ℕ) (item : Item) (choice : Choice) (words new : List ℕ) → drop k items ≡ item ∷ drop (k + 1) items → drop k choices ≡ choice ∷ drop (k + 1) choices
     → next ≡ here + size_of choice.near item → Appends (form_of choice.near here (slice_index places choice.target) item) words new → ItemsTo places items choices k here words → ItemsTo places items choices (k + 1) next new
 items_more places items choices k here next item choice words new e f size added so_far rest h =
@@ -98,16 +73,3 @@ items_all places items choices k here words long so_far =
     let I : List Item → Type 0 = λ l. AllZip IsWordOf (joined (forms_of places here l (drop k choices))) [] in
     let W : List ℕ → Type 0 = λ l. AllZip IsWordOf (joined (forms_of places 0 items choices)) l in
     subst W (append-nil words) (so_far [] (subst I (sym (drop_all k items long)) tt))
-
--- ---- labels
-
-pub labels_more : (labels places : List ℕ) (k label place : ℕ) (list new all : List LabelAt) → drop k labels ≡ label ∷ drop (k + 1) labels → drop k places ≡ place ∷ drop (k + 1) places → new ≡ list ++ (record { label = label; word = place }) ∷ []
-    → list ++ labelled (drop k labels) (drop k places) ≡ all → new ++ labelled (drop (k + 1) labels) (drop (k + 1) places) ≡ all
-labels_more labels places k label place list new all e f pushed so_far =
-    let rest : List LabelAt = labelled (drop (k + 1) labels) (drop (k + 1) places) in
-    let one : List LabelAt = (record { label = label; word = place }) ∷ [] in
-    ap (λ (l : List LabelAt). l ++ rest) pushed ∙ append_assoc list one rest
-    ∙ ap (λ l. list ++ labelled l (place ∷ drop (k + 1) places)) (sym e) ∙ ap (λ l. list ++ labelled (drop k labels) l) (sym f) ∙ so_far
-
-pub labels_all : (labels places : List ℕ) (k : ℕ) (list all : List LabelAt) → length labels ≤ k → list ++ labelled (drop k labels) (drop k places) ≡ all → list ≡ all
-labels_all labels places k list all long so_far = sym (append-nil list) ∙ ap (λ l. list ++ labelled l (drop k places)) (sym (drop_all k labels long)) ∙ so_far

@@ -3,7 +3,7 @@ use Rattle.std.proofs.Common.{◌≡◌, ℕ, ◌+◌, ◌<◌, ◌≤◌, List,
 use Rattle.std.specs.List.{slice_get, slice_index, Contains, position, position_or_len, list_any}
 use Rattle.std.proofs.lemmas.Bool.{cases_lt, eqb-true, eq-eqb, ltb-false}
 use Rattle.std.proofs.lemmas.List.{append-nil, take_more, length_push, map_push, get_or_append_left, get_or_push, get_or_default, length-map}
-use Rattle.std.proofs.lemmas.List.Elements.{All-push, All-nil}
+use Rattle.std.proofs.lemmas.List.Elements.{All-push}
 use Rattle.std.proofs.lemmas.List.Quantifiers.{position-Some}
 use Rattle.std.proofs.lemmas.List.Sums.{fails_before_first}
 use Rattle.std.proofs.lemmas.Option.{slice_get-get_or, slice_get_within}
@@ -102,9 +102,6 @@ pub record AimedTo (items : List Item) (k : ℕ) (choices : List Choice) : Type 
   pub count : length choices ≡ k
   pub each : (j : ℕ) (item : Item) → j < k → slice_get items j ≡ Some item → IsTargetOf (marks_of items) item (slice_index (targets_of choices) j)
   pub far : AreFar choices
-
-pub aimed_none : (items : List Item) → AimedTo items 0 []
-aimed_none items = record { count = refl; each = λ j item below there. absurd (omega arith); far = All-nil (λ (c : Choice). c.near ≡ false) }
 
 pub aimed_more : (items : List Item) (k : ℕ) (choices : List Choice) (choice : Choice) (item : Item) → AimedTo items k choices → slice_get items k ≡ Some item → choice.near ≡ false → IsTargetOf (marks_of items) item choice.target
     → AimedTo items (k + 1) (choices ++ choice ∷ [])

@@ -51,12 +51,13 @@ targets_of choices = map (λ choice. choice.target) choices
 abbrev pub IsTargetOf : List ℕ → Item → ℕ → Type 0
 IsTargetOf labels item target = (label : ℕ) → named_by item ≡ Some label → position (nat_eq label) labels ≡ Some target
 
--- it names one that isn't among them
+-- the error tells a label that the item names and that isn't among them
 abbrev pub IsUnknownIn : List ℕ → Item → AsmError → Type 0
 IsUnknownIn labels item (UnknownLabel label) = (named_by item ≡ Some label) × (position (nat_eq label) labels ≡ None)
 IsUnknownIn labels item (DoubleLabel label) = ⊥
 IsUnknownIn labels item OutOfMemory = ⊥
 
+-- there is a target for each item, and it is its label's
 pub record AreAimed (items : List Item) (targets : List ℕ) : Type 0 where
   pub same_length : length targets ≡ length items
   pub each : (k : ℕ) (item : Item) → slice_get items k ≡ Some item → IsTargetOf (marks_of items) item (slice_index targets k)

@@ -24,7 +24,7 @@ fn has_12_bits(value: i64) -> bool
 fn has_32_bits(value: i64) -> bool
     ensures { result ≡ has_bits 32 value }
 {
-    (-2147483648..2147483648).contains(&value)
+    (-2_147_483_648..2_147_483_648).contains(&value)
 }
 
 /// How many words an item takes.

@@ -29,3 +29,4 @@ pub mod Short
 pub mod Fits
 pub mod Marks
 pub mod Assembled
+pub mod Near

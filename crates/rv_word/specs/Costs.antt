@@ -2,7 +2,7 @@
 use Rattle.std.specs.Prelude.{ℕ, zero, suc, ◌+◌, ◌^◌, nat_lt, nat_le, if◌then◌else◌, List, [], ◌∷◌}
 use Rattle.rv_word.specs.declared.micros.Micro.{Micro}
 use Rattle.rv_word.specs.declared.micros.Micro.TheVariants.{Set, Imm, Shift, Alu, Window, Get, Save, Look, Room, Test, Jump, Enter, Put, Take, End, Exhaust, Fault}
-use Rattle.rv_word.specs.Word.{Code, State, Led, goes, hangs, stops, wrong, led_on, word_run}
+use Rattle.rv_word.specs.Word.{Code, State, Led, goes, hangs, stops, wrong, word_run}
 
 -- a number of eleven bits takes one, of thirty-one bits two, any other eight
 abbrev pub set_cost : ℕ → ℕ

@@ -1,5 +1,5 @@
 -- Code that never goes wrong: each word that is read or written lies under a window that was asked for in the same block. Decided by computation, block by block.
-use Rattle.std.specs.Prelude.{ℕ, suc, ◌+◌, ◌-◌, ◌*◌, ◌/◌, ◌%◌, ◌^◌, ℤ, pos, negsuc, Bool, true, false, not, ◌&&◌, nat_lt, nat_le, nat_eq, if◌then◌else◌, List, [], ◌∷◌, length}
+use Rattle.std.specs.Prelude.{ℕ, ◌-◌, ◌/◌, ◌%◌, ◌^◌, ℤ, pos, negsuc, Bool, true, false, not, ◌&&◌, nat_lt, nat_le, nat_eq, if◌then◌else◌, List, [], ◌∷◌, length}
 use Rattle.rv_insn.specs.declared.instructions.ImmOp.{ImmOp}
 use Rattle.rv_insn.specs.declared.instructions.ImmOp.TheVariants.{Addi}
 use Rattle.rv_insn.specs.Encoding.{amount_bits}

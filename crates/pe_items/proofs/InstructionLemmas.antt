@@ -1,0 +1,153 @@
+-- A thunk is entered, and an instruction is executed.
+use Rattle.std.proofs.Common.{ℕ, ◌≡◌, Bool, true, false, Option, Some, None, refl, sym, subst, arith}
+use Rattle.fy_base.specs.declared.data.Place.{Place}
+use Rattle.fy_base.specs.declared.data.Datum.{Datum}
+use Rattle.fy_phrase.specs.Contexts.{op_1, op_l, if_c, case_c, arg_c, pick_c, then_c, assign_c, store_c, while_c, loop_c, new_c, put_c, esc_c}
+use Rattle.fy_phrase.specs.Copy.{byte_or_end}
+use Rattle.pe_code.specs.declared.code.PeInsn.{PeInsn}
+use Rattle.pe_code.specs.declared.code.PeInsn.TheVariants as insn
+use Rattle.pe_code.specs.declared.code.PeItem.{PeItem}
+use Rattle.pe_code.specs.declared.code.PeCode.{PeCode}
+use Rattle.pe_code.specs.Code.{item_at, entry_of}
+use Rattle.pe_machine.specs.States.{Thunk, source, to_thunk, to_escape, Focus, code_at, value, completed, PeState, is_listed, oldest, frame_outside, datum_of}
+use Rattle.pe_machine.specs.Step as machine
+use Rattle.pe_machine.specs.Step.{PeMove, goes, is_assignment}
+use Rattle.pe_machine.proofs.FrameLemmas.{numbered_oldest, numbered_with_cell}
+use Rattle.pe_items.specs.Items as items
+use Rattle.pe_items.specs.Items.{Item, address_on, FoundContext, frame_from, datum_at, escape_at, ItemState}
+use Rattle.pe_items.specs.Step as moves
+use Rattle.pe_items.specs.Step.{ItemMove}
+use Rattle.pe_items.proofs.Lays.{any_frame, escape_frame, IsAt, AreAt, ThunkStands, a_source, a_datum, a_cell, a_jump, at_op_1, at_op_l, at_if, at_case, at_arg, at_pick, at_then, at_assign, at_store, at_while, at_loop, at_new, at_put, at_escape, FocusStands, at_code, at_value, at_end, thunk_bound, escape_bound, UnderState}
+use Rattle.pe_items.proofs.Standing.{at-listed, name-listed, kept-context, names-kept}
+use Rattle.pe_items.proofs.VariableLemmas.{variable-at, datum-found, cost-with_cell, lays-with_cell}
+use Rattle.pe_items.proofs.JumpLemmas.{leaves}
+use Rattle.pe_items.proofs.Alike.{Alike, both_go, both_take, one_sticks, one_loses, focused-alike, pushed-under, pushed-alike, bound-alike, listed-alike, variable-alike, answered-alike, TakenAlike, taken-alike}
+use Rattle.pe_items.proofs.MeetingLemmas.{datum-alike, completion-alike, bind-alike, field-alike, accept-alike}
+
+-- ---- cells
+
+loaded-alike : (o : Option Datum) (s : PeState) (t : ItemState) → UnderState s t → Alike (machine.loaded o s) (moves.loaded o t)
+loaded-alike (Some v) s t u = focused-alike (value v) (value v) s t at_value u
+loaded-alike None s t u = one_loses
+
+assigned-alike : (o : Option Datum) (n x : ℕ) (v : Datum) (s : PeState) (t : ItemState) → IsAt any_frame s.frames t.items n x → UnderState s t →
+    Alike (machine.assigned o n v s) (moves.assigned o x v t)
+assigned-alike (Some w) n x v s t a u =
+    both_go (record {
+      focus = at_end;
+      under = record {
+        lays = lays-with_cell v n x a u.lays;
+        load = (let l = u.load in let c = cost-with_cell x v t.items in omega arith);
+        numbers = numbered_with_cell s.next n v s.frames u.numbers;
+      };
+    })
+assigned-alike None n x v s t a u = one_loses
+
+assignment-alike : (n x : ℕ) (s : PeState) (t : ItemState) → IsAt any_frame s.frames t.items n x → datum_of n s.frames ≡ datum_at x t.items →
+    TakenAlike (machine.assignment_meets n) (moves.assignment_meets x) s t
+assignment-alike n x s t a same c e cs outside ks old (at_store {v = v}) w left =
+    subst (λ (o : Option Datum). Alike (machine.assigned (datum_of n s.frames) n v (record s { contexts = cs })) (moves.assigned o x v (record t { newest = outside }))) same
+    (assigned-alike (datum_of n s.frames) n x v (record s { contexts = cs }) (record t { newest = outside }) a (left (λ m q. cc)))
+assignment-alike n x s t a same c e cs outside ks old h w left = one_sticks
+
+cell-alike : (b : Bool) (n x : ℕ) (s : PeState) (t : ItemState) → IsAt any_frame s.frames t.items n x → UnderState s t →
+    Alike (machine.cell_entered b n s) (moves.cell_entered b x t)
+cell-alike true n x s t a u =
+    taken-alike (machine.assignment_meets n) (moves.assignment_meets x) s t (assignment-alike n x s t a (datum-found n x a u.lays)) u
+cell-alike false n x s t a u =
+    subst (λ (o : Option Datum). Alike (machine.loaded (datum_of n s.frames) s) (moves.loaded o t)) (datum-found n x a u.lays) (loaded-alike (datum_of n s.frames) s t u)
+
+-- ---- jumps
+
+jump-alike : (n x : ℕ) (s : PeState) (t : ItemState) → IsAt escape_frame s.frames t.items n x → UnderState s t →
+    Alike (machine.jumped n s.contexts s) (moves.jumped (escape_at x t.items) t)
+jump-alike n x s t a u =
+    let w = leaves s.next n x u.numbers a u.lays in
+    let q : PeState = record s { focus = completed; contexts = w.rest; frames = oldest w.held.frames s.frames; load = w.held.base } in
+    subst (λ (m : PeMove). Alike m (moves.jumped (escape_at x t.items) t)) (sym (w.jumps s))
+    (subst (λ (o : Option ℕ). Alike (goes q) (moves.jumped o t)) (sym w.is_place)
+    (subst (λ (o : Option FoundContext). Alike (goes q) (moves.left_by o t)) (sym w.is_found)
+    (both_go (record {
+      focus = at_end;
+      under = record { lays = w.lays; load = w.small; numbers = numbered_oldest s.next w.held.frames s.frames u.numbers };
+    }))))
+
+-- ---- thunks
+
+entry-alike : (o r x : Option ℕ) (s : PeState) (t : ItemState) → AreAt s.frames t.items r x → UnderState s t → Alike (machine.at_entry o r s) (moves.at_entry o x t)
+entry-alike (Some a) r x s t k u = focused-alike (code_at (record { address = a; frame = r })) (code_at (record { address = a; frame = x })) s t (at_code k) u
+entry-alike None r x s t k u = one_sticks
+
+entered-alike : (code : PeCode) (shape : ℕ) (c e : Thunk) (s : PeState) (t : ItemState) → ThunkStands s.frames t.items c e → UnderState s t →
+    Alike (machine.entered code shape c s) (moves.entered code shape e t)
+entered-alike code shape c e s t (a_source {node = node} {r = r} {x = x} k) u =
+    listed-alike (is_listed r s.frames) _ _ (name-listed s.frames t.items r x k) (entry-alike (entry_of code node shape) r x s t k u)
+entered-alike code shape c e s t (a_datum {v = v}) u = focused-alike (value v) (value v) s t at_value u
+entered-alike code shape c e s t (a_cell {n = n} {x = x} a) u = cell-alike (is_assignment code.assignment shape) n x s t a u
+entered-alike code shape c e s t (a_jump {n = n} {x = x} a) u = listed-alike (is_listed (Some n) s.frames) _ _ (at-listed escape_frame t.items s.frames n x a) (jump-alike n x s t a u)
+
+-- ---- instructions
+
+module _ (code : PeCode) where
+  executed-alike : (i : PeInsn) (d : ℕ) (at : Place) (a : ℕ) (r x : Option ℕ) (s : PeState) (t : ItemState) → AreAt s.frames t.items r x → UnderState s t →
+      Alike (machine.executed code i d at (record { address = a; frame = r }) s) (moves.executed code i d at (record { address = a; frame = x }) t)
+  executed-alike (insn.UseVar j shape) d at a r x s t k u =
+      variable-alike (frame_outside s.frames j r) (frame_from t.items j x) _ _ (variable-at s.next j r x u.numbers k u.lays) (λ c e h. entered-alike code shape c e s t h u)
+  executed-alike (insn.Answer v) d at a r x s t k u = focused-alike (value v) (value v) s t at_value u
+  executed-alike (insn.Op1 op y) d at a r x s t k u = pushed-alike (op_1 op at) (op_1 op at) y r x s t at_op_1 k u
+  executed-alike (insn.Op2 op y z) d at a r x s t k u =
+      pushed-alike (op_l op (record { address = z; frame = r }) at) (op_l op (record { address = z; frame = x }) at) y r x s t (at_op_l k) k u
+  executed-alike (insn.Cond y z w) d at a r x s t k u =
+      pushed-alike (if_c (record { address = z; frame = r }) (record { address = w; frame = r })) (if_c (record { address = z; frame = x }) (record { address = w; frame = x })) y r x s t
+      (at_if k k) k u
+  executed-alike (insn.Case y ys) d at a r x s t k u =
+      pushed-alike (case_c (record { address = a; frame = r }) at) (case_c (record { address = a; frame = x }) at) y r x s t (at_case k) k u
+  executed-alike (insn.Bind y) d at a r x s t k u = taken-alike (machine.bind_meets d y r) (moves.bind_meets d y x) s t (bind-alike d y r x s t k) u
+  executed-alike (insn.Pass n y) d at a r x s t k u = pushed-alike (arg_c (source n r)) (arg_c (source n x)) y r x s t (at_arg (a_source k)) k u
+  executed-alike (insn.PassVar j y) d at a r x s t k u =
+      variable-alike (frame_outside s.frames j r) (frame_from t.items j x) _ _ (variable-at s.next j r x u.numbers k u.lays)
+      (λ c e h. pushed-alike (arg_c c) (arg_c e) y r x s t (at_arg h) k u)
+  executed-alike (insn.Field i y) d at a r x s t k u =
+      taken-alike (machine.field_meets i (record { address = y; frame = r })) (moves.field_meets i (record { address = y; frame = x })) s t (field-alike i y r x s t k) u
+  executed-alike (insn.Pick i y) d at a r x s t k u = pushed-alike (pick_c i) (pick_c i) y r x s t at_pick k u
+  executed-alike (insn.Let n y) d at a r x s t k u =
+      bound-alike d (to_thunk (source n r)) (items.to_thunk (source n x)) y r x s t (thunk_bound (a_source k)) k u
+  executed-alike (insn.LetVar j y) d at a r x s t k u =
+      variable-alike (frame_outside s.frames j r) (frame_from t.items j x) _ _ (variable-at s.next j r x u.numbers k u.lays)
+      (λ c e h. bound-alike d (to_thunk c) (items.to_thunk e) y r x s t (thunk_bound h) k u)
+  executed-alike (insn.Knot n y) d at a r x s t k u =
+      bound-alike d (to_thunk (source n r)) (items.to_thunk (source n x)) y r x s t (thunk_bound (a_source k)) k u
+  executed-alike insn.Done d at a r x s t k u = focused-alike completed completed s t at_end u
+  executed-alike (insn.Seq y z) d at a r x s t k u =
+      pushed-alike (then_c (record { address = z; frame = r })) (then_c (record { address = z; frame = x })) y r x s t (at_then k) k u
+  executed-alike (insn.Assign y z) d at a r x s t k u =
+      pushed-alike (assign_c (record { address = y; frame = r })) (assign_c (record { address = y; frame = x })) z r x s t (at_assign k) k u
+  executed-alike (insn.While y z) d at a r x s t k u =
+      pushed-alike (while_c (record { address = a; frame = r }) (record { address = z; frame = r })) (while_c (record { address = a; frame = x }) (record { address = z; frame = x })) y r x s t
+      (at_while k k) k u
+  executed-alike (insn.Loop y) d at a r x s t k u =
+      pushed-alike (loop_c (record { address = a; frame = r })) (loop_c (record { address = a; frame = x })) y r x s t (at_loop k) k u
+  executed-alike (insn.New y z) d at a r x s t k u =
+      pushed-alike (new_c d (record { address = z; frame = r })) (new_c d (record { address = z; frame = x })) y r x s t (at_new k) k u
+  executed-alike (insn.Escape y) d at a r x s t k u =
+      bound-alike d to_escape (items.to_escape (address_on t.items)) y r x (machine.push (esc_c s.next) s) (moves.push (esc_c 0) t) (escape_bound refl)
+      (names-kept (kept-context s.frames t.items (esc_c 0) t.newest) r x k) (pushed-under (esc_c s.next) (esc_c 0) s t (at_escape u.numbers) u)
+  executed-alike (insn.Accept y) d at a r x s t k u = taken-alike (machine.accept_meets d y r) (moves.accept_meets d y x) s t (accept-alike d y r x s t k) u
+  executed-alike (insn.Put kind y) d at a r x s t k u = pushed-alike (put_c kind) (put_c kind) y r x s t at_put k u
+  executed-alike (insn.Read y) d at a r x s t k u =
+      both_take (λ byte. record {
+        focus = at_code (names-kept (kept-context s.frames t.items (store_c (byte_or_end byte)) t.newest) r x k);
+        under = pushed-under (store_c (byte_or_end byte)) (store_c (byte_or_end byte)) s t at_store u;
+      })
+
+  item-alike : (o : Option PeItem) (a : ℕ) (r x : Option ℕ) (s : PeState) (t : ItemState) → AreAt s.frames t.items r x → UnderState s t →
+      Alike (machine.item_executed code o (record { address = a; frame = r }) s) (moves.item_executed code o (record { address = a; frame = x }) t)
+  item-alike (Some i) a r x s t k u = executed-alike i.insn i.depth i.place a r x s t k u
+  item-alike None a r x s t k u = one_sticks
+
+  -- one step, by the focus
+  pub step-alike : (f g : Focus) (s : PeState) (t : ItemState) → FocusStands s.frames t.items f g → UnderState s t → Alike (machine.step_at code f s) (moves.step_at code g t)
+  step-alike f g s t (at_code {a = a} {r = r} {x = x} k) u = item-alike (item_at code a) a r x s t k u
+  step-alike f g s t (at_value {v = v}) u =
+      answered-alike (machine.datum_meets code v) (moves.datum_meets code v) s t (λ c e q w h v2. datum-alike code v c e q w h v2) u
+  step-alike f g s t at_end u = answered-alike machine.completion_meets moves.completion_meets s t completion-alike u

@@ -1,0 +1,13 @@
+pub mod Lays
+pub mod Standing
+pub mod NewestLemmas
+pub mod VariableLemmas
+pub mod JumpLemmas
+pub mod Alike
+pub mod MeetingLemmas
+pub mod InstructionLemmas
+pub mod RunSteps
+pub mod RunLemmas
+pub mod LinkLemmas
+pub mod LinkSteps
+pub mod ItemRuns

@@ -1,0 +1,12 @@
+mod Blocks
+mod Numbers
+mod Sums
+mod Products
+mod Quotients
+mod Comparisons
+mod Contexts
+mod Unary
+mod Binary
+mod Fitting
+mod Discipline
+mod Emitted

@@ -1,0 +1,6 @@
+use Rattle.std.proofs.Common.{arith}
+use Rattle.rv_operators.proofs.Emitted.{if_ok, last_block, block_before}
+use Rattle.rv_operators.proofs.emission.add_faults.Goals as goal
+
+pub returns-clause-ok : goal.returns-clause-ok
+returns-clause-ok c = if_ok c.add_fault-2.result (λ last. block_before c.in_ok-add_fault.ensures.ok (last_block last) (omega arith)) c.add_fault-2.ensures.ok

@@ -1,0 +1,13 @@
+pub mod Runs
+pub mod Straight
+pub mod Held
+pub mod Decimal
+pub mod Digits
+pub mod Powers
+pub mod Ints
+pub mod Truths
+pub mod Words
+pub mod Copying
+pub mod Frames
+pub mod Judged
+pub mod Emitted
