@@ -1,5 +1,5 @@
 -- Contexts and their bases.
-use Rattle.std.proofs.Common.{ℕ, ◌+◌, ◌*◌, ◌<◌, ◌≤◌, List, [], ◌∷◌, length, get_or, take, subst, arith}
+use Rattle.std.proofs.Common.{◌≡◌, ℕ, ◌+◌, ◌*◌, ◌<◌, ◌≤◌, List, [], ◌∷◌, ◌++◌, length, get_or, take, sym, ap, ◌∙◌, subst, arith}
 use Rattle.std.specs.Prelude.{nat_le}
 use Rattle.std.proofs.lemmas.List.{length-take-le}
 use Rattle.std.proofs.lemmas.Bool.{cond_both}
@@ -8,7 +8,7 @@ use Rattle.pe_machine.specs.Sound.{AreBased}
 use Rattle.pe_machine.specs.Shown.{contexts_onto}
 use Rattle.pe_machine.specs.Turns.{oldest_contexts}
 use Rattle.pe_machine.specs.declared.contexts.Held.{Held}
-use Rattle.pe_machine.proofs.Stacks.{contexts_more, contexts_take, length-contexts}
+use Rattle.pe_machine.proofs.Stacks.{contexts_more, contexts_onto-push, contexts_take, length-contexts}
 
 pub based_oldest : (limit n : ℕ) (cs : List states.Held) → AreBased limit cs → AreBased limit (oldest_contexts n cs)
 based_oldest limit n [] are = tt
@@ -29,3 +29,8 @@ based_at limit i xs d are h =
     let last = subst P (contexts_more xs i d h) (based_take limit (i + 1) xs are) in
     let counted = last.0 in
     record { counted = omega (arith, length-contexts (take i xs), length-take-le i xs (omega arith)); within = last.1.0 }
+
+pub based_push : (limit : ℕ) (items more : List Held) (h : Held) → more ≡ items ++ h ∷ [] → 8 * (h.frames + length items) ≤ h.base → h.base ≤ limit → AreBased limit (contexts_onto [] items) → AreBased limit (contexts_onto [] more)
+based_push limit items more h is counted within are =
+    let P : List states.Held → Type 0 = λ cs. AreBased limit cs in
+    subst P (sym (ap (contexts_onto []) is ∙ contexts_onto-push [] items h)) (omega (arith, length-contexts items), (within, are))

@@ -49,7 +49,7 @@ numbers_below m (suc e) xs d j h is lt =
     ]
 
 -- numbers rise in the array
-numbers_rise : (m i j : ℕ) (xs : List Frame) (d : Frame) → IsNumbered m (frames_onto [] xs) → i < j → j < length xs → (get_or xs i d).number < (get_or xs j d).number
+pub numbers_rise : (m i j : ℕ) (xs : List Frame) (d : Frame) → IsNumbered m (frames_onto [] xs) → i < j → j < length xs → (get_or xs i d).number < (get_or xs j d).number
 numbers_rise m i j xs d is lt within =
     let last = numbered_last m j xs d within (numbered_take m (j + 1) xs is) in
     numbers_below (get_or xs j d).number j xs d i (omega arith) last.1 lt
@@ -223,26 +223,20 @@ numbered_with_cell m n v (f ∷ fs) is =
 
 -- ---- by the place that was looked for
 
--- a slice of the frames shows them
-place_shown : (frames items : List Frame) (end n : ℕ) (o : Option ℕ) → frames ≡ items → IsPlace frames end n o → IsPlace items end n o
-place_shown frames items end n o same is = let P : List Frame → Type 0 = λ xs. IsPlace xs end n o in subst P same is
+pub outside_by_none : (k n end : ℕ) (items : List Frame) → end ≤ length items → IsPlace items end n None → frame_outside (frames_onto [] (take end items)) k (Some n) ≡ None
+outside_by_none k n end items h is = outside_missed k n end items h is
 
-pub outside_by_none : (k n end : ℕ) (frames items : List Frame) → frames ≡ items → end ≤ length items → IsPlace frames end n None → frame_outside (frames_onto [] (take end items)) k (Some n) ≡ None
-outside_by_none k n end frames items same h is = outside_missed k n end items h (λ j d lt. place_shown frames items end n None same is j d lt)
-
-pub outside_by_place : (k n m end place : ℕ) (frames items : List Frame) (x : Frame) → frames ≡ items → end ≤ length items → IsNumbered m (frames_onto [] items) → IsPlace frames end n (Some place) → x ≡ get_or items place x
+pub outside_by_place : (k n m end place : ℕ) (items : List Frame) (x : Frame) → end ≤ length items → IsNumbered m (frames_onto [] items) → IsPlace items end n (Some place) → x ≡ get_or items place x
     → frame_outside (frames_onto [] (take end items)) k (Some n) ≡ from_frame k (frame_of x) (λ j. frame_outside (frames_onto [] (take place items)) j (number_of x.around))
-outside_by_place k n m end place frames items x same h numbered is read =
-    let at = place_shown frames items end n (Some place) same is in
+outside_by_place k n m end place items x h numbered at read =
     outside_found k n m end place items x numbered h at.0 (at.1 x)
     ∙ ap (λ (f : Frame). from_frame k (frame_of f) (λ j. frame_outside (frames_onto [] (take place items)) j (number_of f.around))) (sym read)
 
 -- at the last link
-pub outside_last : (n m end : ℕ) (frames items : List Frame) (o : Option ℕ) → frames ≡ items → end ≤ length items → IsNumbered m (frames_onto [] items) → IsPlace frames end n o
+pub outside_last : (n m end : ℕ) (items : List Frame) (o : Option ℕ) → end ≤ length items → IsNumbered m (frames_onto [] items) → IsPlace items end n o
     → MatchOption o (frame_outside (frames_onto [] (take end items)) 0 (Some n) ≡ None) (λ p. (p < length items) × ((d : Frame) → frame_outside (frames_onto [] (take end items)) 0 (Some n) ≡ Some (frame_of (get_or items p d))))
-outside_last n m end frames items None same h numbered is = outside_by_none 0 n end frames items same h is
-outside_last n m end frames items (Some p) same h numbered is =
-    let at = place_shown frames items end n (Some p) same is in
+outside_last n m end items None h numbered is = outside_by_none 0 n end items h is
+outside_last n m end items (Some p) h numbered at =
     let below = at.0 in
     (omega arith, λ d. outside_found 0 n m end p items d numbered h at.0 (at.1 d))
 
@@ -250,20 +244,18 @@ pub next_link : (k : ℕ) (f : states.Frame) (go : ℕ → Option states.Frame) 
 next_link zero f go some = absurd (omega arith)
 next_link (suc k) f go some = let e : k ≡ suc k - 1 = omega arith in ap go e
 
-pub listed_by : (n m end : ℕ) (frames items : List Frame) (o : Option ℕ) → frames ≡ items → end ≡ length items → IsNumbered m (frames_onto [] items) → IsPlace frames end n o → is_some o ≡ is_listed (Some n) (frames_onto [] items)
-listed_by n m end frames items None same all numbered is = sym (isnt_listed n items (λ j d lt. place_shown frames items end n None same is j d (omega arith)))
-listed_by n m end frames items (Some p) same all numbered is =
-    let at = place_shown frames items end n (Some p) same is in
+pub listed_by : (n m end : ℕ) (items : List Frame) (o : Option ℕ) → end ≡ length items → IsNumbered m (frames_onto [] items) → IsPlace items end n o → is_some o ≡ is_listed (Some n) (frames_onto [] items)
+listed_by n m end items None all numbered is = sym (isnt_listed n items (λ j d lt. is j d (omega arith)))
+listed_by n m end items (Some p) all numbered at =
     let below = at.0 in
     sym (listed_place n m p items numbered (omega arith) at.1)
 
-pub datum_by_none : (n end : ℕ) (frames items : List Frame) → frames ≡ items → end ≡ length items → IsPlace frames end n None → datum_of n (frames_onto [] items) ≡ None
-datum_by_none n end frames items same all is = datum_missed n items (λ j d lt. place_shown frames items end n None same is j d (omega arith))
+pub datum_by_none : (n end : ℕ) (items : List Frame) → end ≡ length items → IsPlace items end n None → datum_of n (frames_onto [] items) ≡ None
+datum_by_none n end items all is = datum_missed n items (λ j d lt. is j d (omega arith))
 
-pub datum_by_place : (n m end place : ℕ) (frames items : List Frame) (x : Frame) → frames ≡ items → end ≡ length items → IsNumbered m (frames_onto [] items) → IsPlace frames end n (Some place) → x ≡ get_or items place x
+pub datum_by_place : (n m end place : ℕ) (items : List Frame) (x : Frame) → end ≡ length items → IsNumbered m (frames_onto [] items) → IsPlace items end n (Some place) → x ≡ get_or items place x
     → datum_of n (frames_onto [] items) ≡ datum_in (binding_of x.binding)
-datum_by_place n m end place frames items x same all numbered is read =
-    let at = place_shown frames items end n (Some place) same is in
+datum_by_place n m end place items x all numbered at read =
     let below = at.0 in
     datum_at n m place items x numbered (omega arith) (at.1 x) ∙ ap (λ (f : Frame). datum_in (binding_of f.binding)) (sym read)
 
@@ -272,13 +264,12 @@ no_datum (binding.ToThunk t) other = refl
 no_datum (binding.ToCell v) other = absurd (other v refl)
 no_datum binding.ToEscape other = refl
 
-pub cell_by_none : (n end : ℕ) (v : Datum) (frames items : List Frame) → frames ≡ items → end ≡ length items → IsPlace frames end n None → with_cell n v (frames_onto [] items) ≡ frames_onto [] items
-cell_by_none n end v frames items same all is = with_cell_missed n v items (λ j d lt. place_shown frames items end n None same is j d (omega arith))
+pub cell_by_none : (n end : ℕ) (v : Datum) (items : List Frame) → end ≡ length items → IsPlace items end n None → with_cell n v (frames_onto [] items) ≡ frames_onto [] items
+cell_by_none n end v items all is = with_cell_missed n v items (λ j d lt. is j d (omega arith))
 
-pub cell_by_place : (n m end place : ℕ) (v : Datum) (frames items : List Frame) (x y : Frame) → frames ≡ items → end ≡ length items → IsNumbered m (frames_onto [] items) → IsPlace frames end n (Some place) → x ≡ get_or items place x
+pub cell_by_place : (n m end place : ℕ) (v : Datum) (items : List Frame) (x y : Frame) → end ≡ length items → IsNumbered m (frames_onto [] items) → IsPlace items end n (Some place) → x ≡ get_or items place x
     → frame_of y ≡ record (frame_of x) { binding = with_datum v (frame_of x).binding } → with_cell n v (frames_onto [] items) ≡ frames_onto [] (set items place y)
-cell_by_place n m end place v frames items x y same all numbered is read made =
-    let at = place_shown frames items end n (Some place) same is in
+cell_by_place n m end place v items x y all numbered at read made =
     let below = at.0 in
     with_cell_at n m place v items x y numbered (omega arith) (at.1 x)
     (made ∙ ap (λ (f : Frame). record (frame_of f) { binding = with_datum v (frame_of f).binding }) read)

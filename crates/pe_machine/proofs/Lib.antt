@@ -1,5 +1,6 @@
 pub mod Stacks
 pub mod FrameLemmas
+pub mod NameLemmas
 pub mod ContextLemmas
 pub mod PlanLemmas
 pub mod RunLemmas

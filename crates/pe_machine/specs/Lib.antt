@@ -4,6 +4,7 @@ pub mod Run
 pub mod Shown
 pub mod Sound
 pub mod Places
+pub mod Names
 pub mod Turns
 pub mod Seen
 pub mod Exchange

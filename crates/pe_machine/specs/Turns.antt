@@ -7,6 +7,7 @@ use Rattle.pe_code.specs.declared.code.PeCode.{PeCode}
 use Rattle.pe_machine.specs.States.{Held, PeContext, PeState, code_at, completed, to_thunk, to_escape, oldest, frame_outside, with_cell}
 use Rattle.pe_machine.specs.Step.{PeMove, goes, takes, faults, sticks, loses, focus_on, push, focused, pushed, bound, taken, stored, written, bind_meets, field_meets, accept_meets, assignment_meets, entered, with_variable}
 use Rattle.pe_machine.specs.Shown.{number_of, binding_of, pointer_of, context_of, focus_of, frames_onto, contexts_onto}
+use Rattle.pe_machine.specs.Names.{Frames}
 use Rattle.pe_machine.specs.declared.core_state.Core.{Core}
 use Rattle.pe_machine.specs.declared.turns.Kept.{Kept}
 use Rattle.pe_machine.specs.declared.turns.Change.{Change}
@@ -28,6 +29,10 @@ state_of core = record {
   next = core.next;
   load = core.load;
 }
+
+-- its frames, as names lead to them
+abbrev pub frames_of : Core → Frames
+frames_of core = record { items = core.frames.items; next = core.next }
 
 -- the oldest n contexts
 abbrev pub oldest_contexts : ℕ → List Held → List Held

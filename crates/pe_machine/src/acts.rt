@@ -6,7 +6,8 @@ ghost use Rattle.pe_machine.specs.States.{PeState, source, to_thunk};
 ghost use Rattle.pe_machine.specs.Step.{bound, executed, item_executed, pe_step, pushed};
 ghost use Rattle.pe_code.specs.Code.{item_at};
 ghost use Rattle.pe_machine.specs.Shown.{context_of, number_of, pointer_of};
-ghost use Rattle.pe_machine.specs.Turns.{IsFair, act_move, plan_move, state_of};
+ghost use Rattle.pe_machine.specs.Names.{Frames, IsPlacedAct, IsPlacedContext, IsPlacedPointer, IsPlacedTurn};
+ghost use Rattle.pe_machine.specs.Turns.{IsFair, act_move, frames_of, plan_move, state_of};
 
 use crate::answers::{complete, give_value, item_at, push};
 use crate::contexts::{Context, Focus, Pointer};
@@ -21,7 +22,8 @@ use pe_code::{PeCode, PeInsn};
 
 // Code at another address, in the same frame.
 fn beside(here: Pointer, address: u32) -> Pointer
-    ensures { result ≡ record here { address = address } }
+    ensures is { result ≡ record here { address = address } }
+    ensures placed { (frames : Frames) → IsPlacedPointer frames here → IsPlacedPointer frames result }
 {
     Pointer {
         address,
@@ -31,14 +33,16 @@ fn beside(here: Pointer, address: u32) -> Pointer
 
 // A context is pushed, and on with the code at an address.
 fn go_in(context: Context, here: Pointer, address: u32) -> Act
-    ensures { (code : PeCode) (s : PeState) → act_move code result s ≡ pushed (context_of context) (record (pointer_of here) { address = address }) s }
+    ensures moves { (code : PeCode) (s : PeState) → act_move code result s ≡ pushed (context_of context) (record (pointer_of here) { address = address }) s }
+    ensures placed { (frames : Frames) → IsPlacedContext frames context → IsPlacedPointer frames here → IsPlacedAct frames result }
 {
     Act::Now(push(context, beside(here, address)))
 }
 
 // A node is bound in a frame, for a body.
 fn bind_node(depth: u32, node: u32, body: Pointer) -> Act
-    ensures { (code : PeCode) (s : PeState) → act_move code result s ≡ bound depth (to_thunk (source node (number_of body.frame))) body.address (number_of body.frame) s }
+    ensures moves { (code : PeCode) (s : PeState) → act_move code result s ≡ bound depth (to_thunk (source node (number_of body.frame))) body.address (number_of body.frame) s }
+    ensures placed { (frames : Frames) → IsPlacedPointer frames body → IsPlacedAct frames result }
 {
     let thunk = Thunk::Source(node, body.frame);
     Act::Now(Turn::On(Change::Bind(depth, Binding::ToThunk(thunk), body)))
@@ -46,7 +50,8 @@ fn bind_node(depth: u32, node: u32, body: Pointer) -> Act
 
 // What an instruction does that stands under so many binders at a place.
 fn act_of(insn: &PeInsn, depth: u32, at: Place, here: Pointer) -> Act
-    ensures { (code : PeCode) (s : PeState) → act_move code result s ≡ executed code insn.now depth at (pointer_of here) s }
+    ensures moves { (code : PeCode) (s : PeState) → act_move code result s ≡ executed code insn.now depth at (pointer_of here) s }
+    ensures placed { (frames : Frames) → IsPlacedPointer frames here → IsPlacedAct frames result }
 {
     match insn {
         PeInsn::UseVar(k, shape) => Act::Use(*k, *shape, here.frame),
@@ -78,8 +83,10 @@ fn act_of(insn: &PeInsn, depth: u32, at: Place, here: Pointer) -> Act
 
 // What an act leads to, by the stacks.
 fn plan_of(code: &PeCode, act: Act, core: &Core) -> Plan
+    requires { IsPlacedAct (frames_of core.now) act }
     ensures moves { plan_move result (state_of core.now) ≡ act_move code.now act (state_of core.now) }
     ensures fair { IsFair core.now.limit result.kept }
+    ensures placed { IsPlacedTurn (frames_of core.now) result.turn }
 {
     match act {
         Act::Now(turn) => stay(core, turn),
@@ -104,8 +111,10 @@ fn plan_of(code: &PeCode, act: Act, core: &Core) -> Plan
 
 // What the instruction at an address does.
 fn execute(code: &PeCode, here: Pointer, core: &Core) -> Plan
+    requires { IsPlacedPointer (frames_of core.now) here }
     ensures moves { plan_move result (state_of core.now) ≡ item_executed code.now (item_at code.now here.address) (pointer_of here) (state_of core.now) }
     ensures fair { IsFair core.now.limit result.kept }
+    ensures placed { IsPlacedTurn (frames_of core.now) result.turn }
 {
     match item_at(code, here.address) {
         Some(item) => plan_of(code, act_of(&item.insn, item.depth, item.place, here), core),
@@ -117,6 +126,7 @@ fn execute(code: &PeCode, here: Pointer, core: &Core) -> Plan
 pub fn plan_step(code: &PeCode, core: &Core) -> Plan
     ensures moves { plan_move result (state_of core.now) ≡ pe_step code.now (state_of core.now) }
     ensures fair { IsFair core.now.limit result.kept }
+    ensures placed { IsPlacedTurn (frames_of core.now) result.turn }
 {
     match core.focus {
         Focus::Code(here) => execute(code, here, core),

@@ -8,6 +8,7 @@ ghost use Rattle.pe_code.specs.Code.{item_at};
 ghost use Rattle.pe_machine.specs.States.{PeState, value, completed, code_at};
 ghost use Rattle.pe_machine.specs.Step.{chosen, completion_meets, datum_meets, focused, focused_if_some, indexed, left_meets, operated, parts_at, pushed};
 ghost use Rattle.pe_machine.specs.Shown.{context_of, number_of, pointer_of};
+ghost use Rattle.pe_machine.specs.Names.{Frames, IsPlacedContext, IsPlacedPointer, IsPlacedTurn};
 ghost use Rattle.pe_machine.specs.Turns.{turn_move};
 
 use crate::contexts::{Context, Focus, Pointer};
@@ -17,28 +18,32 @@ use pe_code::{PeCode, PeInsn, PeItem};
 
 /// On with code.
 pub fn go_to(p: Pointer) -> Turn
-    ensures { (s : PeState) → turn_move result s ≡ focused (code_at (pointer_of p)) s }
+    ensures moves { (s : PeState) → turn_move result s ≡ focused (code_at (pointer_of p)) s }
+    ensures placed { (frames : Frames) → IsPlacedPointer frames p → IsPlacedTurn frames result }
 {
     Turn::On(Change::Focus(Focus::Code(p)))
 }
 
 /// On with a datum.
 pub fn give_value(v: Datum) -> Turn
-    ensures { (s : PeState) → turn_move result s ≡ focused (value v) s }
+    ensures moves { (s : PeState) → turn_move result s ≡ focused (value v) s }
+    ensures placed { (frames : Frames) → IsPlacedTurn frames result }
 {
     Turn::On(Change::Focus(Focus::Value(v)))
 }
 
 /// On with a finished command.
 pub fn complete() -> Turn
-    ensures { (s : PeState) → turn_move result s ≡ focused completed s }
+    ensures moves { (s : PeState) → turn_move result s ≡ focused completed s }
+    ensures placed { (frames : Frames) → IsPlacedTurn frames result }
 {
     Turn::On(Change::Focus(Focus::Completed))
 }
 
 /// A context is pushed, and on with code.
 pub fn push(context: Context, p: Pointer) -> Turn
-    ensures { (s : PeState) → turn_move result s ≡ pushed (context_of context) (pointer_of p) s }
+    ensures moves { (s : PeState) → turn_move result s ≡ pushed (context_of context) (pointer_of p) s }
+    ensures placed { (frames : Frames) → IsPlacedContext frames context → IsPlacedPointer frames p → IsPlacedTurn frames result }
 {
     Turn::On(Change::Push(context, p))
 }
@@ -52,7 +57,8 @@ pub fn item_at(code: &PeCode, address: u32) -> Option<&PeItem>
 
 // What an operator's result leads to.
 fn operate(applied: Applied, at: Place) -> Turn
-    ensures { (s : PeState) → turn_move result s ≡ operated applied at s }
+    ensures moves { (s : PeState) → turn_move result s ≡ operated applied at s }
+    ensures placed { (frames : Frames) → IsPlacedTurn frames result }
 {
     match applied {
         Applied::Gives(v) => give_value(v),
@@ -63,7 +69,8 @@ fn operate(applied: Applied, at: Place) -> Turn
 
 // The left operand's value: of `and` and `or` it may decide.
 fn meet_left(op: BinOp, v: Datum, q: Pointer, at: Place) -> Turn
-    ensures { (s : PeState) → turn_move result s ≡ left_meets op v (pointer_of q) at s }
+    ensures moves { (s : PeState) → turn_move result s ≡ left_meets op v (pointer_of q) at s }
+    ensures placed { (frames : Frames) → IsPlacedPointer frames q → IsPlacedTurn frames result }
 {
     match (op, v) {
         (BinOp::And, Datum::Bool(true)) | (BinOp::Or, Datum::Bool(false)) => go_to(q),
@@ -75,7 +82,8 @@ fn meet_left(op: BinOp, v: Datum, q: Pointer, at: Place) -> Turn
 
 // A condition's value chooses.
 fn choose(v: Datum, first: Turn, other: Turn) -> Turn
-    ensures { (s : PeState) → turn_move result s ≡ chosen v (turn_move first s) (turn_move other s) }
+    ensures moves { (s : PeState) → turn_move result s ≡ chosen v (turn_move first s) (turn_move other s) }
+    ensures placed { (frames : Frames) → IsPlacedTurn frames first → IsPlacedTurn frames other → IsPlacedTurn frames result }
 {
     match v {
         Datum::Bool(true) => first,
@@ -96,7 +104,8 @@ fn part_at(code: &PeCode, address: u32, i: usize) -> Option<u32>
 
 // On with the part that a number picks.
 fn pick_part(code: &PeCode, i: usize, parts: Pointer, at: Place) -> Turn
-    ensures { (s : PeState) → turn_move result s ≡ focused_if_some (slice_get (parts_at (item_at code.now parts.address)) i) (number_of parts.frame) at s }
+    ensures moves { (s : PeState) → turn_move result s ≡ focused_if_some (slice_get (parts_at (item_at code.now parts.address)) i) (number_of parts.frame) at s }
+    ensures placed { (frames : Frames) → IsPlacedPointer frames parts → IsPlacedTurn frames result }
 {
     match part_at(code, parts.address, i) {
         Some(address) => go_to(Pointer {
@@ -112,7 +121,8 @@ fn pick_part(code: &PeCode, i: usize, parts: Pointer, at: Place) -> Turn
 
 // On with the part that an index picks.
 fn pick(code: &PeCode, v: Datum, parts: Pointer, at: Place) -> Turn
-    ensures { (s : PeState) → turn_move result s ≡ indexed v (parts_at (item_at code.now parts.address)) (number_of parts.frame) at s }
+    ensures moves { (s : PeState) → turn_move result s ≡ indexed v (parts_at (item_at code.now parts.address)) (number_of parts.frame) at s }
+    ensures placed { (frames : Frames) → IsPlacedPointer frames parts → IsPlacedTurn frames result }
 {
     match v {
         Datum::Int(n) => match usize::try_from(n) {
@@ -128,7 +138,8 @@ fn pick(code: &PeCode, v: Datum, parts: Pointer, at: Place) -> Turn
 
 /// What a datum does at a context.
 pub fn meet_datum(code: &PeCode, v: Datum, context: Context) -> Turn
-    ensures { (s : PeState) → turn_move result s ≡ datum_meets code.now v (context_of context) s }
+    ensures moves { (s : PeState) → turn_move result s ≡ datum_meets code.now v (context_of context) s }
+    ensures placed { (frames : Frames) → IsPlacedContext frames context → IsPlacedTurn frames result }
 {
     match context {
         Context::Op1(op, at) => operate(apply_unary(op, v), at),
@@ -146,7 +157,8 @@ pub fn meet_datum(code: &PeCode, v: Datum, context: Context) -> Turn
 
 /// What a finished command does at a context.
 pub fn meet_completion(context: Context) -> Turn
-    ensures { (s : PeState) → turn_move result s ≡ completion_meets (context_of context) s }
+    ensures moves { (s : PeState) → turn_move result s ≡ completion_meets (context_of context) s }
+    ensures placed { (frames : Frames) → IsPlacedContext frames context → IsPlacedTurn frames result }
 {
     match context {
         Context::Then(q) => go_to(q),

@@ -1,11 +1,12 @@
 //! Plans are carried out.
 
-ghost use Rattle.std.specs.Prelude.{◌≡◌, ◌+◌, ◌^◌, ◌<◌, ◌≤◌};
+ghost use Rattle.std.specs.Prelude.{◌≡◌, ◌+◌, ◌^◌, ◌<◌, ◌≤◌, take};
 ghost use Rattle.pe_machine.specs.States.{PeState, with_datum, with_cell};
 ghost use Rattle.pe_machine.specs.Run.{load_after};
 ghost use Rattle.pe_machine.specs.Step.{bind, bound, focus_on, goes, push};
 ghost use Rattle.pe_machine.specs.Shown.{binding_of, context_of, focus_of, number_of};
-ghost use Rattle.pe_machine.specs.Turns.{IsFair, change_move, kept_of, state_of};
+ghost use Rattle.pe_machine.specs.Names.{Frames, IsPlacedBinding, IsPlacedChange, IsPlacedContext, IsPlacedFocus, IsPlacedLink, IsPlacedName};
+ghost use Rattle.pe_machine.specs.Turns.{IsFair, change_move, frames_of, kept_of, state_of};
 
 use crate::contexts::{Context, Focus, Held, Pointer};
 use crate::core_state::Core;
@@ -16,6 +17,7 @@ use fy_base::Datum;
 
 /// Another focus.
 pub fn set_focus(core: &mut Core, focus: Focus)
+    requires { IsPlacedFocus (frames_of core.old) focus }
     ensures state { state_of core.new ≡ focus_on (focus_of focus) (state_of core.old) }
     ensures limit { core.new.limit ≡ core.old.limit }
     ensures next { core.new.next ≡ core.old.next }
@@ -29,6 +31,7 @@ pub fn set_focus(core: &mut Core, focus: Focus)
 pub fn cut(core: &mut Core, kept: Kept)
     requires { IsFair core.old.limit kept }
     ensures state { state_of core.new ≡ kept_of kept (state_of core.old) }
+    ensures frames { frames_of core.new ≡ record (frames_of core.old) { items = take kept.frames core.old.frames.items } }
     ensures limit { core.new.limit ≡ core.old.limit }
     ensures next { core.new.next ≡ core.old.next }
     ensures load { core.new.load ≡ kept.load }
@@ -41,8 +44,10 @@ pub fn cut(core: &mut Core, kept: Kept)
 /// Pushes a context, which fits the limit.
 #[tactic(auto, using(crate::proofs::Stacks::stacks))]
 pub fn push_context(core: &mut Core, context: Context)
-    requires { core.old.load + 8 ≤ core.old.limit }
+    requires load { core.old.load + 8 ≤ core.old.limit }
+    requires placed { IsPlacedContext (frames_of core.old) context }
     ensures state { state_of core.new ≡ push (context_of context) (state_of core.old) }
+    ensures frames { frames_of core.new ≡ frames_of core.old }
     ensures limit { core.new.limit ≡ core.old.limit }
     ensures next { core.new.next ≡ core.old.next }
     ensures load { core.new.load ≡ core.old.load + 8 }
@@ -59,15 +64,23 @@ pub fn push_context(core: &mut Core, context: Context)
     core.load += 8;
 }
 
-// Makes a frame, which fits the limit.
+// Makes a frame, which fits the limit, and names it.
 #[tactic(auto, using(crate::proofs::Stacks::stacks))]
-fn push_frame(core: &mut Core, depth: u32, binding: Binding, around: Option<FrameName>)
+fn push_frame(core: &mut Core, depth: u32, binding: Binding, around: Option<FrameName>) -> FrameName
     requires load { core.old.load + (8 + depth) ≤ core.old.limit }
     requires next { core.old.next + 1 < 2 ^ 64 }
+    requires binding { IsPlacedBinding (frames_of core.old) binding }
+    requires around { IsPlacedLink (frames_of core.old) around }
     ensures state { state_of core.new ≡ bind depth (binding_of binding) (number_of around) (state_of core.old) }
+    ensures number { result.number ≡ core.old.next }
+    ensures placed { IsPlacedName (frames_of core.new) result }
     ensures limit { core.new.limit ≡ core.old.limit }
     ensures next { core.new.next ≡ core.old.next + 1 }
 {
+    let name = FrameName {
+        place: core.frames.len() as u32,
+        number: core.next,
+    };
     let frame = Frame {
         number: core.next,
         depth,
@@ -80,21 +93,20 @@ fn push_frame(core: &mut Core, depth: u32, binding: Binding, around: Option<Fram
     }
     core.next += 1;
     core.load += 8 + u64::from(depth);
+    name
 }
 
 // Makes a frame, and goes on with the body in it.
 fn enter_body(core: &mut Core, depth: u32, binding: Binding, body: Pointer)
     requires load { core.old.load + (8 + depth) ≤ core.old.limit }
     requires next { core.old.next + 1 < 2 ^ 64 }
+    requires binding { IsPlacedBinding (frames_of core.old) binding }
+    requires around { IsPlacedLink (frames_of core.old) body.frame }
     ensures state { bound depth (binding_of binding) body.address (number_of body.frame) (state_of core.old) ≡ goes (state_of core.new) }
     ensures limit { core.new.limit ≡ core.old.limit }
     ensures next { core.new.next ≡ core.old.next + 1 }
 {
-    let name = FrameName {
-        place: core.frames.len() as u32,
-        number: core.next,
-    };
-    push_frame(core, depth, binding, body.frame);
+    let name = push_frame(core, depth, binding, body.frame);
     let inner = Pointer {
         address: body.address,
         frame: Some(name),
@@ -104,7 +116,8 @@ fn enter_body(core: &mut Core, depth: u32, binding: Binding, body: Pointer)
 
 // A cell holds another datum.
 fn with_datum(binding: Binding, v: Datum) -> Binding
-    ensures { binding_of result ≡ with_datum v (binding_of binding) }
+    ensures binding { binding_of result ≡ with_datum v (binding_of binding) }
+    ensures placed { (frames : Frames) → IsPlacedBinding frames binding → IsPlacedBinding frames result }
 {
     match binding {
         Binding::ToCell(_) => Binding::ToCell(v),
@@ -114,11 +127,12 @@ fn with_datum(binding: Binding, v: Datum) -> Binding
 
 // The cell of a frame takes a datum, if the frame is there.
 fn set_cell(core: &mut Core, name: FrameName, v: Datum)
+    requires { IsPlacedName (frames_of core.old) name }
     ensures state { state_of core.new ≡ record (state_of core.old) { frames = with_cell name.number v (state_of core.old).frames } }
     ensures limit { core.new.limit ≡ core.old.limit }
     ensures next { core.new.next ≡ core.old.next }
 {
-    if let Some(place) = place_of(core.frames.as_slice(), core.frames.len(), name) {
+    if let Some(place) = place_of(core, core.frames.len(), name) {
         let frame = core.frames[place];
         core.frames[place] = Frame {
             number: frame.number,
@@ -148,6 +162,7 @@ pub fn cost_of(change: Change) -> u64
 pub fn make(core: &mut Core, change: Change)
     requires load { load_after (change_move change (state_of core.old)) ≤ core.old.limit }
     requires next { core.old.next + 1 < 2 ^ 64 }
+    requires placed { IsPlacedChange (frames_of core.old) change }
     ensures state { change_move change (state_of core.old) ≡ goes (state_of core.new) }
     ensures limit { core.new.limit ≡ core.old.limit }
     ensures next { core.new.next ≤ core.old.next + 1 }

@@ -5,7 +5,8 @@ ghost use Rattle.pe_code.specs.Code.{entry_of};
 ghost use Rattle.pe_machine.specs.States.{PeState, datum_of, is_listed};
 ghost use Rattle.pe_machine.specs.Step.{assigned, at_entry, cell_entered, entered, if_listed, is_assignment, jumped, loaded};
 ghost use Rattle.pe_machine.specs.Shown.{context_of, number_of, thunk_of};
-ghost use Rattle.pe_machine.specs.Turns.{IsFair, demand_move, plan_move, state_of, turn_move};
+ghost use Rattle.pe_machine.specs.Names.{IsPlacedContext, IsPlacedDemand, IsPlacedLink, IsPlacedName, IsPlacedThunk, IsPlacedTurn};
+ghost use Rattle.pe_machine.specs.Turns.{IsFair, demand_move, frames_of, plan_move, state_of, turn_move};
 
 use crate::answers::{give_value, go_to};
 use crate::contexts::{Context, Pointer};
@@ -19,7 +20,9 @@ use pe_code::PeCode;
 
 // A cell takes a datum.
 fn assign(name: FrameName, v: Datum, core: &Core) -> Turn
-    ensures { (s : PeState) → s.frames ≡ (state_of core.now).frames → turn_move result s ≡ assigned (datum_of name.number s.frames) name.number v s }
+    requires { IsPlacedName (frames_of core.now) name }
+    ensures moves { (s : PeState) → s.frames ≡ (state_of core.now).frames → turn_move result s ≡ assigned (datum_of name.number s.frames) name.number v s }
+    ensures placed { IsPlacedTurn (frames_of core.now) result }
 {
     match datum_in(core, name) {
         Some(_) => Turn::On(Change::SetCell(name, v)),
@@ -29,7 +32,10 @@ fn assign(name: FrameName, v: Datum, core: &Core) -> Turn
 
 /// What the context that is asked gives.
 pub fn meet_demand(demand: Demand, context: Context, core: &Core) -> Turn
-    ensures { (s : PeState) → s.frames ≡ (state_of core.now).frames → turn_move result s ≡ demand_move demand (context_of context) s }
+    requires demand { IsPlacedDemand (frames_of core.now) demand }
+    requires context { IsPlacedContext (frames_of core.now) context }
+    ensures moves { (s : PeState) → s.frames ≡ (state_of core.now).frames → turn_move result s ≡ demand_move demand (context_of context) s }
+    ensures placed { IsPlacedTurn (frames_of core.now) result }
 {
     match (demand, context) {
         (Demand::Argument(depth, body), Context::Arg(thunk)) => {
@@ -49,7 +55,9 @@ pub fn meet_demand(demand: Demand, context: Context, core: &Core) -> Turn
 
 // A node is entered at a shape, in a frame.
 fn enter_source(code: &PeCode, node: u32, shape: u32, frame: Option<FrameName>, core: &Core) -> Turn
-    ensures { turn_move result (state_of core.now) ≡ if_listed (is_listed (number_of frame) (state_of core.now).frames) (at_entry (entry_of code.now node shape) (number_of frame) (state_of core.now)) }
+    requires { IsPlacedLink (frames_of core.now) frame }
+    ensures moves { turn_move result (state_of core.now) ≡ if_listed (is_listed (number_of frame) (state_of core.now).frames) (at_entry (entry_of code.now node shape) (number_of frame) (state_of core.now)) }
+    ensures placed { IsPlacedTurn (frames_of core.now) result }
 {
     if !is_there(core, frame) {
         return Turn::Gone;
@@ -62,7 +70,9 @@ fn enter_source(code: &PeCode, node: u32, shape: u32, frame: Option<FrameName>, 
 
 // A cell gives its datum.
 fn load_cell(name: FrameName, core: &Core) -> Turn
-    ensures { turn_move result (state_of core.now) ≡ loaded (datum_of name.number (state_of core.now).frames) (state_of core.now) }
+    requires { IsPlacedName (frames_of core.now) name }
+    ensures moves { turn_move result (state_of core.now) ≡ loaded (datum_of name.number (state_of core.now).frames) (state_of core.now) }
+    ensures placed { IsPlacedTurn (frames_of core.now) result }
 {
     match datum_in(core, name) {
         Some(v) => give_value(v),
@@ -82,8 +92,10 @@ fn is_assignment(code: &PeCode, shape: u32) -> bool
 
 // A cell takes a datum at the shape that asks for an assignment, and gives its own at every other.
 fn enter_cell(code: &PeCode, shape: u32, name: FrameName, core: &Core) -> Plan
+    requires { IsPlacedName (frames_of core.now) name }
     ensures moves { plan_move result (state_of core.now) ≡ cell_entered (is_assignment code.now.assignment shape) name.number (state_of core.now) }
     ensures fair { IsFair core.now.limit result.kept }
+    ensures placed { IsPlacedTurn (frames_of core.now) result.turn }
 {
     if is_assignment(code, shape) {
         return ask(Demand::Cell(name), core);
@@ -93,8 +105,10 @@ fn enter_cell(code: &PeCode, shape: u32, name: FrameName, core: &Core) -> Plan
 
 // A jump to an escape that is still there.
 fn enter_jump(name: FrameName, core: &Core) -> Plan
+    requires { IsPlacedName (frames_of core.now) name }
     ensures moves { plan_move result (state_of core.now) ≡ if_listed (is_listed (Some name.number) (state_of core.now).frames) (jumped name.number (state_of core.now).contexts (state_of core.now)) }
     ensures fair { IsFair core.now.limit result.kept }
+    ensures placed { IsPlacedTurn (frames_of core.now) result.turn }
 {
     if is_there(core, Some(name)) {
         return jump(name.number, core);
@@ -104,8 +118,10 @@ fn enter_jump(name: FrameName, core: &Core) -> Plan
 
 /// A thunk is entered at a shape.
 pub fn enter(code: &PeCode, shape: u32, thunk: Thunk, core: &Core) -> Plan
+    requires { IsPlacedThunk (frames_of core.now) thunk }
     ensures moves { plan_move result (state_of core.now) ≡ entered code.now shape (thunk_of thunk) (state_of core.now) }
     ensures fair { IsFair core.now.limit result.kept }
+    ensures placed { IsPlacedTurn (frames_of core.now) result.turn }
 {
     match thunk {
         Thunk::Source(node, frame) => stay(core, enter_source(code, node, shape, frame, core)),

@@ -1,53 +1,52 @@
 //! Frames by their names.
 
-ghost use Rattle.std.specs.Prelude.{◌≡◌, ◌<◌, ◌≤◌, ◌^◌, length};
+ghost use Rattle.std.specs.Prelude.{◌≡◌, ◌<◌, ◌≤◌, ◌^◌, IfSome, length};
 ghost use Rattle.std.specs.Option.{option_map};
 ghost use Rattle.pe_machine.specs.States.{datum_of, frame_outside, is_listed};
 ghost use Rattle.pe_machine.specs.Shown.{frame_of, number_of, thunk_of};
+ghost use Rattle.pe_machine.specs.Names.{Frames, IsPlacedBinding, IsPlacedLink, IsPlacedName, IsPlacedThunk};
 ghost use Rattle.pe_machine.specs.Places.{IsOutside, IsPlace, handed_by};
-ghost use Rattle.pe_machine.specs.Turns.{state_of};
+ghost use Rattle.pe_machine.specs.Turns.{frames_of, state_of};
 
 use crate::core_state::Core;
 use crate::frames::{Binding, Frame, FrameName, Thunk};
 use fy_base::Datum;
 
 /// The place of the frame that is named among the oldest `end` frames. A frame that is there stands at the
-/// place of its name, so the others are looked through only where it is gone, and then the run is over.
-pub fn place_of(frames: &[Frame], end: usize, name: FrameName) -> Option<usize>
-    requires { end ≤ length frames.now }
-    ensures { IsPlace frames.now end name.number result }
+/// place of its name, so no other is looked at.
+pub fn place_of(core: &Core, end: usize, name: FrameName) -> Option<usize>
+    requires end { end ≤ length core.now.frames.items }
+    requires placed { IsPlacedName (frames_of core.now) name }
+    ensures { IsPlace core.now.frames.items end name.number result }
 {
     let place = name.place as usize;
-    if place < end && frames[place].number == name.number {
+    if place < end && core.frames[place].number == name.number {
         return Some(place);
-    }
-    for i in (0..end).rev() {
-        if frames[i].number == name.number {
-            return Some(i);
-        }
     }
     None
 }
 
 // The place of the frame so many links outside the one that is named, if one is.
 fn place_outside(core: &Core, links: u32, frame: Option<FrameName>) -> Option<usize>
+    requires { IsPlacedLink (frames_of core.now) frame }
     ensures { IsOutside core.now.frames.items links frame result }
 {
     let mut end = core.frames.len();
     let mut name = frame?;
     let mut left = links;
     while left > 0 {
-        end = place_of(core.frames.as_slice(), end, name)?;
+        end = place_of(core, end, name)?;
         name = core.frames[end].around?;
         left -= 1;
     }
-    place_of(core.frames.as_slice(), end, name)
+    place_of(core, end, name)
 }
 
 // What a variable of the frame at a place hands on.
 fn handed_on(place: usize, frame: Frame) -> Thunk
     requires { place < 2 ^ 32 }
-    ensures { thunk_of result ≡ handed_by (frame_of frame) }
+    ensures thunk { thunk_of result ≡ handed_by (frame_of frame) }
+    ensures placed { (frames : Frames) → IsPlacedBinding frames frame.binding → IsPlacedName frames (record { place = place; number = frame.number }) → IsPlacedThunk frames result }
 {
     let name = FrameName {
         place: place as u32,
@@ -63,7 +62,9 @@ fn handed_on(place: usize, frame: Frame) -> Thunk
 /// What the variable of the frame so many links outside the one that is named hands on. `None` is that a
 /// frame isn't there.
 pub fn variable(core: &Core, links: u32, frame: Option<FrameName>) -> Option<Thunk>
-    ensures { option_map thunk_of result ≡ option_map handed_by (frame_outside (state_of core.now).frames links (number_of frame)) }
+    requires { IsPlacedLink (frames_of core.now) frame }
+    ensures thunk { option_map thunk_of result ≡ option_map handed_by (frame_outside (state_of core.now).frames links (number_of frame)) }
+    ensures placed { IfSome result (IsPlacedThunk (frames_of core.now)) }
 {
     let place = place_outside(core, links, frame)?;
     Some(handed_on(place, core.frames[place]))
@@ -71,19 +72,21 @@ pub fn variable(core: &Core, links: u32, frame: Option<FrameName>) -> Option<Thu
 
 /// Whether the frame that is named is there; where none is named, nothing is missing.
 pub fn is_there(core: &Core, frame: Option<FrameName>) -> bool
+    requires { IsPlacedLink (frames_of core.now) frame }
     ensures { result ≡ is_listed (number_of frame) (state_of core.now).frames }
 {
     match frame {
         None => true,
-        Some(name) => place_of(core.frames.as_slice(), core.frames.len(), name).is_some(),
+        Some(name) => place_of(core, core.frames.len(), name).is_some(),
     }
 }
 
 /// The datum in the cell of the frame that is named. `None` is that the frame isn't there, or holds no cell.
 pub fn datum_in(core: &Core, name: FrameName) -> Option<Datum>
+    requires { IsPlacedName (frames_of core.now) name }
     ensures { result ≡ datum_of name.number (state_of core.now).frames }
 {
-    let place = place_of(core.frames.as_slice(), core.frames.len(), name)?;
+    let place = place_of(core, core.frames.len(), name)?;
     match core.frames[place].binding {
         Binding::ToCell(v) => Some(v),
         _ => None,

@@ -29,7 +29,8 @@ pub struct PeState {
 impl PeState {
     ghost use Rattle.std.specs.Prelude.{◌≡◌, ◌<◌, ◌^◌, IfOk, if◌then◌else◌};
     ghost use Rattle.pe_machine.specs.Run.{ended, going, pe_start, standing_of};
-    ghost use Rattle.pe_machine.specs.Turns.{IsFair, change_move, kept_of, turn_move};
+    ghost use Rattle.pe_machine.specs.Names.{IsPlacedChange, IsPlacedPointer};
+    ghost use Rattle.pe_machine.specs.Turns.{IsFair, change_move, frames_of, kept_of, turn_move};
     ghost use Rattle.pe_machine.specs.Seen.{StepOf, Stepped, address_of, halted, seen, went_on_with};
     ghost use Rattle.pe_machine.specs.declared.events.Phase.{Phase};
     ghost use Rattle.pe_machine.specs.declared.turns.Turn.TheVariants.{Put, Read};
@@ -84,6 +85,7 @@ impl PeState {
         requires few { (seen self.old).steps < 2 ^ 48 }
         requires standing { standing_of (seen self.old).state ≡ going }
         requires fair { IsFair (seen self.old).limit kept }
+        requires placed { IsPlacedChange (frames_of self.old.core) change }
         ensures { StepOf result (change_move change (kept_of kept (seen self.old).state)) (seen self.old) (seen self.new) }
     {
         if kept.load + cost_of(change) > self.core.limit {
@@ -120,6 +122,7 @@ impl PeState {
         requires few { (seen self.old).steps < 2 ^ 48 }
         requires standing { standing_of (seen self.old).state ≡ going }
         requires fair { IsFair (seen self.old).limit kept }
+        requires placed { IsPlacedPointer (frames_of self.old.core) acceptor }
         ensures { StepOf result (turn_move (Read acceptor) (kept_of kept (seen self.old).state)) (seen self.old) (seen self.new) }
     {
         if kept.load + 8 > self.core.limit {

@@ -1,10 +1,11 @@
 //! Plans: what stays of the stacks, and what a step comes to then.
 
-ghost use Rattle.std.specs.Prelude.{◌≡◌, ◌-◌, [], length, MatchOption};
+ghost use Rattle.std.specs.Prelude.{◌≡◌, ◌-◌, [], length, IfSome, MatchOption};
 ghost use Rattle.pe_machine.specs.Step.{answered, completion_meets, datum_meets, is_target, jumped, taken};
 ghost use Rattle.pe_machine.specs.Shown.{context_of};
+ghost use Rattle.pe_machine.specs.Names.{IsPlacedContext, IsPlacedDemand, IsPlacedTurn};
 ghost use Rattle.pe_machine.specs.Places.{IsHeldAt};
-ghost use Rattle.pe_machine.specs.Turns.{IsFair, demand_move, plan_move, state_of, turn_move};
+ghost use Rattle.pe_machine.specs.Turns.{IsFair, demand_move, frames_of, plan_move, state_of, turn_move};
 
 use crate::answers::{complete, meet_completion, meet_datum};
 use crate::contexts::{Context, Held};
@@ -18,6 +19,7 @@ use pe_code::PeCode;
 pub fn stay(core: &Core, turn: Turn) -> Plan
     ensures moves { plan_move result (state_of core.now) ≡ turn_move turn (state_of core.now) }
     ensures fair { IsFair core.now.limit result.kept }
+    ensures placed { IsPlacedTurn (frames_of core.now) turn → IsPlacedTurn (frames_of core.now) result.turn }
 {
     let kept = Kept {
         contexts: core.contexts.len(),
@@ -29,7 +31,8 @@ pub fn stay(core: &Core, turn: Turn) -> Plan
 
 // The newest context.
 fn newest(core: &Core) -> Option<Held>
-    ensures { MatchOption result ((state_of core.now).contexts ≡ []) (λ held. IsHeldAt held (length core.now.contexts.items - 1) core.now.contexts.items) }
+    ensures held { MatchOption result ((state_of core.now).contexts ≡ []) (λ held. IsHeldAt held (length core.now.contexts.items - 1) core.now.contexts.items) }
+    ensures placed { IfSome result (λ held. IsPlacedContext (frames_of core.now) held.context) }
 {
     core.contexts.as_slice().last().copied()
 }
@@ -51,6 +54,7 @@ fn kept_before(core: &Core, place: usize, held: Held) -> Kept
 pub fn answer(code: &PeCode, v: Datum, core: &Core) -> Plan
     ensures moves { plan_move result (state_of core.now) ≡ answered (datum_meets code.now v) (state_of core.now).contexts (state_of core.now) }
     ensures fair { IsFair core.now.limit result.kept }
+    ensures placed { IsPlacedTurn (frames_of core.now) result.turn }
 {
     match newest(core) {
         None => stay(core, Turn::Stuck),
@@ -65,6 +69,7 @@ pub fn answer(code: &PeCode, v: Datum, core: &Core) -> Plan
 pub fn finish(core: &Core) -> Plan
     ensures moves { plan_move result (state_of core.now) ≡ answered completion_meets (state_of core.now).contexts (state_of core.now) }
     ensures fair { IsFair core.now.limit result.kept }
+    ensures placed { IsPlacedTurn (frames_of core.now) result.turn }
 {
     match newest(core) {
         None => stay(core, Turn::Stuck),
@@ -77,8 +82,10 @@ pub fn finish(core: &Core) -> Plan
 
 /// The newest context is asked, and taken off.
 pub fn ask(demand: Demand, core: &Core) -> Plan
+    requires { IsPlacedDemand (frames_of core.now) demand }
     ensures moves { plan_move result (state_of core.now) ≡ taken (demand_move demand) (state_of core.now).contexts (state_of core.now) }
     ensures fair { IsFair core.now.limit result.kept }
+    ensures placed { IsPlacedTurn (frames_of core.now) result.turn }
 {
     match newest(core) {
         None => stay(core, Turn::Stuck),
@@ -107,6 +114,7 @@ fn is_target(n: u64, context: Context) -> bool
 pub fn jump(n: u64, core: &Core) -> Plan
     ensures moves { plan_move result (state_of core.now) ≡ jumped n (state_of core.now).contexts (state_of core.now) }
     ensures fair { IsFair core.now.limit result.kept }
+    ensures placed { IsPlacedTurn (frames_of core.now) result.turn }
 {
     for place in (0..core.contexts.len()).rev() {
         let held = core.contexts[place];

@@ -1,10 +1,11 @@
-use Rattle.std.proofs.Common.{◌≡◌, List, [], set, sym, ap, arith}
+use Rattle.std.proofs.Common.{◌≡◌, ◌<◌, List, [], length, set, refl, sym, ap, arith}
 use Rattle.pe_machine.specs.States as states
 use Rattle.pe_machine.specs.States.{with_datum, with_cell}
 use Rattle.pe_machine.specs.Shown.{frame_of, frames_onto}
-use Rattle.pe_machine.specs.Turns.{state_of}
+use Rattle.pe_machine.specs.Turns.{frames_of, state_of}
 use Rattle.pe_machine.specs.declared.frames.Frame.{Frame}
 use Rattle.pe_machine.proofs.FrameLemmas.{cell_by_none, cell_by_place, numbered_cell}
+use Rattle.pe_machine.proofs.NameLemmas.{frame_at, set_focus, set_contexts, set_frames}
 use Rattle.pe_machine.proofs.apply.set_cell.Goals as goal
 use Rattle.pe_machine.proofs.apply.set_cell.Goals.{After-with_datum}
 
@@ -15,15 +16,37 @@ frame_set c = record { number = c.index-frame.result.now.number; depth = c.index
 set_is : (c : After-with_datum) → with_cell c.args.name.number c.args.v (frames_onto [] c.args.core.now.frames.items) ≡ frames_onto [] (set c.args.core.now.frames.items c.in-Some.place (frame_set c))
 set_is c =
     let core = c.args.core.now in
-    cell_by_place c.args.name.number core.next c.len.result c.in-Some.place c.args.v c.as_slice.result.now core.frames.items c.index-frame.result.now (frame_set c) c.as_slice.ensures.value (omega (arith, c.len.ensures, core.frames.ok.0)) core.numbered
+    cell_by_place c.args.name.number core.next c.len.result c.in-Some.place c.args.v core.frames.items c.index-frame.result.now (frame_set c) (omega (arith, c.len.ensures, core.frames.ok.0)) core.numbered
     c.in-Some.ensures c.index-frame.ensures
-    (ap (λ (b : states.Binding). record (frame_of c.index-frame.result.now) { binding = b }) c.with_datum.ensures)
+    (ap (λ (b : states.Binding). record (frame_of c.index-frame.result.now) { binding = b }) c.with_datum.ensures.binding)
 
 pub invariant_of-core-clause-numbered : goal.invariant_of-core-clause-numbered
 invariant_of-core-clause-numbered c =
     let core = c.args.core.now in
     let at = (goal.at.invariant_of-core-clause-numbered c).After-with_datum in
     numbered_cell c.args.name.number core.next c.args.v core.frames.items (set core.frames.items c.in-Some.place (frame_set at)) (set_is at) core.numbered
+
+inside : (c : After-with_datum) → c.in-Some.place < length c.args.core.now.frames.items
+inside c = let below = c.in-Some.ensures.0 in omega (arith, c.len.ensures, c.args.core.now.frames.ok.0)
+
+pub invariant_of-core-clause-focus_placed : goal.invariant_of-core-clause-focus_placed
+invariant_of-core-clause-focus_placed c =
+    let core = c.args.core.now in
+    let at = (goal.at.invariant_of-core-clause-focus_placed c).After-with_datum in
+    set_focus c.in-Some.place c.index-frame.result.now (frame_set at) (frames_of core) (inside at) c.index-frame.ensures refl core.focus core.focus_placed
+
+pub invariant_of-core-clause-contexts_placed : goal.invariant_of-core-clause-contexts_placed
+invariant_of-core-clause-contexts_placed c =
+    let core = c.args.core.now in
+    let at = (goal.at.invariant_of-core-clause-contexts_placed c).After-with_datum in
+    set_contexts c.in-Some.place c.index-frame.result.now (frame_set at) (frames_of core) (inside at) c.index-frame.ensures refl core.contexts.items core.contexts_placed
+
+pub invariant_of-core-clause-frames_placed : goal.invariant_of-core-clause-frames_placed
+invariant_of-core-clause-frames_placed c =
+    let core = c.args.core.now in
+    let at = (goal.at.invariant_of-core-clause-frames_placed c).After-with_datum in
+    let was = frame_at c.in-Some.place c.index-frame.result.now (frames_of core) core.frames_placed (inside at) c.index-frame.ensures in
+    set_frames c.in-Some.place c.index-frame.result.now (frame_set at) (frames_of core) (inside at) c.index-frame.ensures refl core.frames_placed (c.with_datum.ensures.placed (frames_of core) was.0, was.1)
 
 pub returns-in-Some-clause-state : goal.returns-in-Some-clause-state
 returns-in-Some-clause-state c =
@@ -33,4 +56,4 @@ pub returns-in_default-clause-state : goal.returns-in_default-clause-state
 returns-in_default-clause-state c =
     let core = c.args.core.now in
     ap (λ (fs : List states.Frame). record (state_of core) { frames = fs })
-    (sym (cell_by_none c.args.name.number c.len.result c.args.v c.as_slice.result.now core.frames.items c.as_slice.ensures.value (omega (arith, c.len.ensures, core.frames.ok.0)) c.in_default.ensures))
+    (sym (cell_by_none c.args.name.number c.len.result c.args.v core.frames.items (omega (arith, c.len.ensures, core.frames.ok.0)) c.in_default.ensures))

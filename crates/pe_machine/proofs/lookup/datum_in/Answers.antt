@@ -9,18 +9,18 @@ pub returns-in_err-place : goal.returns-in_err-place
 returns-in_err-place c =
     let core = c.args.core.now in
     c.from_residual.ensures
-    ∙ sym (datum_by_none c.args.name.number c.len.result c.as_slice.result.now core.frames.items c.as_slice.ensures.value (omega (arith, c.len.ensures, core.frames.ok.0)) c.in_err-place.ensures)
+    ∙ sym (datum_by_none c.args.name.number c.len.result core.frames.items (omega (arith, c.len.ensures, core.frames.ok.0)) c.in_err-place.ensures)
 
 pub returns-in-ToCell : goal.returns-in-ToCell
 returns-in-ToCell c =
     let core = c.args.core.now in
-    sym (datum_by_place c.args.name.number core.next c.len.result c.in_ok-place.place c.as_slice.result.now core.frames.items c.index.result.now c.as_slice.ensures.value (omega (arith, c.len.ensures, core.frames.ok.0)) core.numbered
+    sym (datum_by_place c.args.name.number core.next c.len.result c.in_ok-place.place core.frames.items c.index.result.now (omega (arith, c.len.ensures, core.frames.ok.0)) core.numbered
     c.in_ok-place.ensures c.index.ensures
     ∙ ap (λ (b : Binding). datum_in (binding_of b)) c.in-ToCell.is)
 
 pub returns-in_default : goal.returns-in_default
 returns-in_default c =
     let core = c.args.core.now in
-    sym (datum_by_place c.args.name.number core.next c.len.result c.in_ok-place.place c.as_slice.result.now core.frames.items c.index.result.now c.as_slice.ensures.value (omega (arith, c.len.ensures, core.frames.ok.0)) core.numbered
+    sym (datum_by_place c.args.name.number core.next c.len.result c.in_ok-place.place core.frames.items c.index.result.now (omega (arith, c.len.ensures, core.frames.ok.0)) core.numbered
     c.in_ok-place.ensures c.index.ensures
     ∙ no_datum c.index.result.now.binding c.in_default.not-ToCell)

@@ -16,5 +16,5 @@ returns-in-Some c =
     let core = c.args.core.now in
     let fs = frames_onto [] core.frames.items in
     c.is_some.ensures
-    ∙ listed_by c.in-Some.name.number core.next c.len.result c.as_slice.result.now core.frames.items c.place_of.result c.as_slice.ensures.value (omega (arith, c.len.ensures, core.frames.ok.0)) core.numbered c.place_of.ensures
+    ∙ listed_by c.in-Some.name.number core.next c.len.result core.frames.items c.place_of.result (omega (arith, c.len.ensures, core.frames.ok.0)) core.numbered c.place_of.ensures
     ∙ sym (ap (λ (r : Option FrameName). is_listed (number_of r) fs) c.in-Some.is)

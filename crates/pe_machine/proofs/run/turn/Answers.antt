@@ -1,7 +1,7 @@
 use Rattle.std.proofs.Common.{◌≡◌, Bool, Some, refl, sym, ap, ◌∙◌, subst}
 use Rattle.std.specs.declared.option.Option.{Option}
 use Rattle.fy_base.specs.Outside.{Bytes, Gained, GainedPart}
-use Rattle.pe_machine.specs.Seen.{Seen, seen}
+use Rattle.pe_machine.specs.Seen.{seen}
 use Rattle.pe_machine.specs.Exchange.{Outer, went, wrote, took, was_over, faulted, stuck, lost, refused, unread, unwritten}
 use Rattle.pe_machine.proofs.Reached.{wrote_text}
 use Rattle.pe_machine.proofs.run.turn.Goals as goal
