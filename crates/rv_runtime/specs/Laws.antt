@@ -125,6 +125,7 @@ pub record IsFrameBegun (f t depth : ℕ) (e : Data) : Type 0 where
   pub top : e.named.top ≡ word_address t
   pub third : e.named.third ≡ 8 * frame_words depth
   pub some : 1 ≤ depth
+  pub most : depth ≤ 512
   pub apart : f + (2 + depth) ≤ t
   pub room : t + frame_words depth ≤ length e.words
   pub few : length e.words ≤ 2 ^ 27
