@@ -1,0 +1,141 @@
+-- The numbers in the blocks of code that can be selected are what the discipline asks for.
+use Rattle.std.proofs.Common.{◌≡◌, ℕ, zero, suc, ◌+◌, ◌*◌, ◌^◌, ◌<◌, ◌≤◌, true, List, [], ◌∷◌, length, take, Some, refl, ap, subst, arith, lt-ltb, length-append, mul-le-mul_right}
+use Rattle.std.proofs.lemmas.Bool.{le-leb, cond_both}
+use Rattle.std.proofs.lemmas.List.{length-map}
+use Rattle.std.proofs.lemmas.Option.{same_Some, slice_get_within}
+use Rattle.std.specs.Prelude.{slice_get, slice_index_or, nat_le, nat_eq}
+use Rattle.std.specs.Option.{ForSome}
+use Rattle.pe_code.specs.declared.code.PeItem.{PeItem}
+use Rattle.pe_code.specs.declared.code.PeCode.{PeCode}
+use Rattle.pe_code.specs.Code.{item_at, beside, picked_from}
+use Rattle.pe_code.specs.Valid.{LeadsTo, IsSoundItem, IsValid, all_picked_from}
+use Rattle.rv_word.specs.Discipline.{Bounds, bounds_of}
+use Rattle.rv_operators.specs.Operators.{word_of}
+use Rattle.rv_operators.specs.Laws.{IsDatum}
+use Rattle.rv_select.specs.Numbers.{first_item, block_count, blocks_in, entries_in, label_of, entry_number, row_words, column_word, place_in, column_of, row_address}
+use Rattle.rv_select.specs.Blocks.{blocks_of}
+use Rattle.rv_select.specs.Program.{item_blocks, word_code}
+use Rattle.rv_select.specs.Laws.{answer_of, IsSelectable}
+use Rattle.rv_select.proofs.Reaching.{word_small}
+use Rattle.rv_select.proofs.Placed.{blocks_length, some_blocks, entries_few, rows_length}
+use Rattle.rv_select.proofs.Step.{all_found}
+use Rattle.rv_select.proofs.Judging.{IsLabel, IsWord}
+use Rattle.rv_select.proofs.Judged.{Fits, InsnFits}
+use Rattle.rv_select.proofs.Counting.{IsSmall}
+
+-- ---- labels
+
+pub blocks_total : (code : PeCode) (a : ℕ) (is : List PeItem) → length (item_blocks code a is) ≡ blocks_in is
+blocks_total code a [] = refl
+blocks_total code a (i ∷ is) =
+    let rest = blocks_total code (suc a) is in
+    let here = blocks_length code a i.depth i.insn in
+    let all = length-append (blocks_of code a i.depth i.insn) (item_blocks code (suc a) is) in
+    omega arith
+
+-- how many blocks there are
+pub blocks_number : (code : PeCode) → length (word_code code).blocks ≡ first_item + blocks_in code.items
+blocks_number code = let total = blocks_total code 0 code.items in omega arith
+
+block_inside : (is : List PeItem) (a k : ℕ) (i : PeItem) → slice_get is a ≡ Some i → k < block_count i.insn → blocks_in (take a is) + k < blocks_in is
+block_inside [] a k i h lt = absurd (cc)
+block_inside (j ∷ is) zero k i h lt = let same = ap (λ (z : PeItem). block_count z.insn) (same_Some j i h) in omega arith
+block_inside (j ∷ is) (suc a) k i h lt = let rest = block_inside is a k i h lt in omega arith
+
+-- ---- other numbers
+
+entries_before : (is : List PeItem) (a : ℕ) → entries_in (take a is) ≤ entries_in is
+entries_before [] zero = omega arith
+entries_before [] (suc a) = omega arith
+entries_before (i ∷ is) zero = omega arith
+entries_before (i ∷ is) (suc a) = let rest = entries_before is a in omega arith
+
+pub entry_small : (code : PeCode) → IsValid code → (a : ℕ) → entry_number code a ≤ 2 ^ 20
+entry_small code valid a =
+    let before = entries_before code.items a in
+    let few = entries_few code.items in
+    let parts = valid.parts in
+    let items = valid.few in
+    omega arith
+
+picked_inside : (is : List PeItem) (a : ℕ) (i : PeItem) → slice_get is a ≡ Some i → length (picked_from i.insn) ≤ all_picked_from is
+picked_inside [] a i h = absurd (cc)
+picked_inside (j ∷ is) zero i h = let same = ap (λ (z : PeItem). length (picked_from z.insn)) (same_Some j i h) in omega arith
+picked_inside (j ∷ is) (suc a) i h = let rest = picked_inside is a i h in omega arith
+
+place_few : (nodes : List ℕ) (node : ℕ) → place_in nodes node ≤ length nodes
+place_few [] node = omega arith
+place_few (n ∷ nodes) node = let rest = place_few nodes node in cond_both (nat_eq n node) 0 (suc (place_in nodes node)) (λ k. k ≤ suc (length nodes)) (λ e. omega arith) (λ e. omega arith)
+
+column_small : (code : PeCode) → IsSelectable code → (node : ℕ) → column_word (column_of code node) < 2 ^ 64
+column_small code ok node =
+    let place = place_few code.thunks node in
+    let few = ok.thunks in
+    omega arith
+
+row_within : (code : PeCode) → IsValid code → (shape : ℕ) → shape < code.shapes → suc shape * row_words code ≤ 1048576
+row_within code valid shape lt =
+    let whole = mul-le-mul_right (row_words code) lt in
+    let few = valid.words in
+    omega arith
+
+-- ---- all of them
+
+abbrev pub bounds : PeCode → Bounds
+bounds code = bounds_of (word_code code)
+
+module _ (code : PeCode) (ok : IsSelectable code) where
+  label_fits : (a k : ℕ) (i : PeItem) → item_at code a ≡ Some i → k < block_count i.insn → IsLabel (bounds code) (label_of code a + k)
+  label_fits a k i h lt =
+      let within = block_inside code.items a k i h lt in
+      let number = blocks_number code in
+      lt-ltb (label_of code a + k) (length (word_code code).blocks) (omega arith)
+
+  pub led_label : (depth a : ℕ) → LeadsTo code depth a → IsLabel (bounds code) (label_of code a)
+  led_label depth a leads =
+      let none : label_of code a + 0 ≡ label_of code a = omega arith in
+      subst (IsLabel (bounds code)) none (label_fits a 0 leads.item leads.stands (some_blocks leads.item.insn))
+
+  pub fits : Fits code (bounds code)
+  fits = record {
+    fixed = (let number = blocks_number code in omega arith);
+    words = entry_small code ok.valid;
+    columns = λ node. lt-ltb (column_word (column_of code node)) (2 ^ 64) (column_small code ok node);
+  }
+
+  sound_at : (a : ℕ) (i : PeItem) → item_at code a ≡ Some i → IsSoundItem code i
+  sound_at a i h = all_found (λ j. IsSoundItem code j) code.items a i ok.valid.items h
+
+  shape_fits : (shape : ℕ) → shape < code.shapes → (nat_le 1 (length (word_code code).table) ≡ true) × IsWord (row_address code shape)
+  shape_fits shape lt =
+      let within = row_within code ok.valid shape lt in
+      let all = mul-le-mul_right (row_words code) lt in
+      let size = rows_length code code.shapes 0 in
+      (le-leb 1 (length (word_code code).table) (omega arith), lt-ltb (row_address code shape) (2 ^ 64) (omega arith))
+
+  pub insn_fits : (a : ℕ) (i : PeItem) → item_at code a ≡ Some i → InsnFits code (bounds code) a i.depth i.insn
+  insn_fits a i h =
+      let sound = sound_at a i h in
+      record {
+        deep = sound.depth;
+        here = led_label i.depth a (record { item = i; stands = h; depth_is = refl });
+        own = λ k lt. label_fits a k i h lt;
+        place = (let within = slice_get_within code.items a i h in let size = length-map code.items (λ (j : PeItem). j.place) in lt-ltb a (length (word_code code).places) (omega arith));
+        beside = λ k n lt. led_label i.depth (slice_index_or (beside i.insn) k n) (sound.beside_it k n lt);
+        body = λ y e. led_label (i.depth + 1) y (sound.body y e);
+        variable = λ k e. (let lt = sound.variable k e in let deep = sound.depth in omega arith);
+        shape = λ s e. shape_fits s (sound.shape s e);
+        parts = (let within = picked_inside code.items a i h in let parts = ok.valid.parts in let few = ok.valid.few in lt-ltb (length (picked_from i.insn)) (2 ^ 64) (omega arith));
+        answer = λ v e. lt-ltb (word_of v) (2 ^ 64) (word_small v (all_found (λ j. ForSome (answer_of j.insn) IsDatum) code.items a i ok.answers h v e));
+      }
+
+  -- and what bounds its words
+  pub small_at : (a : ℕ) (i : PeItem) → item_at code a ≡ Some i → IsSmall code i.depth i.insn
+  small_at a i h =
+      let sound = sound_at a i h in
+      record {
+        deep = sound.depth;
+        entries = entry_small code ok.valid;
+        shape = λ s e. (let within = row_within code ok.valid s (sound.shape s e) in omega arith);
+        parts = (let within = picked_inside code.items a i h in let parts = ok.valid.parts in let few = ok.valid.few in omega arith);
+      }

@@ -1,0 +1,295 @@
+-- Items in the words of the stack.
+use Rattle.std.proofs.Common.{◌≡◌, ◌≢◌, ℕ, zero, suc, ◌+◌, ◌<◌, ◌≤◌, ◌⊎◌, Bool, true, false, cond, List, [], ◌∷◌, length, Some, refl, sym, ap, ◌∙◌, subst, inl, inr, arith}
+use Rattle.std.proofs.lemmas.Bool.{cases_eq, cond-true, cond-false, eq-eqb, ne_eqb}
+use Rattle.std.proofs.lemmas.Option.{same_Some}
+use Rattle.std.specs.Prelude.{nat_eq, slice_index}
+use Rattle.std.specs.declared.option.Option.{Option}
+use mathlib.Core.Path.{fun_ext}
+use Rattle.fy_base.specs.declared.data.Datum.{Datum}
+use Rattle.pe_code.specs.declared.code.PeCode.{PeCode}
+use Rattle.pe_frame.specs.Frames.{frame_words, display_start}
+use Rattle.pe_machine.specs.States.{is_named, PeContext}
+use Rattle.pe_items.specs.Items.{ItemBinding, to_thunk, to_cell, to_escape, Item, frame, context, address_on, FoundContext, context_at, FoundFrame, from_frame, frame_from, handed_on, handed_by, with_datum, with_cell, datum_in, datum_at, context_in, escape_at}
+use Rattle.rv_word.specs.Word.{word_address}
+use Rattle.rv_operators.specs.Operators.{word_of}
+use Rattle.rv_operators.specs.Laws.{IsDatum}
+use Rattle.rv_select.specs.Numbers.{column_word}
+use Rattle.rv_select.specs.Layout.{word_in, frames_from, address_found, column, payload, IsGoodThunk, IsGoodBinding, HasThird, FrameIsLaid, HasParts, ContextIsLaid, IsLaid, AreLaid}
+use Rattle.rv_select.proofs.Wp.{Wrote}
+use Rattle.rv_select.proofs.Around.{by_eq, frame_room, frames_more, thunk_deeper, handed_good, from_here, from_else, address_with, frames_with, found_with, cell_below}
+
+-- ---- writes
+
+-- as many words, and the same below word x
+pub record IsSameBelow (x : ℕ) (m n : List ℕ) : Type 0 where
+  pub size : length n ≡ length m
+  pub under : (y : ℕ) → y < x → slice_index n y ≡ slice_index m y
+
+pub same_itself : (x : ℕ) (m : List ℕ) → IsSameBelow x m m
+same_itself x m = record { size = refl; under = λ y lt. refl }
+
+pub same_then : (x : ℕ) (m n k : List ℕ) → IsSameBelow x m n → IsSameBelow x n k → IsSameBelow x m k
+same_then x m n k h g = record { size = g.size ∙ h.size; under = λ y lt. g.under y lt ∙ h.under y lt }
+
+pub same_wrote : (x : ℕ) (m n : List ℕ) (j v : ℕ) → Wrote m n j v → x ≤ j → IsSameBelow x m n
+same_wrote x m n j v w le = record { size = w.size; under = λ y lt. w.else y (λ e. omega arith) }
+
+pub same_less : (x z : ℕ) (m n : List ℕ) → x ≤ z → IsSameBelow z m n → IsSameBelow x m n
+same_less x z m n le h = record { size = h.size; under = λ y lt. h.under y (omega arith) }
+
+-- another word than the one that was written
+pub unwritten : (m n : List ℕ) (x j k v w : ℕ) → Wrote m n (x + j) v → (k ≢ j) → word_in m x k ≡ w → word_in n x k ≡ w
+unwritten m n x j k v w h other is = h.else (x + k) (λ e. other (omega arith)) ∙ is
+
+-- ---- items keep standing
+
+pub parts_along : (code : PeCode) (depths : Option ℕ → Option ℕ) (c : PeContext) (w0 w2 w3 v0 v2 v3 : ℕ) → w0 ≡ v0 → w2 ≡ v2 → w3 ≡ v3 → HasParts code depths c w0 w2 w3 → HasParts code depths c v0 v2 v3
+parts_along code depths c w0 w2 w3 v0 v2 v3 e0 e2 e3 h =
+    subst (λ w. HasParts code depths c w v2 v3) e0 (subst (λ w. HasParts code depths c w0 w v3) e2 (subst (λ w. HasParts code depths c w0 w2 w) e3 h))
+
+frame_same : (code : PeCode) (m n : List ℕ) (is : List Item) (d : ℕ) (b : ItemBinding) (around : Option ℕ) → IsSameBelow (address_on (frame d b around ∷ is)) m n
+    → FrameIsLaid code m is d b around → FrameIsLaid code n is d b around
+frame_same code m n is d b around e h =
+    let room = frame_room d in
+    record {
+      column_is = e.under (address_on is + 0) (omega arith) ∙ h.column_is;
+      payload_is = e.under (address_on is + 1) (omega arith) ∙ h.payload_is;
+      third = subst (HasThird b) (sym (e.under (address_on is + 2) (omega arith))) h.third;
+      display = λ j y lt found. e.under (address_on is + (display_start + j)) (omega arith) ∙ h.display j y lt found;
+      depth_is = h.depth_is;
+      good = h.good;
+    }
+
+context_same : (code : PeCode) (m n : List ℕ) (is : List Item) (c : PeContext) (o : ℕ) → IsSameBelow (address_on (context c o ∷ is)) m n → ContextIsLaid code m is c o → ContextIsLaid code n is c o
+context_same code m n is c o e h = record {
+  outside_is = e.under (address_on is + 1) (omega arith) ∙ h.outside_is;
+  parts = parts_along code (frames_from is) c _ _ _ _ _ _ (sym (e.under (address_on is + 0) (omega arith))) (sym (e.under (address_on is + 2) (omega arith))) (sym (e.under (address_on is + 3) (omega arith))) h.parts;
+}
+
+item_same : (code : PeCode) (m n : List ℕ) (is : List Item) (i : Item) → IsSameBelow (address_on (i ∷ is)) m n → IsLaid code m is i → IsLaid code n is i
+item_same code m n is (frame d b around) e h = frame_same code m n is d b around e h
+item_same code m n is (context c o) e h = context_same code m n is c o e h
+
+item_room : (i : Item) (is : List Item) → address_on is + 3 ≤ address_on (i ∷ is)
+item_room (frame d b around) is = let room = frame_room d in omega arith
+item_room (context c o) is = omega arith
+
+-- what is written on top of them changes nothing
+pub laid_same : (code : PeCode) (m n : List ℕ) (is : List Item) → IsSameBelow (address_on is) m n → AreLaid code m is → AreLaid code n is
+laid_same code m n [] e h = tt
+laid_same code m n (i ∷ is) e h =
+    (item_same code m n is i e h.0, laid_same code m n is (let room = item_room i is in same_less (address_on is) (address_on (i ∷ is)) m n (omega arith) e) h.1)
+
+-- ---- a variable's binding
+
+-- what the frame that was found hands on stands in its first two words
+pub record HandsOn (code : PeCode) (m : List ℕ) (is : List Item) (f : FoundFrame) : Type 0 where
+  pub column_is : word_in m f.address 0 ≡ column_word (column code (handed_by f))
+  pub payload_is : word_in m f.address 1 ≡ payload (handed_by f)
+  pub good : IsGoodThunk code (frames_from is) (handed_by f)
+  pub within : f.address + 3 ≤ address_on is
+
+hands_more : (code : PeCode) (m : List ℕ) (i : Item) (is : List Item) (f : FoundFrame) → HandsOn code m is f → HandsOn code m (i ∷ is) f
+hands_more code m i is f h = record {
+  column_is = h.column_is;
+  payload_is = h.payload_is;
+  good = thunk_deeper code (frames_from is) (frames_from (i ∷ is)) (λ g d. frames_more i is g d) (handed_by f) h.good;
+  within = (let room = item_room i is in let w = h.within in omega arith);
+}
+
+hands_here : (code : PeCode) (m : List ℕ) (is : List Item) (d : ℕ) (b : ItemBinding) (around : Option ℕ) → FrameIsLaid code m is d b around
+    → HandsOn code m (frame d b around ∷ is) (record { address = address_on is; binding = b })
+hands_here code m is d b around h = record {
+  column_is = h.column_is;
+  payload_is = h.payload_is;
+  good = thunk_deeper code (frames_from is) (frames_from (frame d b around ∷ is)) (λ g n. frames_more (frame d b around) is g n) (handed_on (address_on is) b) (handed_good code (frames_from is) (address_on is) b h.good);
+  within = (let room = frame_room d in omega arith);
+}
+
+pub hands_on : (code : PeCode) (m : List ℕ) (is : List Item) (k : ℕ) (x : Option ℕ) (f : FoundFrame) → frame_from is k x ≡ Some f → AreLaid code m is → HandsOn code m is f
+hands_on code m [] k x f e h = absurd (cc)
+hands_on code m (context c o ∷ is) k x f e h = hands_more code m (context c o) is f (hands_on code m is k x f e h.1)
+hands_on code m (frame d b around ∷ is) k x f e h =
+    by (is_named x (address_on is)) k (λ j g. hands_on code m is j around f g h.1) (λ g. hands_on code m is k x f g h.1) e
+  where
+    by : (t : Bool) (k : ℕ) → ((j : ℕ) → frame_from is j around ≡ Some f → HandsOn code m is f) → (frame_from is k x ≡ Some f → HandsOn code m is f)
+        → cond t (from_frame k (record { address = address_on is; binding = b }) (λ j. frame_from is j around)) (frame_from is k x) ≡ Some f → HandsOn code m (frame d b around ∷ is) f
+    by true zero outward other g =
+        subst (λ (q : FoundFrame). HandsOn code m (frame d b around ∷ is) q) (same_Some (record { address = address_on is; binding = b }) f g) (hands_here code m is d b around h.0)
+    by true (suc k) outward other g = hands_more code m (frame d b around) is f (outward k g)
+    by false k outward other g = hands_more code m (frame d b around) is f (other g)
+
+-- ---- the frame in use
+
+-- word j of the display of the frame at word x, around which there are d frames
+pub record ShowsFrames (m : List ℕ) (is : List Item) (x d : ℕ) : Type 0 where
+  pub display : (j y : ℕ) → j < d → address_found (frame_from is (suc j) (Some x)) ≡ Some y → word_in m x (display_start + j) ≡ word_address y
+  pub within : x + frame_words d ≤ address_on is
+
+pub shows_frames : (code : PeCode) (m : List ℕ) (is : List Item) (x d : ℕ) → frames_from is (Some x) ≡ Some (suc d) → AreLaid code m is → ShowsFrames m is x d
+shows_frames code m [] x d e h = absurd (cc)
+shows_frames code m (context c o ∷ is) x d e h =
+    let r = shows_frames code m is x d e h.1 in
+    record { display = r.display; within = (let w = r.within in omega arith) }
+shows_frames code m (frame n b around ∷ is) x d e h =
+    by_eq (λ o. o ≡ Some (suc d) → ShowsFrames m (frame n b around ∷ is) x d) x (address_on is) (Some (suc n)) (frames_from is (Some x))
+    (λ same k. let depth : n ≡ d = (let s = same_Some (suc n) (suc d) k in omega arith) in here x d same depth)
+    (λ other k. let r = shows_frames code m is x d k h.1 in record {
+      display = λ j y lt found. r.display j y lt (sym (ap address_found (from_else n b around is (suc j) x other)) ∙ found);
+      within = (let w = r.within in let room = frame_room n in omega arith);
+    })
+    e
+  where
+    here : (x d : ℕ) → x ≡ address_on is → n ≡ d → ShowsFrames m (frame n b around ∷ is) x d
+    here x d same depth =
+        subst (λ y. ShowsFrames m (frame n b around ∷ is) y d) (sym same)
+        (subst (λ e. ShowsFrames m (frame n b around ∷ is) (address_on is) e) depth
+        (record {
+          display = λ j y lt found. h.0.display j y lt (sym (ap address_found (from_here n b around is (suc j))) ∙ found);
+          within = omega arith;
+        }))
+
+-- ---- a context
+
+-- the context at word x, and what a cut back to it leaves
+pub record StandsAt (code : PeCode) (m : List ℕ) (is : List Item) (x : ℕ) (c : FoundContext) : Type 0 where
+  pub spot : x ≡ address_on c.older
+  pub older : AreLaid code m c.older
+  pub here : ContextIsLaid code m c.older c.content c.outside
+  pub within : address_on c.older + 4 ≤ address_on is
+  pub deeper : (f : Option ℕ) (d : ℕ) → frames_from c.older f ≡ Some d → frames_from is f ≡ Some d
+
+stands_more : (code : PeCode) (m : List ℕ) (i : Item) (is : List Item) (x : ℕ) (c : FoundContext) → StandsAt code m is x c → StandsAt code m (i ∷ is) x c
+stands_more code m i is x c r = record {
+  spot = r.spot;
+  older = r.older;
+  here = r.here;
+  within = (let w = r.within in let room = item_room i is in omega arith);
+  deeper = λ f d e. frames_more i is f d (r.deeper f d e);
+}
+
+pub stands_at : (code : PeCode) (m : List ℕ) (is : List Item) (x : ℕ) (c : FoundContext) → context_at x is ≡ Some c → AreLaid code m is → StandsAt code m is x c
+stands_at code m [] x c e h = absurd (cc)
+stands_at code m (frame d b around ∷ is) x c e h = stands_more code m (frame d b around) is x c (stands_at code m is x c e h.1)
+stands_at code m (context k o ∷ is) x c e h =
+    by_eq (λ q. q ≡ Some c → StandsAt code m (context k o ∷ is) x c) x (address_on is) (Some (record { content = k; outside = o; older = is })) (context_at x is)
+    (λ same g. subst (λ (q : FoundContext). StandsAt code m (context k o ∷ is) x q) (same_Some (record { content = k; outside = o; older = is }) c g)
+    (record { spot = same; older = h.1; here = h.0; within = omega arith; deeper = λ f d. frames_more (context k o) is f d }))
+    (λ other g. stands_more code m (context k o) is x c (stands_at code m is x c g h.1))
+    e
+
+-- ---- cells and escapes
+
+pub record CellIs (m : List ℕ) (is : List Item) (x : ℕ) (v : Datum) : Type 0 where
+  pub value_is : word_in m x 2 ≡ word_of v
+  pub good : IsDatum v
+  pub within : x + 3 ≤ address_on is
+
+pub cell_is : (code : PeCode) (m : List ℕ) (is : List Item) (x : ℕ) (v : Datum) → datum_at x is ≡ Some v → AreLaid code m is → CellIs m is x v
+cell_is code m [] x v e h = absurd (cc)
+cell_is code m (context c o ∷ is) x v e h =
+    let r = cell_is code m is x v e h.1 in record { value_is = r.value_is; good = r.good; within = (let w = r.within in omega arith) }
+cell_is code m (frame d b around ∷ is) x v e h =
+    by_eq (λ o. o ≡ Some v → CellIs m (frame d b around ∷ is) x v) x (address_on is) (datum_in b) (datum_at x is)
+    (λ same k. here b same k h.0.third h.0.good)
+    (λ other k. let r = cell_is code m is x v k h.1 in record { value_is = r.value_is; good = r.good; within = (let w = r.within in let room = frame_room d in omega arith) })
+    e
+  where
+    here : (b : ItemBinding) → x ≡ address_on is → datum_in b ≡ Some v → HasThird b (word_in m (address_on is) 2) → IsGoodBinding code (frames_from is) b → CellIs m (frame d b around ∷ is) x v
+    here (to_thunk t) same k third good = absurd (cc)
+    here (to_escape c) same k third good = absurd (cc)
+    here (to_cell u) same k third good =
+        let v' = same_Some u v k in
+        record {
+          value_is = ap (λ y. word_in m y 2) same ∙ third ∙ ap word_of v';
+          good = subst IsDatum v' good;
+          within = (let room = frame_room d in omega arith);
+        }
+
+pub record EscapeIs (m : List ℕ) (is : List Item) (x c : ℕ) : Type 0 where
+  pub context_is : word_in m x 2 ≡ word_address c
+  pub within : x + 3 ≤ address_on is
+
+pub escape_is : (code : PeCode) (m : List ℕ) (is : List Item) (x c : ℕ) → escape_at x is ≡ Some c → AreLaid code m is → EscapeIs m is x c
+escape_is code m [] x c e h = absurd (cc)
+escape_is code m (context k o ∷ is) x c e h =
+    let r = escape_is code m is x c e h.1 in record { context_is = r.context_is; within = (let w = r.within in omega arith) }
+escape_is code m (frame d b around ∷ is) x c e h =
+    by_eq (λ o. o ≡ Some c → EscapeIs m (frame d b around ∷ is) x c) x (address_on is) (context_in b) (escape_at x is)
+    (λ same k. here b same k h.0.third)
+    (λ other k. let r = escape_is code m is x c k h.1 in record { context_is = r.context_is; within = (let w = r.within in let room = frame_room d in omega arith) })
+    e
+  where
+    here : (b : ItemBinding) → x ≡ address_on is → context_in b ≡ Some c → HasThird b (word_in m (address_on is) 2) → EscapeIs m (frame d b around ∷ is) x c
+    here (to_thunk t) same k third = absurd (cc)
+    here (to_cell v) same k third = absurd (cc)
+    here (to_escape a) same k third = record {
+      context_is = ap (λ y. word_in m y 2) same ∙ third ∙ ap word_address (same_Some a c k);
+      within = (let room = frame_room d in omega arith);
+    }
+
+-- ---- a cell is written
+
+-- an item that stands above the frame at word x
+context_kept : (code : PeCode) (m n : List ℕ) (x : ℕ) (v : Datum) (is : List Item) (c : PeContext) (o : ℕ) → Wrote m n (x + 2) (word_of v) → x + 3 ≤ address_on is → ContextIsLaid code m is c o
+    → ContextIsLaid code n (with_cell x v is) c o
+context_kept code m n x v is c o w le h =
+    let a = address_with x v is in
+    let same : frames_from is ≡ frames_from (with_cell x v is) = fun_ext (λ f. sym (frames_with x v is f)) in
+    let word : (k : ℕ) → word_in m (address_on is) k ≡ word_in n (address_on (with_cell x v is)) k = λ k. sym (ap (λ y. slice_index n (y + k)) a ∙ w.else (address_on is + k) (λ e. omega arith)) in
+    record {
+      outside_is = sym (word 1) ∙ h.outside_is;
+      parts = subst (λ (depths : Option ℕ → Option ℕ). HasParts code depths c (word_in n (address_on (with_cell x v is)) 0) (word_in n (address_on (with_cell x v is)) 2) (word_in n (address_on (with_cell x v is)) 3)) same
+          (parts_along code (frames_from is) c _ _ _ _ _ _ (word 0) (word 2) (word 3) h.parts);
+    }
+
+binding_deeper : (code : PeCode) (p q : Option ℕ → Option ℕ) → ((f : Option ℕ) (d : ℕ) → p f ≡ Some d → q f ≡ Some d) → (b : ItemBinding) → IsGoodBinding code p b → IsGoodBinding code q b
+binding_deeper code p q h (to_thunk t) g = thunk_deeper code p q h t g
+binding_deeper code p q h (to_cell v) g = g
+binding_deeper code p q h (to_escape c) g = tt
+
+frame_kept : (code : PeCode) (m n : List ℕ) (x : ℕ) (v : Datum) (is : List Item) (d : ℕ) (b : ItemBinding) (around : Option ℕ) → Wrote m n (x + 2) (word_of v) → x + 3 ≤ address_on is
+    → FrameIsLaid code m is d b around → FrameIsLaid code n (with_cell x v is) d b around
+frame_kept code m n x v is d b around w le h =
+    let a = address_with x v is in
+    let word : (k : ℕ) → word_in n (address_on (with_cell x v is)) k ≡ word_in m (address_on is) k = λ k. ap (λ y. slice_index n (y + k)) a ∙ w.else (address_on is + k) (λ e. omega arith) in
+    record {
+      column_is = word 0 ∙ h.column_is ∙ ap (λ y. column_word (column code (handed_on y b))) (sym a);
+      payload_is = word 1 ∙ h.payload_is ∙ ap (λ y. payload (handed_on y b)) (sym a);
+      third = subst (HasThird b) (sym (word 2)) h.third;
+      display = λ j y lt found. word (display_start + j) ∙ h.display j y lt (sym (found_with x v is j around) ∙ found);
+      depth_is = frames_with x v is around ∙ h.depth_is;
+      good = binding_deeper code (frames_from is) (frames_from (with_cell x v is)) (λ f k e. frames_with x v is f ∙ e) b h.good;
+    }
+
+cell_written : (code : PeCode) (m n : List ℕ) (x : ℕ) (u v : Datum) (is : List Item) (d : ℕ) (b : ItemBinding) (around : Option ℕ) → datum_in b ≡ Some u → x ≡ address_on is → Wrote m n (x + 2) (word_of v) → IsDatum v
+    → FrameIsLaid code m is d b around → FrameIsLaid code n is d (with_datum v b) around
+cell_written code m n x u v is d (to_thunk t) around e same w good h = absurd (cc)
+cell_written code m n x u v is d (to_escape c) around e same w good h = absurd (cc)
+cell_written code m n x u v is d (to_cell z) around e same w good h =
+    let word : (k : ℕ) → k ≢ 2 → word_in n (address_on is) k ≡ word_in m (address_on is) k = λ k other. w.else (address_on is + k) (λ q. other (omega arith)) in
+    record {
+      column_is = word 0 (λ q. omega (arith, q)) ∙ h.column_is;
+      payload_is = word 1 (λ q. omega (arith, q)) ∙ h.payload_is;
+      third = ap (λ y. slice_index n (y + 2)) (sym same) ∙ w.here;
+      display = λ j y lt found. word (display_start + j) (λ q. omega (arith, q)) ∙ h.display j y lt found;
+      depth_is = h.depth_is;
+      good = good;
+    }
+
+pub laid_with : (code : PeCode) (m n : List ℕ) (x : ℕ) (u v : Datum) (is : List Item) → datum_at x is ≡ Some u → Wrote m n (x + 2) (word_of v) → IsDatum v → AreLaid code m is → AreLaid code n (with_cell x v is)
+laid_with code m n x u v [] e w good h = absurd (cc)
+laid_with code m n x u v (context c o ∷ is) e w good h =
+    (context_kept code m n x v is c o w (cell_below x u is e) h.0, laid_with code m n x u v is e w good h.1)
+laid_with code m n x u v (frame d b around ∷ is) e w good h =
+    by (cases_eq x (address_on is)) (λ k. laid_with code m n x u v is k w good h.1)
+  where
+    by : (x ≡ address_on is) ⊎ (x ≡ address_on is → ⊥) → (datum_at x is ≡ Some u → AreLaid code n (with_cell x v is)) → AreLaid code n (with_cell x v (frame d b around ∷ is))
+    by (inl same) further =
+        let k : datum_in b ≡ Some u = sym (cond-true (nat_eq x (address_on is)) (datum_in b) (datum_at x is) (eq-eqb x (address_on is) same)) ∙ e in
+        subst (AreLaid code n) (sym (cond-true (nat_eq x (address_on is)) (frame d (with_datum v b) around ∷ is) (frame d b around ∷ with_cell x v is) (eq-eqb x (address_on is) same)))
+        (cell_written code m n x u v is d b around k same w good h.0, laid_same code m n is (same_wrote (address_on is) m n (x + 2) (word_of v) w (omega arith)) h.1)
+    by (inr other) further =
+        let k : datum_at x is ≡ Some u = sym (cond-false (nat_eq x (address_on is)) (datum_in b) (datum_at x is) (ne_eqb x (address_on is) other)) ∙ e in
+        subst (AreLaid code n) (sym (cond-false (nat_eq x (address_on is)) (frame d (with_datum v b) around ∷ is) (frame d b around ∷ with_cell x v is) (ne_eqb x (address_on is) other)))
+        (frame_kept code m n x v is d b around w (cell_below x u is k) h.0, further k)

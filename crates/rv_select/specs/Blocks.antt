@@ -1,0 +1,261 @@
+-- The micro-code of push-enter instructions: what each does on the stack of words, and what its contexts do when they are met.
+use Rattle.std.specs.Prelude.{ℕ, zero, suc, ◌+◌, ◌-◌, ◌*◌, pos, nat_lt, if◌then◌else◌, List, [], ◌∷◌, ◌++◌, length, map}
+use Rattle.fy_base.specs.declared.data.UnOp.{UnOp}
+use Rattle.fy_base.specs.declared.data.UnOp.TheVariants.{Neg, Chr}
+use Rattle.fy_base.specs.declared.data.BinOp.{BinOp}
+use Rattle.fy_base.specs.declared.data.BinOp.TheVariants.{Add, Sub, Mul, Div, Rem, And, Or}
+use Rattle.fy_base.specs.declared.data.PutKind.{PutKind}
+use Rattle.fy_base.specs.declared.data.PutKind.TheVariants as kind
+use Rattle.fy_base.specs.declared.data.FaultKind.TheVariants as fault
+use Rattle.rv_insn.specs.declared.instructions.RegOp.TheVariants as reg
+use Rattle.rv_insn.specs.declared.instructions.ImmOp.TheVariants.{Addi}
+use Rattle.rv_insn.specs.declared.instructions.ShiftOp.TheVariants.{Slli}
+use Rattle.rv_insn.specs.declared.instructions.BranchOp.TheVariants.{Beq, Bne, Bgeu}
+use Rattle.rv_insn.specs.Program.{stack_start}
+use Rattle.pe_code.specs.declared.code.PeInsn.{PeInsn}
+use Rattle.pe_code.specs.declared.code.PeInsn.TheVariants as insn
+use Rattle.pe_code.specs.declared.code.PeCode.{PeCode}
+use Rattle.pe_frame.specs.Frames.{frame_words, display_start, words_of_context}
+use Rattle.rv_word.specs.declared.micros.Register.{Register}
+use Rattle.rv_word.specs.declared.micros.Register.TheVariants.{Zero, Frame, Context, Top, Datum, First, Second, Third}
+use Rattle.rv_word.specs.declared.micros.Micro.{Micro}
+use Rattle.rv_word.specs.declared.micros.Micro.TheVariants.{Set, Imm, Shift, Alu, Window, Get, Save, Look, Room, Test, Jump, Enter, Put, Take, End, Fault}
+use Rattle.rv_runtime.specs.Routines.{exhausted, put_true, put_false, put_int, make_frame}
+use Rattle.rv_operators.specs.Operators.{word_of, unary_label, binary_label}
+use Rattle.rv_select.specs.Numbers.{meet, first_operator, pop_entry, put_int_entry, put_char_entry, put_bool_entry, end_entry, pop_label, label_of, entry_number, entry_word, column_word, datum_column, cell_column, escape_column, column_of, row_address}
+
+-- ---- shared parts
+
+abbrev pub move : Register → Register → Micro
+move r s = Imm Addi r s (pos 0)
+
+-- r is so many words behind s
+abbrev pub behind : Register → Register → ℕ → Micro
+behind r s k = Imm Addi r s (pos (8 * k))
+
+-- the address of the frame of variable k in First: the frame itself, or what its display has. Offsets of loads reach 255 words
+abbrev pub reach : ℕ → List Micro
+reach zero = move First Frame ∷ []
+reach (suc k) =
+    Window Frame (display_start + suc k)
+    ∷ (if nat_lt (display_start + k) 256 then Get First Frame (display_start + k) ∷ []
+    else (if nat_lt (display_start + k) 510 then behind First Frame 255 ∷ Get First First (display_start + k - 255) ∷ []
+    else behind First Frame 255 ∷ behind First First 255 ∷ Get First First (display_start + k - 510) ∷ []))
+
+-- a context of which words were saved is the newest, and code goes on at a label
+abbrev pub open_context : ℕ → List Micro
+open_context label = move Context Top ∷ behind Top Top words_of_context ∷ Jump label ∷ []
+
+-- the words of a context at Top: room is asked for first, since windows end at what may jump
+abbrev pub at_top : List Micro
+at_top = Room words_of_context exhausted ∷ Window Top words_of_context ∷ []
+
+-- a context with an entry alone, and one that has the frame in use too
+abbrev pub push : ℕ → ℕ → List Micro
+push entry label = at_top ++ (Set First (entry_word entry) ∷ Save Top 0 First ∷ Save Top 1 Context ∷ open_context label)
+
+abbrev pub push_frame : ℕ → ℕ → List Micro
+push_frame entry label = at_top ++ (Set First (entry_word entry) ∷ Save Top 0 First ∷ Save Top 1 Context ∷ Save Top 2 Frame ∷ open_context label)
+
+-- the frame at Top, whose binding was saved, is in use, and its body goes on at a label, or at an entry once the display is made
+abbrev pub open_frame : ℕ → ℕ → ℕ → List Micro
+open_frame zero label entry = move Frame Top ∷ behind Top Top (frame_words zero) ∷ Jump label ∷ []
+open_frame (suc d) label entry = Set Third (8 * frame_words (suc d)) ∷ Set Datum (entry_word entry) ∷ Jump make_frame ∷ []
+
+-- a frame at depth d with the binding in First and Second
+abbrev pub bind : ℕ → ℕ → ℕ → List Micro
+bind d label entry = Room (frame_words d) exhausted ∷ Window Top 3 ∷ Save Top 0 First ∷ Save Top 1 Second ∷ open_frame d label entry
+
+-- the newest context is answered
+abbrev pub answer : List Micro
+answer = Window Context 2 ∷ move Top Context ∷ Get Context Context 1 ∷ []
+
+-- and its frame is in use again
+abbrev pub answer_frame : List Micro
+answer_frame = Window Context 3 ∷ Get Frame Context 2 ∷ move Top Context ∷ Get Context Context 1 ∷ []
+
+-- the newest context stays and becomes another: its frame is in use, and what stood above it is gone
+abbrev pub renew : List Micro → List Micro
+renew saves = Window Context 3 ∷ Get Frame Context 2 ∷ saves ++ (behind Top Context words_of_context ∷ [])
+
+abbrev pub put_entry : PutKind → ℕ
+put_entry kind.Int = put_int_entry
+put_entry kind.Char = put_char_entry
+put_entry kind.Bool = put_bool_entry
+
+-- ---- blocks, for the item at address a of depth d. A fault's place has the number of its item
+
+module _ (code : PeCode) (a d : ℕ) where
+  -- the labels of its further blocks, and the words of its further entries
+  abbrev pub block_label : ℕ → ℕ
+  block_label k = label_of code a + k
+
+  abbrev pub own_entry : ℕ → ℕ
+  own_entry k = entry_number code a + k
+
+  abbrev pub to_item : ℕ → Micro
+  to_item x = Jump (label_of code x)
+
+  -- a frame for its body
+  abbrev pub bind_body : ℕ → List Micro
+  bind_body y = bind d (label_of code y) (entry_number code y)
+
+  -- its own block
+  abbrev pub main_block : PeInsn → List Micro
+  main_block (insn.UseVar k shape) =
+      reach k
+      ++ (Window First 2 ∷ Get Second First 0 ∷ Get Frame First 1
+      ∷ Set Third (row_address code shape) ∷ Alu reg.Add Second Second Third ∷ Look Second Second ∷ Enter Second ∷ [])
+  main_block (insn.Answer v) = Set Datum (word_of v) ∷ Jump meet ∷ []
+  main_block (insn.Op1 op x) = push (own_entry 1) (label_of code x)
+  main_block (insn.Op2 op x y) = push_frame (own_entry 1) (label_of code x)
+  main_block (insn.Cond x y z) = push_frame (own_entry 1) (label_of code x)
+  main_block (insn.Case x ys) = push_frame (own_entry 1) (label_of code x)
+  main_block (insn.Bind y) = Window Context 4 ∷ Get First Context 2 ∷ Get Second Context 3 ∷ Get Context Context 1 ∷ bind_body y
+  main_block (insn.Pass n y) =
+      at_top ++ (Save Top 1 Context ∷ Set First (column_word (column_of code n)) ∷ Save Top 2 First ∷ Save Top 3 Frame ∷ open_context (label_of code y))
+  main_block (insn.PassVar k y) =
+      reach k
+      ++ (Window First 2 ∷ Get Second First 0 ∷ Get Third First 1
+      ∷ at_top ++ (Save Top 1 Context ∷ Save Top 2 Second ∷ Save Top 3 Third ∷ open_context (label_of code y)))
+  main_block (insn.Field i x) = Window Context 2 ∷ Get Context Context 1 ∷ to_item x ∷ []
+  main_block (insn.Pick i x) = at_top ++ (Save Top 1 Context ∷ open_context (label_of code x))
+  main_block (insn.Let n y) = Set First (column_word (column_of code n)) ∷ move Second Frame ∷ bind_body y
+  main_block (insn.LetVar k y) = reach k ++ (Window First 2 ∷ Get Second First 1 ∷ Get First First 0 ∷ bind_body y)
+  main_block (insn.Knot n y) = Set First (column_word (column_of code n)) ∷ move Second Frame ∷ bind_body y
+  main_block insn.Done = Jump meet ∷ []
+  main_block (insn.Seq x y) = push_frame (own_entry 1) (label_of code x)
+  main_block (insn.Assign x y) = push_frame (own_entry 1) (label_of code y)
+  main_block (insn.While x y) = push_frame (own_entry 1) (label_of code x)
+  main_block (insn.Loop x) = push_frame (own_entry 1) (label_of code x)
+  main_block (insn.New x y) = push_frame (own_entry 1) (label_of code x)
+  main_block (insn.Escape y) =
+      Room (words_of_context + frame_words d) exhausted ∷ Window Top (words_of_context + 3)
+      ∷ Set First (entry_word pop_entry) ∷ Save Top 0 First ∷ Save Top 1 Context ∷ move Context Top ∷ behind Top Top words_of_context
+      ∷ Set First (column_word escape_column) ∷ Save Top 0 First ∷ Save Top 1 Top ∷ Save Top 2 Context
+      ∷ open_frame d (label_of code y) (entry_number code y)
+  main_block (insn.Accept y) = Window Context 3 ∷ Get Second Context 2 ∷ Get Context Context 1 ∷ Set First (column_word datum_column) ∷ bind_body y
+  main_block (insn.Put kind x) = push (put_entry kind) (label_of code x)
+  main_block (insn.Read x) =
+      at_top ++ (Take First ∷ Save Top 1 Context ∷ Save Top 2 First ∷ open_context (label_of code x))
+
+  -- ---- the blocks of its contexts
+
+  -- the left operand's datum: of `and` and `or` it may decide, else the right operand is next
+  abbrev pub left_block : BinOp → ℕ → List Micro
+  left_block And y = answer_frame ++ (Test Beq Datum Zero meet ∷ to_item y ∷ [])
+  left_block Or y = answer_frame ++ (Test Bne Datum Zero meet ∷ to_item y ∷ [])
+  left_block op y = renew (Save Context 2 Datum ∷ Set First (entry_word (own_entry 2)) ∷ Save Context 0 First ∷ []) ++ (to_item y ∷ [])
+
+  abbrev pub if_block : ℕ → ℕ → List Micro
+  if_block y z = answer_frame ++ (Test Beq Datum Zero (label_of code z) ∷ to_item y ∷ [])
+
+  -- the entries of the parts stand one behind the other
+  abbrev pub case_block : ℕ → List Micro
+  case_block count =
+      answer_frame
+      ++ (Set First count ∷ Test Bgeu Datum First (block_label 2)
+      ∷ Shift Slli Datum Datum 3 ∷ Set First (entry_word (own_entry 2)) ∷ Alu reg.Add First First Datum ∷ Enter First ∷ [])
+
+  abbrev pub then_block : ℕ → List Micro
+  then_block y = answer_frame ++ (to_item y ∷ [])
+
+  -- the context of an acceptor has the datum in word 2, and is never met
+  abbrev pub assign_block : ℕ → List Micro
+  assign_block x = renew (Save Context 2 Datum ∷ []) ++ (to_item x ∷ [])
+
+  abbrev pub while_block : ℕ → List Micro
+  while_block y = Test Beq Datum Zero pop_label ∷ renew (Set First (entry_word (own_entry 2)) ∷ Save Context 0 First ∷ []) ++ (to_item y ∷ [])
+
+  -- a loop again
+  abbrev pub again_block : List Micro
+  again_block = answer_frame ++ (to_item a ∷ [])
+
+  -- a cell that holds the datum: its context in place of the first value's, and its frame above that
+  abbrev pub new_block : ℕ → List Micro
+  new_block y =
+      behind Top Context words_of_context ∷ Room (frame_words d) exhausted ∷ Window Context (words_of_context + 3)
+      ∷ Get Frame Context 2 ∷ Set First (entry_word pop_entry) ∷ Save Context 0 First ∷ behind Top Context words_of_context
+      ∷ Set First (column_word cell_column) ∷ Save Top 0 First ∷ Save Top 1 Top ∷ Save Top 2 Datum
+      ∷ open_frame d (label_of code y) (entry_number code y)
+
+  -- ---- its blocks and its entries in order
+
+  abbrev pub unary_fault_blocks : UnOp → List (List Micro)
+  unary_fault_blocks Neg = (Fault fault.Overflow a ∷ []) ∷ []
+  unary_fault_blocks Chr = (Fault fault.Range a ∷ []) ∷ []
+  unary_fault_blocks _ = []
+
+  abbrev pub binary_fault_blocks : BinOp → List (List Micro)
+  binary_fault_blocks Add = (Fault fault.Overflow a ∷ []) ∷ []
+  binary_fault_blocks Sub = (Fault fault.Overflow a ∷ []) ∷ []
+  binary_fault_blocks Mul = (Fault fault.Overflow a ∷ []) ∷ []
+  binary_fault_blocks Div = (Fault fault.Zero a ∷ []) ∷ (Fault fault.Overflow a ∷ []) ∷ []
+  binary_fault_blocks Rem = (Fault fault.Zero a ∷ []) ∷ []
+  binary_fault_blocks _ = []
+
+  abbrev pub blocks_of : PeInsn → List (List Micro)
+  blocks_of (insn.Op1 op x) = main_block (insn.Op1 op x) ∷ unary_fault_blocks op
+  blocks_of (insn.Op2 op x y) = main_block (insn.Op2 op x y) ∷ left_block op y ∷ binary_fault_blocks op
+  blocks_of (insn.Cond x y z) = main_block (insn.Cond x y z) ∷ if_block y z ∷ []
+  blocks_of (insn.Case x ys) = main_block (insn.Case x ys) ∷ case_block (length ys) ∷ (Fault fault.Range a ∷ []) ∷ []
+  blocks_of (insn.Seq x y) = main_block (insn.Seq x y) ∷ then_block y ∷ []
+  blocks_of (insn.Assign x y) = main_block (insn.Assign x y) ∷ assign_block x ∷ []
+  blocks_of (insn.While x y) = main_block (insn.While x y) ∷ while_block y ∷ again_block ∷ []
+  blocks_of (insn.Loop x) = main_block (insn.Loop x) ∷ again_block ∷ []
+  blocks_of (insn.New x y) = main_block (insn.New x y) ∷ new_block y ∷ []
+  blocks_of i = main_block i ∷ []
+
+  abbrev pub unary_entries : UnOp → List ℕ
+  unary_entries Neg = block_label 1 ∷ []
+  unary_entries Chr = block_label 1 ∷ []
+  unary_entries _ = []
+
+  abbrev pub binary_entries : BinOp → List ℕ
+  binary_entries And = []
+  binary_entries Or = []
+  binary_entries Div = binary_label first_operator Div ∷ block_label 2 ∷ block_label 3 ∷ []
+  binary_entries Add = binary_label first_operator Add ∷ block_label 2 ∷ []
+  binary_entries Sub = binary_label first_operator Sub ∷ block_label 2 ∷ []
+  binary_entries Mul = binary_label first_operator Mul ∷ block_label 2 ∷ []
+  binary_entries Rem = binary_label first_operator Rem ∷ block_label 2 ∷ []
+  binary_entries op = binary_label first_operator op ∷ []
+
+  abbrev pub entries_of : PeInsn → List ℕ
+  entries_of (insn.Op1 op x) = block_label 0 ∷ unary_label first_operator op ∷ unary_entries op
+  entries_of (insn.Op2 op x y) = block_label 0 ∷ block_label 1 ∷ binary_entries op
+  entries_of (insn.Cond x y z) = block_label 0 ∷ block_label 1 ∷ []
+  entries_of (insn.Case x ys) = block_label 0 ∷ block_label 1 ∷ map (label_of code) ys
+  entries_of (insn.Seq x y) = block_label 0 ∷ block_label 1 ∷ []
+  entries_of (insn.Assign x y) = block_label 0 ∷ block_label 1 ∷ []
+  entries_of (insn.While x y) = block_label 0 ∷ block_label 1 ∷ block_label 2 ∷ []
+  entries_of (insn.Loop x) = block_label 0 ∷ block_label 1 ∷ []
+  entries_of (insn.New x y) = block_label 0 ∷ block_label 1 ∷ []
+  entries_of i = block_label 0 ∷ []
+
+-- ---- the blocks that every program has
+
+-- the stack's foot is a context whose entry ends the program
+abbrev pub start_block : PeCode → List Micro
+start_block code =
+    Set Top stack_start ∷ move Frame Top ∷ move Context Top ∷ Window Top 1
+    ∷ Set First (entry_word end_entry) ∷ Save Top 0 First ∷ behind Top Top 1 ∷ Jump (label_of code 0) ∷ []
+
+-- a datum or a finished command meets the newest context, by the context's entry; and the code whose entry is in Datum goes on
+abbrev pub caller_blocks : List (List Micro)
+caller_blocks = (Window Context 1 ∷ Get First Context 0 ∷ Enter First ∷ []) ∷ (Enter Datum ∷ []) ∷ []
+
+abbrev pub own_blocks : PeCode → List (List Micro)
+own_blocks code =
+    start_block code
+    ∷ (End ∷ [])
+    -- a binding that is a datum has it as its payload; a cell's and an escape's payload is its frame
+    ∷ (move Datum Frame ∷ Jump meet ∷ [])
+    ∷ (Window Frame 3 ∷ Get Datum Frame 2 ∷ Jump meet ∷ [])
+    ∷ (Window Context 3 ∷ Get Datum Context 2 ∷ Get Context Context 1 ∷ Window Frame 3 ∷ Save Frame 2 Datum ∷ Jump meet ∷ [])
+    ∷ (Window Frame 3 ∷ Get Context Frame 2 ∷ Jump pop_label ∷ [])
+    ∷ (answer ++ (Jump meet ∷ []))
+    ∷ (answer ++ (Jump put_int ∷ []))
+    ∷ (answer ++ (Put Datum ∷ Jump meet ∷ []))
+    ∷ (answer ++ (Test Bne Datum Zero put_true ∷ Jump put_false ∷ []))
+    ∷ []
