@@ -96,10 +96,27 @@ module _ (code : PeCode) (w : Code) (size : ℕ) where
           let fits = tracks.stands.items.memory.fits in
           let entry = sel.fixed 1 (omega arith) in
           subst (λ (ms : List Micro). Reach w (HasEnded r) 60 (record { rest = ms; held = t.held })) (sym focus)
-          (by_blocks w (HasEnded r) meet (Window Context 1 ∷ Get First Context 0 ∷ Enter First ∷ []) t.held 9 60 (sel.callers 0 (omega arith)) (omega arith)
-          (0, foot, omega arith, (0, entry_word end_entry, foot, omega arith, tracks.stands.items.memory.foot, (end_entry, end_label, refl, entry.inside, entry.leads,
-          inr (by_block w (HasEnded r) end_label (End ∷ []) (with_value First (entry_word end_entry) t.held) 9 (sel.own 1 (omega arith)) (omega arith)
-          (record { held = with_value First (entry_word end_entry) t.held; is = refl; same = record { output = tracks.same.output; input = tracks.same.input } }))))))
+          (by_blocks w (HasEnded r) meet (Window Context 1 ∷ Get First Context 0 ∷ Enter First ∷ []) t.held 9 60 (sel.callers 0 (omega arith)) (omega arith) (
+            0,
+            foot,
+            omega arith,
+            (
+              0,
+              entry_word end_entry,
+              foot,
+              omega arith,
+              tracks.stands.items.memory.foot,
+              (
+                end_entry,
+                end_label,
+                refl,
+                entry.inside,
+                entry.leads,
+                inr (by_block w (HasEnded r) end_label (End ∷ []) (with_value First (entry_word end_entry) t.held) 9 (sel.own 1 (omega arith)) (omega arith)
+                    (record { held = with_value First (entry_word end_entry) t.held; is = refl; same = record { output = tracks.same.output; input = tracks.same.input } })),
+              ),
+            ),
+          ))
 
       pub ends_so : r.standing ≡ ended → Reach w (HasEnded r) 60 t
       ends_so e = ended_by r.state.focus r.state.newest (sym tracks.standing ∙ e) tracks.stands.focus tracks.stands.items.newest_is

@@ -138,7 +138,7 @@ module _ (code : PeCode) (a : ℕ) where
     insn_words (insn.UseVar k s) h =
         let row = set_short (row_address code s) (h.shape s refl) in
         let all = reach_then k (
-          Window First 2 ∷ Get Second First 0 ∷ Get Frame First 1 ∷ Set Third (row_address code s) ∷ Alu reg.Add Second Second Third ∷ Look Second Second ∷ Enter Second ∷ []
+        Window First 2 ∷ Get Second First 0 ∷ Get Frame First 1 ∷ Set Third (row_address code s) ∷ Alu reg.Add Second Second Third ∷ Look Second Second ∷ Enter Second ∷ []
         ) in
         omega arith
     insn_words (insn.Answer v) h = let few = set_most (word_of v) in omega arith
@@ -162,8 +162,8 @@ module _ (code : PeCode) (a : ℕ) where
     insn_words (insn.Pass n y) h = let column = set_most (column_word (column_of code n)) in omega arith
     insn_words (insn.PassVar k y) h =
         let all = reach_then k (
-          Window First 2 ∷ Get Second First 0 ∷ Get Third First 1
-          ∷ (at_top ++ (Save Top 1 Context ∷ Save Top 2 Second ∷ Save Top 3 Third ∷ open_context (label_of code y)))
+        Window First 2 ∷ Get Second First 0 ∷ Get Third First 1
+        ∷ (at_top ++ (Save Top 1 Context ∷ Save Top 2 Second ∷ Save Top 3 Third ∷ open_context (label_of code y)))
         ) in
         omega arith
     insn_words (insn.Field i x) h = omega arith

@@ -102,10 +102,20 @@ module _ (code : PeCode) (w : Code) (sel : IsSelected code w) where
           let c = cell_is code e.words s.items x v is h.memory.laid in
           let within = c.within in
           let fits = h.memory.fits in
-          by_block w (Q (loaded (Some v) s)) read_label (Window Frame 3 ∷ Get Datum Frame 2 ∷ Jump meet ∷ []) e 40 (sel.own 3 (omega arith)) (omega arith)
-          (x, f, omega arith, (x, word_of v, f, omega arith, c.value_is,
-          went_value code w s.newest s.items v (with_value Datum (word_of v) e) e0.input e0.output (length e0.words) (record { newest_is = h.newest_is; top_is = h.top_is; memory = h.memory; bytes = h.bytes }) refl c.good
-          (record { input_is = keeps.input_is; output_is = keeps.output_is; size_is = keeps.size_is })))
+          by_block w (Q (loaded (Some v) s)) read_label (Window Frame 3 ∷ Get Datum Frame 2 ∷ Jump meet ∷ []) e 40 (sel.own 3 (omega arith)) (omega arith) (
+            x,
+            f,
+            omega arith,
+            (
+              x,
+              word_of v,
+              f,
+              omega arith,
+              c.value_is,
+              went_value code w s.newest s.items v (with_value Datum (word_of v) e) e0.input e0.output (length e0.words) (record { newest_is = h.newest_is; top_is = h.top_is; memory = h.memory; bytes = h.bytes }) refl c.good
+                  (record { input_is = keeps.input_is; output_is = keeps.output_is; size_is = keeps.size_is }),
+            ),
+          )
 
       -- or written
       cell_written : (v : DatumType) (outside : ℕ) (older : List Item) → StandsAt code e.words s.items s.newest (record { content = store_c v; outside = outside; older = older }) → (o : Option DatumType) → datum_at x s.items ≡ o
@@ -119,22 +129,49 @@ module _ (code : PeCode) (w : Code) (sel : IsSelected code w) where
           let spot = at.spot in
           let newest = h.newest_is ∙ ap word_address spot in
           by_block w (Q (assigned (Some u) x v (record s { newest = outside }))) write_label
-          (Window Context 3 ∷ Get Datum Context 2 ∷ Get Context Context 1 ∷ Window Frame 3 ∷ Save Frame 2 Datum ∷ Jump meet ∷ []) e 60 (sel.own 4 (omega arith)) (omega arith)
-          (address_on older, newest, omega arith, (address_on older, word_of v, newest, omega arith, at.here.parts.0, (address_on older, word_address outside, newest, omega arith, at.here.outside_is, (x, f, omega arith, (x, f, omega arith,
-          λ n1 w1.
-              went_completed code w outside (with_cell x v s.items) (record (with_value Context (word_address outside) (with_value Datum (word_of v) e)) { words = n1 }) e0.input e0.output (length e0.words)
-              (record {
-                newest_is = refl;
-                top_is = h.top_is ∙ ap word_address (sym (address_with x v s.items));
-                memory = record {
-                  foot = w1.else 0 (λ q. omega arith) ∙ h.memory.foot;
-                  fits = (let z = w1.size in let a = address_with x v s.items in omega arith);
-                  few = (let z = w1.size in let k = h.memory.few in omega arith);
-                  laid = laid_with code e.words n1 x u v s.items is w1 at.here.parts.1 h.memory.laid;
-                };
-                bytes = h.bytes;
-              })
-              (record { input_is = keeps.input_is; output_is = keeps.output_is; size_is = w1.size ∙ keeps.size_is }))))))
+          (Window Context 3 ∷ Get Datum Context 2 ∷ Get Context Context 1 ∷ Window Frame 3 ∷ Save Frame 2 Datum ∷ Jump meet ∷ []) e 60 (sel.own 4 (omega arith)) (omega arith) (
+            address_on older,
+            newest,
+            omega arith,
+            (
+              address_on older,
+              word_of v,
+              newest,
+              omega arith,
+              at.here.parts.0,
+              (
+                address_on older,
+                word_address outside,
+                newest,
+                omega arith,
+                at.here.outside_is,
+                (
+                  x,
+                  f,
+                  omega arith,
+                  (
+                    x,
+                    f,
+                    omega arith,
+                    λ n1 w1.
+                        went_completed code w outside (with_cell x v s.items) (record (with_value Context (word_address outside) (with_value Datum (word_of v) e)) { words = n1 }) e0.input e0.output (length e0.words)
+                        (record {
+                          newest_is = refl;
+                          top_is = h.top_is ∙ ap word_address (sym (address_with x v s.items));
+                          memory = record {
+                            foot = w1.else 0 (λ q. omega arith) ∙ h.memory.foot;
+                            fits = (let z = w1.size in let a = address_with x v s.items in omega arith);
+                            few = (let z = w1.size in let k = h.memory.few in omega arith);
+                            laid = laid_with code e.words n1 x u v s.items is w1 at.here.parts.1 h.memory.laid;
+                          };
+                          bytes = h.bytes;
+                        })
+                        (record { input_is = keeps.input_is; output_is = keeps.output_is; size_is = w1.size ∙ keeps.size_is }),
+                  ),
+                ),
+              ),
+            ),
+          )
 
       assigned_by : (c : PeContext) (outside : ℕ) (older : List Item) → StandsAt code e.words s.items s.newest (record { content = c; outside = outside; older = older })
           → Reach w (Q (assignment_meets x c (record s { newest = outside }))) 60 (record { rest = block w write_label; held = e })
@@ -155,14 +192,38 @@ module _ (code : PeCode) (w : Code) (sel : IsSelected code w) where
           let at = stands_at code e.words s.items c k is h.memory.laid in
           let inside = at.within in
           let e1 = with_value Context (word_address (address_on k.older)) e in
-          by_blocks w (Q (left_by (Some k) s)) leave_label (Window Frame 3 ∷ Get Context Frame 2 ∷ Jump pop_label ∷ []) e 50 90 (sel.own 5 (omega arith)) (omega arith)
-          (x, f, omega arith, (x, word_address (address_on k.older), f, omega arith, esc.context_is ∙ ap word_address at.spot, inr (
-          by_block w (Q (left_by (Some k) s)) pop_label (Window Context 2 ∷ move Top Context ∷ Get Context Context 1 ∷ Jump meet ∷ []) e1 50 (sel.own 6 (omega arith)) (omega arith)
-          (address_on k.older, refl, omega arith, (word_address (address_on k.older), moves (word_address (address_on k.older)) (word_address (address_on k.older)) refl (omega arith),
-          (address_on k.older, word_address k.outside, refl, omega arith, at.here.outside_is,
-          went_completed code w k.outside k.older (with_value Context (word_address k.outside) (with_value Top (word_address (address_on k.older)) e1)) e0.input e0.output (length e0.words)
-          (record { newest_is = refl; top_is = refl; memory = record { foot = h.memory.foot; fits = omega arith; few = h.memory.few; laid = at.older }; bytes = h.bytes })
-          (record { input_is = keeps.input_is; output_is = keeps.output_is; size_is = keeps.size_is })))))))
+          by_blocks w (Q (left_by (Some k) s)) leave_label (Window Frame 3 ∷ Get Context Frame 2 ∷ Jump pop_label ∷ []) e 50 90 (sel.own 5 (omega arith)) (omega arith) (
+            x,
+            f,
+            omega arith,
+            (
+              x,
+              word_address (address_on k.older),
+              f,
+              omega arith,
+              esc.context_is ∙ ap word_address at.spot,
+              inr (
+                  by_block w (Q (left_by (Some k) s)) pop_label (Window Context 2 ∷ move Top Context ∷ Get Context Context 1 ∷ Jump meet ∷ []) e1 50 (sel.own 6 (omega arith)) (omega arith) (
+                    address_on k.older,
+                    refl,
+                    omega arith,
+                    (
+                      word_address (address_on k.older),
+                      moves (word_address (address_on k.older)) (word_address (address_on k.older)) refl (omega arith),
+                      (
+                        address_on k.older,
+                        word_address k.outside,
+                        refl,
+                        omega arith,
+                        at.here.outside_is,
+                        went_completed code w k.outside k.older (with_value Context (word_address k.outside) (with_value Top (word_address (address_on k.older)) e1)) e0.input e0.output (length e0.words)
+                            (record { newest_is = refl; top_is = refl; memory = record { foot = h.memory.foot; fits = omega arith; few = h.memory.few; laid = at.older }; bytes = h.bytes })
+                            (record { input_is = keeps.input_is; output_is = keeps.output_is; size_is = keeps.size_is }),
+                      ),
+                    ),
+                  )),
+            ),
+          )
 
       left_at : (o : Option ℕ) → escape_at x s.items ≡ o → Reach w (Q (jumped o s)) 90 (record { rest = block w leave_label; held = e })
       left_at None is = nothing 90 (record { rest = block w leave_label; held = e }) (omega arith)
@@ -205,10 +266,12 @@ module _ (code : PeCode) (w : Code) (sel : IsSelected code w) where
       enters (datum v) e he h keeps second f good =
           let e1 = with_value Second (entry_word datum_entry) (with_value Third (row_address code shape) e) in
           looked (Later w n (Q (focused (value v) s))) shape 0 datum_entry datum_label e lt (omega arith) refl (sel.fixed 2 (omega arith)) second
-          (inr (by_block w (Q (focused (value v) s)) datum_label (move Datum Frame ∷ Jump meet ∷ []) e1 n (sel.own 2 (omega arith)) (omega arith)
-          (word_of v, moves e1.named.frame (word_of v) f (word_small v good),
-          went_value code w s.newest s.items v (with_value Datum (word_of v) e1) e0.input e0.output (length e0.words) (record { newest_is = h.newest_is; top_is = h.top_is; memory = h.memory; bytes = h.bytes }) refl good
-          (record { input_is = keeps.input_is; output_is = keeps.output_is; size_is = keeps.size_is }))))
+          (inr (by_block w (Q (focused (value v) s)) datum_label (move Datum Frame ∷ Jump meet ∷ []) e1 n (sel.own 2 (omega arith)) (omega arith) (
+            word_of v,
+            moves e1.named.frame (word_of v) f (word_small v good),
+            went_value code w s.newest s.items v (with_value Datum (word_of v) e1) e0.input e0.output (length e0.words) (record { newest_is = h.newest_is; top_is = h.top_is; memory = h.memory; bytes = h.bytes }) refl good
+                (record { input_is = keeps.input_is; output_is = keeps.output_is; size_is = keeps.size_is }),
+          )))
       enters (cell_of x) e he h keeps second f good =
           by (is_assignment code.assignment shape) refl
         where

@@ -408,7 +408,7 @@ module _ (code : PeCode) (w : Code) (sel : IsSelected code w) (help : Helpers) w
             omega arith,
             found.here.outside_is,
             inl (went_code code w outside s.items (record here { address = x }) d (with_value Context (word_address outside) e) e.input e.output (length e.words)
-            (record { newest_is = refl; top_is = h.top_is; memory = h.memory; bytes = h.bytes }) f (sound.beside_it 0 0 (omega arith)) deep (record { input_is = refl; output_is = refl; size_is = refl })),
+                (record { newest_is = refl; top_is = h.top_is; memory = h.memory; bytes = h.bytes }) f (sound.beside_it 0 0 (omega arith)) deep (record { input_is = refl; output_is = refl; size_is = refl })),
           ),
         ))
         (λ other. none)

@@ -139,10 +139,10 @@ module _ (code : PeCode) (help : Helpers) (ok : IsSelectable code) (size : ℕ) 
       subst (Comes r 0 t) (sym (none_more code r))
       (elim (two_standings r.state.focus r.state.newest) [
         | inl on ↦ record {
-            count = 0;
-            cost = (let none = spent_none (word_code code) (goes t) in omega arith);
-            is = inl (subst (λ (z : Standing). StandsAs z r (led_on (word_code code) 0 (goes t))) (sym (tracks.standing ∙ on)) (t, none_on (word_code code) (goes t), tracks.same));
-          }
+          count = 0;
+          cost = (let none = spent_none (word_code code) (goes t) in omega arith);
+          is = inl (subst (λ (z : Standing). StandsAs z r (led_on (word_code code) 0 (goes t))) (sym (tracks.standing ∙ on)) (t, none_on (word_code code) (goes t), tracks.same));
+        }
         | inr end ↦ comes_ended r 0 t tracks (tracks.standing ∙ end)
       ])
   forth (suc k) r t tracks free =

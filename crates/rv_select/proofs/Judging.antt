@@ -52,20 +52,20 @@ far : (b : Bounds) (k : ℕ) → k < 511 → have_needs b (windows_behind (Windo
 far b k h =
     let P = λ (ops : List Micro). have_needs b (windows_behind (Window Frame (display_start + suc k)) zeros) ops ≡ true in
     cond_both (nat_lt (display_start + k) 256) (Get First Frame (display_start + k) ∷ [])
-        (if nat_lt (display_start + k) 510 then behind First Frame 255 ∷ Get First First (display_start + k - 255) ∷ []
-        else behind First Frame 255 ∷ behind First First 255 ∷ Get First First (display_start + k - 510) ∷ [])
-        P
-        (λ near. simp (lt-ltb (display_start + k) (display_start + suc k) (omega arith), near))
-        (λ past. cond_both (nat_lt (display_start + k) 510) (behind First Frame 255 ∷ Get First First (display_start + k - 255) ∷ [])
-        (behind First Frame 255 ∷ behind First First 255 ∷ Get First First (display_start + k - 510) ∷ [])
-        P
-        (λ near.
-            let lower = ltb-false (display_start + k) 256 past in
-            let upper = ltb-true (display_start + k) 510 near in
-            simp (lt-ltb (display_start + k - 255) (display_start + suc k - 255) (omega arith), lt-ltb (display_start + k - 255) 256 (omega arith)))
-        (λ further.
-            let lower = ltb-false (display_start + k) 510 further in
-            simp (lt-ltb (display_start + k - 510) (display_start + suc k - 255 - 255) (omega arith), lt-ltb (display_start + k - 510) 256 (omega arith))))
+    (if nat_lt (display_start + k) 510 then behind First Frame 255 ∷ Get First First (display_start + k - 255) ∷ []
+    else behind First Frame 255 ∷ behind First First 255 ∷ Get First First (display_start + k - 510) ∷ [])
+    P
+    (λ near. simp (lt-ltb (display_start + k) (display_start + suc k) (omega arith), near))
+    (λ past. cond_both (nat_lt (display_start + k) 510) (behind First Frame 255 ∷ Get First First (display_start + k - 255) ∷ [])
+    (behind First Frame 255 ∷ behind First First 255 ∷ Get First First (display_start + k - 510) ∷ [])
+    P
+    (λ near.
+    let lower = ltb-false (display_start + k) 256 past in
+    let upper = ltb-true (display_start + k) 510 near in
+    simp (lt-ltb (display_start + k - 255) (display_start + suc k - 255) (omega arith), lt-ltb (display_start + k - 255) 256 (omega arith)))
+    (λ further.
+    let lower = ltb-false (display_start + k) 510 further in
+    simp (lt-ltb (display_start + k - 510) (display_start + suc k - 255 - 255) (omega arith), lt-ltb (display_start + k - 510) 256 (omega arith))))
 
 pub reach_fine : (b : Bounds) (k : ℕ) → k < 512 → have_needs b zeros (reach k) ≡ true
 reach_fine b zero h = refl

@@ -103,8 +103,8 @@ module _ (code : PeCode) (w : Code) (sel : IsSelected code w) (help : Helpers) w
           word_address (address_on (context c newest ∷ is)),
           moves_on e.named.top (address_on is) (address_on (context c newest ∷ is)) 32 top (omega arith) (omega arith),
           inl (went_code code w (address_on is) (context c newest ∷ is) p depth (with_value Top (word_address (address_on (context c newest ∷ is))) (with_value Context (word_address (address_on is)) e)) input output size
-          (record { newest_is = refl; top_is = refl; memory = has_more code is c newest m e.words h same laid room; bytes = bytes }) f leads (frames_more (context c newest) is p.frame depth deep)
-          (record { input_is = keeps.input_is; output_is = keeps.output_is; size_is = keeps.size_is })),
+              (record { newest_is = refl; top_is = refl; memory = has_more code is c newest m e.words h same laid room; bytes = bytes }) f leads (frames_more (context c newest) is p.frame depth deep)
+              (record { input_is = keeps.input_is; output_is = keeps.output_is; size_is = keeps.size_is })),
         ),
       )
 

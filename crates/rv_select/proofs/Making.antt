@@ -91,15 +91,15 @@ module _ (code : PeCode) (w : Code) (sel : IsSelected code w) (help : Helpers) w
             word_address (address_on (frame 0 b around ∷ is)),
             moves_on e.named.top (address_on is) (address_on (frame 0 b around ∷ is)) 24 h.top_is (omega arith) (omega arith),
             inl (went_code code w newest (frame 0 b around ∷ is) (record { address = y; frame = Some (address_on is) }) 1
-            (with_value Top (word_address (address_on (frame 0 b around ∷ is))) (with_value Frame (word_address (address_on is)) e)) input output size
-            (record {
-              newest_is = h.newest_is;
-              top_is = refl;
-              memory = grown code is b 0 around e.words e.words h.memory bound deep (same_itself (address_on is + 3) e.words) (λ j z lt found. absurd (omega arith)) room;
-              bytes = h.bytes;
-            })
-            refl leads (frames_here 0 b around is)
-            (record { input_is = keeps.input_is; output_is = keeps.output_is; size_is = keeps.size_is })),
+                (with_value Top (word_address (address_on (frame 0 b around ∷ is))) (with_value Frame (word_address (address_on is)) e)) input output size
+                (record {
+                  newest_is = h.newest_is;
+                  top_is = refl;
+                  memory = grown code is b 0 around e.words e.words h.memory bound deep (same_itself (address_on is + 3) e.words) (λ j z lt found. absurd (omega arith)) room;
+                  bytes = h.bytes;
+                })
+                refl leads (frames_here 0 b around is)
+                (record { input_is = keeps.input_is; output_is = keeps.output_is; size_is = keeps.size_is })),
           ),
         )
 
@@ -144,10 +144,15 @@ module _ (code : PeCode) (w : Code) (sel : IsSelected code w) (help : Helpers) w
           known_later w (ComesTo code w (record { focus = code_at (record { address = y; frame = Some (address_on is) }); newest = newest; items = frame (suc d) b (Some f) ∷ is }) input output size)
           (record { rest = block w make_frame; held = begun d e }) (goes (record { rest = block w go; held = after })) m.leads.steps (100 + 16 * suc d) 9 m.leads.some m.leads.leads m.leads.cost
           (inr (by_block w (ComesTo code w (record { focus = code_at (record { address = y; frame = Some (address_on is) }); newest = newest; items = frame (suc d) b (Some f) ∷ is }) input output size)
-          go (Enter Datum ∷ []) after 9 (sel.callers 1 (omega arith)) (omega arith)
-          (entry_number code y, label_of code y, m.keeps.datum, entry.inside, entry.leads,
-          went_code code w newest (frame (suc d) b (Some f) ∷ is) (record { address = y; frame = Some (address_on is) }) (suc (suc d)) after input output size holds m.frame leads (frames_here (suc d) b (Some f) is)
-          (record { input_is = m.keeps.input ∙ keeps.input_is; output_is = m.keeps.output ∙ keeps.output_is; size_is = m.words.size ∙ keeps.size_is }))))
+          go (Enter Datum ∷ []) after 9 (sel.callers 1 (omega arith)) (omega arith) (
+            entry_number code y,
+            label_of code y,
+            m.keeps.datum,
+            entry.inside,
+            entry.leads,
+            went_code code w newest (frame (suc d) b (Some f) ∷ is) (record { address = y; frame = Some (address_on is) }) (suc (suc d)) after input output size holds m.frame leads (frames_here (suc d) b (Some f) is)
+                (record { input_is = m.keeps.input ∙ keeps.input_is; output_is = m.keeps.output ∙ keeps.output_is; size_is = m.words.size ∙ keeps.size_is }),
+          )))
 
     -- at any depth
     pub framed : (d : ℕ) (around : Option ℕ) (e : Data) → HoldsItems code newest is e → e.named.frame ≡ frame_word around → IsBound code e.words (frames_from is) (address_on is) b → frames_from is around ≡ Some d → d ≤ 512

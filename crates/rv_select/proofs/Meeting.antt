@@ -201,14 +201,16 @@ module _ (code : PeCode) (w : Code) (sel : IsSelected code w) (help : Helpers) (
         → From (chosen v (focused (code_at p) cut) (focused (code_at q) cut)) 80 (label_of code a + 1) e
     met_if p q (kind.Bool true) e a d x at stands lp lq deep same f is met keeps =
         by_block w (Q (focused (code_at p) cut)) (label_of code a + 1) (answer_frame ++ (Test Beq Datum Zero (label_of code q.address) ∷ Jump (label_of code p.address) ∷ [])) e 80 (sel.further a _ 1 stands (omega arith)) (omega arith)
-        (answered_frame (if_c p q) e met keeps (Q (focused (code_at p) cut)) (Test Beq Datum Zero (label_of code q.address) ∷ Jump (label_of code p.address) ∷ []) p.frame f
-        (λ t. absurd (let z = taken_same e.named.datum 0 t in omega arith),
-        λ u. went_on (if_c p q) e met keeps p d (left_data older outside (with_value Frame (frame_word p.frame) e)) refl refl refl refl refl refl lp deep))
+        (answered_frame (if_c p q) e met keeps (Q (focused (code_at p) cut)) (Test Beq Datum Zero (label_of code q.address) ∷ Jump (label_of code p.address) ∷ []) p.frame f (
+          λ t. absurd (let z = taken_same e.named.datum 0 t in omega arith),
+          λ u. went_on (if_c p q) e met keeps p d (left_data older outside (with_value Frame (frame_word p.frame) e)) refl refl refl refl refl refl lp deep,
+        ))
     met_if p q (kind.Bool false) e a d x at stands lp lq deep same f is met keeps =
         by_block w (Q (focused (code_at q) cut)) (label_of code a + 1) (answer_frame ++ (Test Beq Datum Zero (label_of code q.address) ∷ Jump (label_of code p.address) ∷ [])) e 80 (sel.further a _ 1 stands (omega arith)) (omega arith)
-        (answered_frame (if_c p q) e met keeps (Q (focused (code_at q) cut)) (Test Beq Datum Zero (label_of code q.address) ∷ Jump (label_of code p.address) ∷ []) p.frame f
-        (λ t. went_on (if_c p q) e met keeps q d (left_data older outside (with_value Frame (frame_word p.frame) e)) (ap frame_word (sym same)) refl refl refl refl refl lq (ap (frames_from older) same ∙ deep),
-        λ u. absurd (untaken_same e.named.datum 0 u is)))
+        (answered_frame (if_c p q) e met keeps (Q (focused (code_at q) cut)) (Test Beq Datum Zero (label_of code q.address) ∷ Jump (label_of code p.address) ∷ []) p.frame f (
+          λ t. went_on (if_c p q) e met keeps q d (left_data older outside (with_value Frame (frame_word p.frame) e)) (ap frame_word (sym same)) refl refl refl refl refl lq (ap (frames_from older) same ∙ deep),
+          λ u. absurd (untaken_same e.named.datum 0 u is),
+        ))
     met_if p q (kind.Int z) e a d x at stands lp lq deep same f is met keeps = nothing 80 (label_of code a + 1) e (omega arith)
     met_if p q (kind.Char c) e a d x at stands lp lq deep same f is met keeps = nothing 80 (label_of code a + 1) e (omega arith)
 
@@ -217,14 +219,16 @@ module _ (code : PeCode) (w : Code) (sel : IsSelected code w) (help : Helpers) (
         → word_in e.words (address_on older) 2 ≡ frame_word q.frame → e.named.datum ≡ word_of v → IsMet code older (op_l And q at) outside e → Kept e → From (item.left_meets And v q at cut) 80 (label_of code a + 1) e
     met_and q (kind.Bool true) e a d x at stands leads deep f is met keeps =
         by_block w (Q (focused (code_at q) cut)) (label_of code a + 1) (answer_frame ++ (Test Beq Datum Zero meet ∷ Jump (label_of code q.address) ∷ [])) e 80 (sel.further a _ 1 stands (omega arith)) (omega arith)
-        (answered_frame (op_l And q at) e met keeps (Q (focused (code_at q) cut)) (Test Beq Datum Zero meet ∷ Jump (label_of code q.address) ∷ []) q.frame f
-        (λ t. absurd (let z = taken_same e.named.datum 0 t in omega arith),
-        λ u. went_on (op_l And q at) e met keeps q d (left_data older outside (with_value Frame (frame_word q.frame) e)) refl refl refl refl refl refl leads deep))
+        (answered_frame (op_l And q at) e met keeps (Q (focused (code_at q) cut)) (Test Beq Datum Zero meet ∷ Jump (label_of code q.address) ∷ []) q.frame f (
+          λ t. absurd (let z = taken_same e.named.datum 0 t in omega arith),
+          λ u. went_on (op_l And q at) e met keeps q d (left_data older outside (with_value Frame (frame_word q.frame) e)) refl refl refl refl refl refl leads deep,
+        ))
     met_and q (kind.Bool false) e a d x at stands leads deep f is met keeps =
         by_block w (Q (focused (value (kind.Bool false)) cut)) (label_of code a + 1) (answer_frame ++ (Test Beq Datum Zero meet ∷ Jump (label_of code q.address) ∷ [])) e 80 (sel.further a _ 1 stands (omega arith)) (omega arith)
-        (answered_frame (op_l And q at) e met keeps (Q (focused (value (kind.Bool false)) cut)) (Test Beq Datum Zero meet ∷ Jump (label_of code q.address) ∷ []) q.frame f
-        (λ t. went_back (op_l And q at) e met keeps (kind.Bool false) (left_data older outside (with_value Frame (frame_word q.frame) e)) is tt refl refl refl refl refl,
-        λ u. absurd (untaken_same e.named.datum 0 u is)))
+        (answered_frame (op_l And q at) e met keeps (Q (focused (value (kind.Bool false)) cut)) (Test Beq Datum Zero meet ∷ Jump (label_of code q.address) ∷ []) q.frame f (
+          λ t. went_back (op_l And q at) e met keeps (kind.Bool false) (left_data older outside (with_value Frame (frame_word q.frame) e)) is tt refl refl refl refl refl,
+          λ u. absurd (untaken_same e.named.datum 0 u is),
+        ))
     met_and q (kind.Int z) e a d x at stands leads deep f is met keeps = nothing 80 (label_of code a + 1) e (omega arith)
     met_and q (kind.Char c) e a d x at stands leads deep f is met keeps = nothing 80 (label_of code a + 1) e (omega arith)
 
@@ -232,14 +236,16 @@ module _ (code : PeCode) (w : Code) (sel : IsSelected code w) (help : Helpers) (
         → word_in e.words (address_on older) 2 ≡ frame_word q.frame → e.named.datum ≡ word_of v → IsMet code older (op_l Or q at) outside e → Kept e → From (item.left_meets Or v q at cut) 80 (label_of code a + 1) e
     met_or q (kind.Bool true) e a d x at stands leads deep f is met keeps =
         by_block w (Q (focused (value (kind.Bool true)) cut)) (label_of code a + 1) (answer_frame ++ (Test Bne Datum Zero meet ∷ Jump (label_of code q.address) ∷ [])) e 80 (sel.further a _ 1 stands (omega arith)) (omega arith)
-        (answered_frame (op_l Or q at) e met keeps (Q (focused (value (kind.Bool true)) cut)) (Test Bne Datum Zero meet ∷ Jump (label_of code q.address) ∷ []) q.frame f
-        (λ t. went_back (op_l Or q at) e met keeps (kind.Bool true) (left_data older outside (with_value Frame (frame_word q.frame) e)) is tt refl refl refl refl refl,
-        λ u. absurd (let z = untaken_other e.named.datum 0 u in omega arith)))
+        (answered_frame (op_l Or q at) e met keeps (Q (focused (value (kind.Bool true)) cut)) (Test Bne Datum Zero meet ∷ Jump (label_of code q.address) ∷ []) q.frame f (
+          λ t. went_back (op_l Or q at) e met keeps (kind.Bool true) (left_data older outside (with_value Frame (frame_word q.frame) e)) is tt refl refl refl refl refl,
+          λ u. absurd (let z = untaken_other e.named.datum 0 u in omega arith),
+        ))
     met_or q (kind.Bool false) e a d x at stands leads deep f is met keeps =
         by_block w (Q (focused (code_at q) cut)) (label_of code a + 1) (answer_frame ++ (Test Bne Datum Zero meet ∷ Jump (label_of code q.address) ∷ [])) e 80 (sel.further a _ 1 stands (omega arith)) (omega arith)
-        (answered_frame (op_l Or q at) e met keeps (Q (focused (code_at q) cut)) (Test Bne Datum Zero meet ∷ Jump (label_of code q.address) ∷ []) q.frame f
-        (λ t. absurd (taken_other e.named.datum 0 t is),
-        λ u. went_on (op_l Or q at) e met keeps q d (left_data older outside (with_value Frame (frame_word q.frame) e)) refl refl refl refl refl refl leads deep))
+        (answered_frame (op_l Or q at) e met keeps (Q (focused (code_at q) cut)) (Test Bne Datum Zero meet ∷ Jump (label_of code q.address) ∷ []) q.frame f (
+          λ t. absurd (taken_other e.named.datum 0 t is),
+          λ u. went_on (op_l Or q at) e met keeps q d (left_data older outside (with_value Frame (frame_word q.frame) e)) refl refl refl refl refl refl leads deep,
+        ))
     met_or q (kind.Int z) e a d x at stands leads deep f is met keeps = nothing 80 (label_of code a + 1) e (omega arith)
     met_or q (kind.Char c) e a d x at stands leads deep f is met keeps = nothing 80 (label_of code a + 1) e (omega arith)
 
@@ -265,8 +271,8 @@ module _ (code : PeCode) (w : Code) (sel : IsSelected code w) (help : Helpers) (
       outside_parts : (mv : ItemMove) → mv ≡ item.faults Range at → length ys ≤ e.named.datum → Index mv
       outside_parts mv is le = (
         λ t. inr (subst (λ (m : ItemMove). From m 9 (label_of code parts.address + 2) (with_value First (length ys) (left_data older outside (with_value Frame (frame_word parts.frame) e)))) (sym is)
-        (fault_told parts.address d 2 (insn.Case x ys) Range at (with_value First (length ys) (left_data older outside (with_value Frame (frame_word parts.frame) e))) stands (omega arith, refl)
-        (record { input_is = keeps.input_is; output_is = keeps.output_is; size_is = keeps.size_is }))),
+            (fault_told parts.address d 2 (insn.Case x ys) Range at (with_value First (length ys) (left_data older outside (with_value Frame (frame_word parts.frame) e))) stands (omega arith, refl)
+            (record { input_is = keeps.input_is; output_is = keeps.output_is; size_is = keeps.size_is }))),
         λ u. absurd (let z = untaken_above e.named.datum (length ys) u in omega arith),
       )
 
@@ -335,8 +341,8 @@ module _ (code : PeCode) (w : Code) (sel : IsSelected code w) (help : Helpers) (
           word_address (address_on (context c outside ∷ older)),
           moves_on e.named.context (address_on older) (address_on (context c outside ∷ older)) 32 newest (omega arith) (omega arith),
           inl (went_code code w (address_on older) (context c outside ∷ older) p depth (with_value Top (word_address (address_on (context c outside ∷ older))) e) e0.input e0.output (length e0.words)
-          (record { newest_is = newest; top_is = refl; memory = has_more code older c outside m e.words h same laid room; bytes = bytes }) f leads (frames_more (context c outside) older p.frame depth deep)
-          (record { input_is = keeps.input_is; output_is = keeps.output_is; size_is = keeps.size_is })),
+              (record { newest_is = newest; top_is = refl; memory = has_more code older c outside m e.words h same laid room; bytes = bytes }) f leads (frames_more (context c outside) older p.frame depth deep)
+              (record { input_is = keeps.input_is; output_is = keeps.output_is; size_is = keeps.size_is })),
         )
 
     -- the right operand is next, and the left one's datum is kept
@@ -592,13 +598,15 @@ module _ (code : PeCode) (w : Code) (sel : IsSelected code w) (help : Helpers) (
     pub met_put_truth : (v : DatumType) (e : Data) → e.named.datum ≡ word_of v → IsMet code older (put_c puts.Bool) outside e → Kept e → From (written (written_text puts.Bool v) cut) 200 put_bool_label e
     met_put_truth (kind.Bool true) e is met keeps =
         by_blocks w (Q (item.puts (truth_text true) (item.focus_on completed cut))) put_bool_label (answer ++ (Test Bne Datum Zero put_true ∷ Jump put_false ∷ [])) e 100 200 (sel.own 9 (omega arith)) (omega arith)
-        (answered (put_c puts.Bool) e met keeps (Later w 100 (Q (item.puts (truth_text true) (item.focus_on completed cut)))) (Test Bne Datum Zero put_true ∷ Jump put_false ∷ [])
-        (λ t. inr (routine_puts (put_c puts.Bool) put_true 100 (truth_text true) e met keeps (help.puts_truths w true (truth_text true) (left_data older outside e) sel.routines refl)),
-        λ u. absurd (let z = untaken_other e.named.datum 0 u in omega arith)))
+        (answered (put_c puts.Bool) e met keeps (Later w 100 (Q (item.puts (truth_text true) (item.focus_on completed cut)))) (Test Bne Datum Zero put_true ∷ Jump put_false ∷ []) (
+          λ t. inr (routine_puts (put_c puts.Bool) put_true 100 (truth_text true) e met keeps (help.puts_truths w true (truth_text true) (left_data older outside e) sel.routines refl)),
+          λ u. absurd (let z = untaken_other e.named.datum 0 u in omega arith),
+        ))
     met_put_truth (kind.Bool false) e is met keeps =
         by_blocks w (Q (item.puts (truth_text false) (item.focus_on completed cut))) put_bool_label (answer ++ (Test Bne Datum Zero put_true ∷ Jump put_false ∷ [])) e 100 200 (sel.own 9 (omega arith)) (omega arith)
-        (answered (put_c puts.Bool) e met keeps (Later w 100 (Q (item.puts (truth_text false) (item.focus_on completed cut)))) (Test Bne Datum Zero put_true ∷ Jump put_false ∷ [])
-        (λ t. absurd (taken_other e.named.datum 0 t is),
-        λ u. inr (routine_puts (put_c puts.Bool) put_false 100 (truth_text false) e met keeps (help.puts_truths w false (truth_text false) (left_data older outside e) sel.routines refl))))
+        (answered (put_c puts.Bool) e met keeps (Later w 100 (Q (item.puts (truth_text false) (item.focus_on completed cut)))) (Test Bne Datum Zero put_true ∷ Jump put_false ∷ []) (
+          λ t. absurd (taken_other e.named.datum 0 t is),
+          λ u. inr (routine_puts (put_c puts.Bool) put_false 100 (truth_text false) e met keeps (help.puts_truths w false (truth_text false) (left_data older outside e) sel.routines refl)),
+        ))
     met_put_truth (kind.Int z) e is met keeps = nothing 200 put_bool_label e (omega arith)
     met_put_truth (kind.Char c) e is met keeps = nothing 200 put_bool_label e (omega arith)

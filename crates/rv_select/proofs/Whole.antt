@@ -42,7 +42,6 @@ module _ (code : PeCode) (help : Helpers) (ok : IsSelectable code) (size : ℕ) 
       let least = out.least in
       let most = out.most in
       let entry = sel.fixed 0 (omega arith) in
-
       subst (λ l. Reach (word_code code) (Begins code size input) 72 (record { rest = block (word_code code) l; held = start_data size input })) (sym entry.leads)
       (by_block (word_code code) (Begins code size input) start_label (start_block code) (start_data size input) 72 (sel.own 0 (omega arith)) (omega arith) (
         word_address 0,
