@@ -102,7 +102,7 @@ module _ (code : PeCode) (b : Bounds) (fits : Fits code b) where
         and_from (is_disciplined_from b zeros (push_frame (entry_number code a + 1) (label_of code x))) (are_disciplined b rest)
         (push_frame_fine b (entry_number code a + 1) (label_of code x) (low exhausted (omega arith)) (entry_fits a 1 (omega arith)) there) h
 
-    -- a block alone, and two
+    -- a block alone
     alone : (ops : List Micro) → is_disciplined_from b zeros ops ≡ true → are_disciplined b (ops ∷ []) ≡ true
     alone ops h = and_from (is_disciplined_from b zeros ops) true h refl
 
