@@ -1,6 +1,9 @@
+mod assembly;
 mod code;
 mod image;
 mod insn;
 mod machine;
+mod made;
 mod pe;
+mod routines;
 mod shapes;
