@@ -1,6 +1,6 @@
 -- What is so of the nodes, steps, pairs and sites of a phrase and the table of an accepted derivation.
 use Rattle.std.proofs.Common.{ℕ, ◌<◌, ◌≤◌, ◌≡◌, false, List, length, Option, Some, None, refl, ap, sym, ◌∙◌, subst, arith}
-use Rattle.std.specs.List.Sorted.{IsPermutation}
+use Rattle.std.specs.List.Sorted.{IsPermutation, IsNonDecreasingBy}
 use Rattle.std.specs.Option.{MatchOption, IsSome}
 use Rattle.std.specs.Prelude.{◌≢◌, slice_get}
 use Rattle.fy_phrase.specs.declared.shapes.Pair.{Pair}
@@ -21,7 +21,7 @@ use Rattle.pe_gen.specs.declared.steps.ShapeStep.TheVariants.{End}
 use Rattle.pe_gen.specs.Plan.{nodes_in, IsPlan, IsSite, IsItemIn}
 use Rattle.pe_gen.specs.Preorder.{preorder, thunks_from}
 use Rattle.pe_right.specs.Right.{IsItemOf}
-use Rattle.pe_gen.specs.Sites.{is_merge, pair, Stands, IsPlain, AreWithin, AreSites, LandAmong, AreEntries}
+use Rattle.pe_gen.specs.Sites.{is_merge, pair, Stands, IsPlain, AreWithin, AreSites, LandAmong, ArePassed, AreEntries}
 use Rattle.pe_gen.specs.Steps.{AreSteps}
 use Rattle.pe_right.specs.Typed.{IsTableOf}
 use Rattle.pe_gen.proofs.AskLemmas.{asks}
@@ -29,7 +29,7 @@ use Rattle.pe_gen.proofs.CodeLemmas.{IsMade}
 use Rattle.pe_gen.proofs.EntryLists.{address-of}
 use Rattle.pe_gen.proofs.Gets.{some_same}
 use Rattle.pe_gen.proofs.Injections.{few-among}
-use Rattle.pe_gen.proofs.LandLemmas.{pair-stands, pairs-land}
+use Rattle.pe_gen.proofs.LandLemmas.{pair-stands, pairs-land, pairs-passed}
 use Rattle.pe_gen.proofs.NodeLists.{length-preorder, listed-node, plain-node}
 use Rattle.pe_gen.proofs.ScopeLemmas.{IsScoped}
 use Rattle.pe_gen.proofs.StepLemmas.{end-step}
@@ -94,6 +94,9 @@ module _ (p : Tree) (table : ShapeTable) (ns : List (ℕ × Tree)) (steps : List
 
   pub begun-land : (program : Pair) (sites : List Pair) → AreSites ns pairs program sites → LandAmong ns table.shapes pairs sites
   begun-land program sites all = pairs-land p table closed b.scoped b.its.pairs.sound ns pairs sites program b.made there back all
+
+  pub begun-passed : IsNonDecreasingBy (λ (x : Pair). x.node) pairs → ArePassed ns table.shapes pairs
+  begun-passed rising = pairs-passed p table closed b.scoped b.its.pairs.sound ns pairs b.made rising there back
 
   pub begun-few : (program : Pair) (sites : List Pair) → AreSites ns pairs program sites → length table.pairs ≤ 65536 → length sites ≤ 65536
   begun-few program sites all few =

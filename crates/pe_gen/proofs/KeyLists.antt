@@ -1,8 +1,9 @@
 -- The keys of a set after one more is put in.
-use Rattle.std.proofs.Common.{ℕ, zero, suc, ◌<◌, ◌≡◌, ◌||◌, cond, Bool, true, false, ◌⊎◌, inl, inr, List, [], ◌∷◌, ◌++◌, length, get_or, Some, refl, ap, sym, ◌∙◌, arith}
+use Rattle.std.proofs.Common.{ℕ, zero, suc, ◌+◌, ◌<◌, ◌≡◌, ◌||◌, cond, Bool, true, false, ◌⊎◌, inl, inr, List, [], ◌∷◌, ◌++◌, length, get_or, take, Some, refl, ap, sym, ◌∙◌, arith}
 use Rattle.std.specs.List.{list_any, position}
 use Rattle.std.specs.Prelude.{slice_get}
 use Rattle.std.proofs.lemmas.Bool.{or_parts}
+use Rattle.std.proofs.lemmas.List.{take_more}
 use Rattle.std.proofs.lemmas.List.Quantifiers.{position-Some}
 use Rattle.std.proofs.lemmas.Map.Keys.{any_passes_from_place}
 use Rattle.std.proofs.lemmas.Option.{slice_get-get_or}
@@ -13,6 +14,14 @@ use Rattle.pe_gen.proofs.Gets.{some_same, get-within, get-left, get-last}
 -- no key stands twice
 abbrev pub AreKeysOnce : {X : Type 0} → List X → Type 0
 AreKeysOnce {X} ks = (i j : ℕ) (x : X) → slice_get ks i ≡ Some x → slice_get ks j ≡ Some x → i ≡ j
+
+-- a member of the first so many is in the list
+taken-member : {X : Type 0} (xs : List X) (i j : ℕ) (x : X) → slice_get (take i xs) j ≡ Some x → (j < i) × (slice_get xs j ≡ Some x)
+taken-member [] zero j x is = absurd cc
+taken-member [] (suc i) j x is = absurd cc
+taken-member (y ∷ xs) zero j x is = absurd cc
+taken-member (y ∷ xs) (suc i) zero x is = (omega arith, is)
+taken-member (y ∷ xs) (suc i) (suc j) x is = let t = taken-member xs i j x is in (omega (arith, t.0), t.1)
 
 -- a member of a list with one more is in the list before it, or the last
 pub pushed-member : {X : Type 0} (ks : List X) (x y : X) (i : ℕ) → slice_get (ks ++ x ∷ []) i ≡ Some y →
@@ -100,3 +109,12 @@ module _ {X : Type 0} (eq : X → X → Bool) (same : (x y : X) → eq x y ≡ t
       by : (b : Bool) → list_any (eq x) ks ≡ b → cond b ks (ks ++ x ∷ []) ≡ ks ++ x ∷ []
       by true e = let s = any-stands ks x e in absurd (new s.0 s.1)
       by false e = refl
+
+  -- the first of a list in which no key stands twice, with the next
+  pub insert-next : (ks : List X) (i : ℕ) (d : X) → AreKeysOnce ks → i < length ks → insert_key eq (take i ks) (get_or ks i d) ≡ take (i + 1) ks
+  insert-next ks i d once within =
+      insert-last (take i ks) (get_or ks i d) (λ j is.
+      let t = taken-member ks i j (get_or ks i d) is in
+      let same : j ≡ i = once j i (get_or ks i d) t.1 (slice_get-get_or ks i d within) in
+      omega (arith, t.0))
+      ∙ sym (take_more ks i d within)

@@ -1,6 +1,9 @@
 -- Where demands land: at a node that is no merge and is asked for the same shape.
-use Rattle.std.proofs.Common.{ℕ, ◌+◌, ◌<◌, ◌≤◌, ◌≡◌, Bool, true, false, if◌then◌else◌, List, [], ◌∷◌, Some, refl, ap, sym, ◌∙◌, arith}
+use Rattle.std.proofs.Common.{ℕ, ◌+◌, ◌<◌, ◌≤◌, ◌≡◌, Bool, true, false, if◌then◌else◌, inl, inr, List, [], ◌∷◌, Some, refl, ap, sym, ◌∙◌, subst, arith}
+use Rattle.std.specs.List.Sorted.{IsNonDecreasingBy}
 use Rattle.std.specs.Prelude.{slice_get}
+use Rattle.std.proofs.lemmas.Bool.{cases_lt}
+use Rattle.std.proofs.lemmas.Option.{get_or_from_slice_get}
 use Rattle.fy_base.specs.declared.data.Place.{Place}
 use Rattle.fy_phrase.specs.declared.shapes.Pair.{Pair}
 use Rattle.fy_phrase.specs.declared.shapes.ShapeTable.{ShapeTable}
@@ -12,7 +15,8 @@ use Rattle.fy_derive.specs.Shapes.{PlainShape, shape_begins, IsClosed, of_right,
 use Rattle.fy_derive.specs.ShapeTables.{shape_at, HasPairOf, IsShapeTable}
 use Rattle.pe_gen.specs.Preorder.{preorder}
 use Rattle.pe_right.specs.Right.{IsNodeUnder}
-use Rattle.pe_gen.specs.Sites.{is_merge, taken, taken_by, landing, pair, Stands, AreSites, LandAmong}
+use Rattle.pe_gen.specs.Sites.{is_merge, taken, taken_by, landing, operand_at, pair, Stands, AreSites, LandAmong, ArePassed}
+use Rattle.pe_gen.proofs.Gets.{some_same, get-within}
 use Rattle.pe_gen.proofs.NodeLists.{parts-total, node-found, node-placed, first-part, second-part, plain-node}
 use Rattle.pe_gen.proofs.ScopeLemmas.{IsScoped, node-scoped}
 
@@ -76,6 +80,15 @@ module _ (p : Tree) (table : ShapeTable) (closed : IsClosed p (HasPairOf table))
       let kind = operand-kind r (node-scoped node scoped).made.1 in
       closed.passed k (k + 1) (merge q r at) s s (plain-node node) has (of_left kind.1 (sym (taken-begins r kind.0 s kind.1) ∙ t))
 
+  -- the operand is behind the merge, and is asked for the same shape
+  passes : (q : Tree) (d k : ℕ) (s : PlainShape) (j : ℕ) → IsNodeUnder 0 0 p d k q → HasPairOf table k s → operand_at k q s ≡ Some j → (k < j) × HasPairOf table j s
+  passes (merge q r at) d k s j node has e = by (taken_by r s) refl (some_same e)
+    where
+      by : (b : Bool) → taken_by r s ≡ b → (if b then k + 1 + nodes q else k + 1) ≡ j → (k < j) × HasPairOf table j s
+      by true t f = (omega arith, subst (λ n. HasPairOf table n s) f (passed-right d k q r at s node has t))
+      by false t f = (omega arith, subst (λ n. HasPairOf table n s) f (passed-left d k q r at s node has t))
+  passes q d k s j node has e = absurd cc
+
   pub lands : (q : Tree) (d k : ℕ) (s : PlainShape) → IsNodeUnder 0 0 p d k q → HasPairOf table k s → LandsAt s (landing k q s)
   lands (merge q r at) d k s node has =
       by (taken_by r s) refl (lands r d (k + 1 + nodes q) s (second-part [] node refl)) (lands q d (k + 1) s (first-part ((d, r) ∷ []) node refl))
@@ -104,3 +117,22 @@ module _ (p : Tree) (table : ShapeTable) (closed : IsClosed p (HasPairOf table))
         let l = lands q listed.0 x.node s node has in
         all.has (pair (landing x.node q s) x.shape) (back _ (pair-stands (landing x.node q s) x.shape s l.4 is))
         (l.1, (l.0, ap (λ xs. slice_get xs (landing x.node q s)) made ∙ node-placed l.2), l.3)
+
+    -- what a merge passes to its operand stands behind it, where the nodes of the pairs don't fall
+    pub pairs-passed : (ns : List (ℕ × Tree)) (pairs : List Pair) → ns ≡ preorder 0 p → IsNonDecreasingBy (λ (x : Pair). x.node) pairs →
+        ((x : Pair) → Stands pairs x → Stands table.pairs x) → ((x : Pair) → Stands table.pairs x → Stands pairs x) → ArePassed ns table.shapes pairs
+    pairs-passed ns pairs made rising there back i x q s k at listed is operand =
+        let node = node-found 0 p x.node listed.0 q (sym (ap (λ xs. slice_get xs x.node) made) ∙ listed.1) in
+        let placed = there x (i, at) in
+        let has : HasPairOf table x.node s = record { place = placed.0; pair = x; stands = placed.1; node_is = refl; shape_is = is } in
+        let passed = passes q listed.0 x.node s k node has operand in
+        let found = back (pair k x.shape) (pair-stands k x.shape s passed.1 is) in
+        let behind : i < found.0 = elim (cases_lt i found.0) [
+          | inl l ↦ l
+          | inr g ↦
+              let order = rising found.0 i x g (get-within pairs i x at) in
+              let one = ap (λ (y : Pair). y.node) (get_or_from_slice_get pairs found.0 (pair k x.shape) x found.1) in
+              let other = ap (λ (y : Pair). y.node) (get_or_from_slice_get pairs i x x at) in
+              absurd (omega (arith, order, one, other, passed.0))
+        ] in
+        (found.0, behind, found.1)

@@ -16,7 +16,9 @@ pub mod TableLemmas
 pub mod BegunLemmas
 pub mod FitLemmas
 pub mod AskLemmas
+pub mod OrderLemmas
 pub mod LandLemmas
+pub mod AddressLemmas
 pub mod Injections
 pub mod CodeLemmas
 pub mod PartLemmas

@@ -59,6 +59,10 @@ shape-within (x ∷ xs) (suc n) s h = omega (arith, shape-within xs n s h)
 pub shape-read : (shapes : List Shape) (n : ℕ) (x : Shape) → slice_get shapes n ≡ Some x → shape_in shapes n ≡ Some (plain_shape x)
 shape-read shapes n x h = ap (λ o. option_map plain_shape o) h
 
+-- each number below the length has a shape
+pub shape-at : (shapes : List Shape) (n : ℕ) → n < length shapes → (s : PlainShape) × (shape_in shapes n ≡ Some s)
+shape-at shapes n h = let x = get-some shapes n h in (plain_shape x.0, shape-read shapes n x.0 x.1)
+
 -- ---- steps
 
 -- two shapes with one step are one

@@ -1,5 +1,5 @@
 -- Where the items of code stand, and where nodes are entered.
-use Rattle.std.specs.Prelude.{ℕ, ◌+◌, ◌<◌, ◌≡◌, Bool, true, false, if◌then◌else◌, List, slice_get, Option, Some, None}
+use Rattle.std.specs.Prelude.{ℕ, ◌+◌, ◌<◌, ◌≤◌, ◌≡◌, Bool, true, false, if◌then◌else◌, List, length, slice_get, Option, Some, None}
 use Rattle.fy_phrase.specs.declared.shapes.Pair.{Pair}
 use Rattle.fy_phrase.specs.declared.shapes.Shape.{Shape}
 use Rattle.fy_phrase.specs.Sizes.{nodes}
@@ -32,6 +32,11 @@ taken_by q s = taken (kind_of q) s
 abbrev pub landing : ℕ → Tree → PlainShape → ℕ
 landing k (merge p q at) s = if taken_by q s then landing (k + 1 + nodes p) q s else landing (k + 1) p s
 landing k p s = k
+
+-- of node k, where it is a merge, the operand that takes demands of the shape
+abbrev pub operand_at : ℕ → Tree → PlainShape → Option ℕ
+operand_at k (merge p q at) s = Some (if taken_by q s then k + 1 + nodes p else k + 1)
+operand_at k p s = None
 
 abbrev pub pair : ℕ → ℕ → Pair
 pair k n = record { node = k; shape = n }
@@ -68,6 +73,22 @@ abbrev pub LandAmong : List (ℕ × Tree) → List Shape → List Pair → List 
 LandAmong ns shapes pairs sites =
     (x : Pair) (p : Tree) (s : PlainShape) → Stands pairs x → IsListed ns x.node p → shape_in shapes x.shape ≡ Some s →
     Stands sites (pair (landing x.node p s) x.shape)
+
+-- behind a merge's pair stands that of the operand to which it passes the demand
+abbrev pub ArePassed : List (ℕ × Tree) → List Shape → List Pair → Type 0
+ArePassed ns shapes pairs =
+    (i : ℕ) (x : Pair) (p : Tree) (s : PlainShape) (k : ℕ) → slice_get pairs i ≡ Some x → IsListed ns x.node p → shape_in shapes x.shape ≡ Some s →
+    operand_at x.node p s ≡ Some k → (j : ℕ) × (i < j) × (slice_get pairs j ≡ Some (pair k x.shape))
+
+-- the address is that of the site at which the pair lands
+abbrev pub LeadsTo : List (ℕ × Tree) → List Shape → List Pair → Pair → ℕ → Type 0
+LeadsTo ns shapes sites x a =
+    (p : Tree) (s : PlainShape) → IsListed ns x.node p → shape_in shapes x.shape ≡ Some s → slice_get sites a ≡ Some (pair (landing x.node p s) x.shape)
+
+-- from place i on, the addresses of the pairs in their order
+pub record AreAddressesFrom (ns : List (ℕ × Tree)) (shapes : List Shape) (pairs sites : List Pair) (i : ℕ) (addresses : List ℕ) : Type 0 where
+  pub all : length addresses ≡ length pairs
+  pub each : (j : ℕ) (x : Pair) → i ≤ j → slice_get pairs j ≡ Some x → (a : ℕ) × (slice_get addresses j ≡ Some a) × LeadsTo ns shapes sites x a
 
 -- the entry is that of a pair, and leads to the site at which the pair lands
 pub record IsEntryOf (ns : List (ℕ × Tree)) (shapes : List Shape) (pairs sites : List Pair) (entry : Entry) : Type 0 where

@@ -1,7 +1,7 @@
 //! Code of a phrase.
 
 ghost use Rattle.std.specs.Prelude.{◌≡◌, ◌≤◌, false, IfOk, length};
-ghost use Rattle.std.specs.List.Sorted.{IsPermutation};
+ghost use Rattle.std.specs.List.Sorted.{IsPermutation, IsNonDecreasingBy};
 ghost use Rattle.fy_derive.specs.Shapes.{table_words};
 ghost use Rattle.fy_phrase.specs.Reads.{reads};
 ghost use Rattle.fy_phrase.specs.Sizes.{nodes, depth};
@@ -25,7 +25,7 @@ use std::alloc::Global;
 
 /// Push-enter code of a closed phrase that is no merge, from the table of demand shapes of an accepted derivation: an item for each pair of the table whose node
 /// is no merge, the program's first and the others in order of node and shape. A merge is entered where the operand is that takes the demand. The time is
-/// proportional to the nodes, the pairs and the merges that each pair goes down, up to a logarithm. The code does what the copy rule does, and no step of it is
+/// proportional to the nodes and the pairs, up to a logarithm, besides a comparison of each two shapes. The code does what the copy rule does, and no step of it is
 /// undefined or looks for a frame that is gone.
 pub fn generate(alloc: Global, p: &Phrase, table: &ShapeTable) -> Result<PeCode, OutOfMemory>
     requires whole { is_merge (reads p.now) ≡ false }
@@ -72,7 +72,8 @@ pub fn generate(alloc: Global, p: &Phrase, table: &ShapeTable) -> Result<PeCode,
 
 // The pairs in order of node and shape.
 fn pairs_in_order(alloc: Global, pairs: &[Pair]) -> Result<Vec<Pair>, OutOfMemory>
-    ensures { IfOk result (λ made. IsPermutation pairs.now made.items) }
+    ensures moved { IfOk result (λ made. IsPermutation pairs.now made.items) }
+    ensures ordered { IfOk result (λ made. IsNonDecreasingBy (λ x. x.node) made.items) }
 {
     let mut made = Vec::from_slice(alloc, pairs)?;
     made.sort_by_key(|pair| (pair.node, pair.shape))?;

@@ -5,7 +5,7 @@ ghost use Rattle.fy_derive.specs.ShapeTables.{plain_shape};
 ghost use Rattle.fy_phrase.specs.Reads.{reads};
 ghost use Rattle.fy_phrase.specs.Tree.{Tree};
 ghost use Rattle.pe_gen.specs.Preorder.{seen};
-ghost use Rattle.pe_gen.specs.Sites.{is_merge as is_merge_of, right_of, taken_by, landing as landing_of, IsListing, IsPlain, Stands, AreWithin, AreSites, LandAmong, AreEntries};
+ghost use Rattle.pe_gen.specs.Sites.{is_merge as is_merge_of, right_of, taken_by, operand_at, IsListing, IsPlain, Stands, AreWithin, AreSites, LandAmong, ArePassed, AreAddressesFrom, AreEntries};
 
 use crate::listing::number_behind;
 use crate::nodes::Node;
@@ -90,49 +90,93 @@ pub fn entries_of(
     requires shapes { (i : ℕ) (x : Pair) → slice_get pairs.now i ≡ Some x → x.shape < length shapes.now }
     requires once { (i j : ℕ) (x : Pair) → slice_get pairs.now i ≡ Some x → slice_get pairs.now j ≡ Some x → i ≡ j }
     requires listing { IsListing (map seen nodes.now) }
+    requires passed { ArePassed (map seen nodes.now) shapes.now pairs.now }
     requires land { LandAmong (map seen nodes.now) shapes.now pairs.now sites.now.keys }
     ensures { IfOk result (λ entries. AreEntries (map seen nodes.now) shapes.now pairs.now sites.now.keys entries) }
 {
+    let addresses = addresses_of(alloc, nodes, shapes, pairs, sites)?;
     let mut entries = EntryList::new(alloc);
-    for pair in pairs {
-        let shape = &shapes[pair.shape as usize];
-        let site = Pair {
-            node: landing(nodes, pair.node, shape),
-            shape: pair.shape,
-        };
+    for (i, pair) in pairs.iter().enumerate() {
         entries.push(Entry {
             node: pair.node,
             shape: pair.shape,
-            address: address_of(sites, site),
+            address: addresses[i],
         })?;
     }
     Ok(entries)
 }
 
-// The address of a site.
-fn address_of(sites: &IndexSet<Pair>, site: Pair) -> u32
+// The addresses of the sites at which the pairs land, from the last pair to the first: what a merge passes on stands behind it.
+fn addresses_of(
+    alloc: Global,
+    nodes: &[Node<'_>],
+    shapes: &[Shape],
+    pairs: &[Pair],
+    sites: &IndexSet<Pair>,
+) -> Result<Vec<u32>, OutOfMemory>
+    requires few { length nodes.now ≤ 65536 }
     requires small { length sites.now.keys ≤ 65536 }
-    requires there { Stands sites.now.keys site }
-    ensures { slice_get sites.now.keys result ≡ Some site }
+    requires within { AreWithin (length nodes.now) pairs.now }
+    requires shapes { (i : ℕ) (x : Pair) → slice_get pairs.now i ≡ Some x → x.shape < length shapes.now }
+    requires once { (i j : ℕ) (x : Pair) → slice_get pairs.now i ≡ Some x → slice_get pairs.now j ≡ Some x → i ≡ j }
+    requires listing { IsListing (map seen nodes.now) }
+    requires passed { ArePassed (map seen nodes.now) shapes.now pairs.now }
+    requires land { LandAmong (map seen nodes.now) shapes.now pairs.now sites.now.keys }
+    ensures { IfOk result (λ made. AreAddressesFrom (map seen nodes.now) shapes.now pairs.now sites.now.keys 0 made.items) }
 {
-    sites.get_index_of(&site).unwrap() as u32
+    let places = places_of(alloc, pairs)?;
+    let mut addresses = vec![in alloc; 0; pairs.len()]?;
+    for i in (0..pairs.len()).rev() {
+        let pair = pairs[i];
+        let shape = &shapes[pair.shape as usize];
+        let address = match operand_of(nodes, pair.node, shape) {
+            Some(node) => {
+                let operand = Pair {
+                    node,
+                    shape: pair.shape,
+                };
+                addresses[place_of(&places, operand)]
+            }
+            None => place_of(sites, pair) as u32,
+        };
+        addresses[i] = address;
+    }
+    Ok(addresses)
 }
 
-// The node at which a demand of the shape lands: of a merge's operands the one that takes it, and so on down.
-fn landing(nodes: &[Node<'_>], number: u32, shape: &Shape) -> u32
+// The pairs, each at its place.
+fn places_of(alloc: Global, pairs: &[Pair]) -> Result<IndexSet<Pair>, OutOfMemory>
+    requires { (i j : ℕ) (x : Pair) → slice_get pairs.now i ≡ Some x → slice_get pairs.now j ≡ Some x → i ≡ j }
+    ensures { IfOk result (λ places. places.keys ≡ pairs.now) }
+{
+    let mut places = IndexSet::new(alloc);
+    for pair in pairs {
+        places.insert(*pair)?;
+    }
+    Ok(places)
+}
+
+// The place of a pair that is there.
+fn place_of(pairs: &IndexSet<Pair>, pair: Pair) -> usize
+    requires { Stands pairs.now.keys pair }
+    ensures { slice_get pairs.now.keys result ≡ Some pair }
+{
+    pairs.get_index_of(&pair).unwrap()
+}
+
+// The number of the operand to which a merge passes demands of the shape.
+fn operand_of(nodes: &[Node<'_>], number: u32, shape: &Shape) -> Option<u32>
     requires few { length nodes.now ≤ 65536 }
     requires within { number < length nodes.now }
     requires listing { IsListing (map seen nodes.now) }
-    ensures { (d : ℕ) (q : Tree) → slice_get (map seen nodes.now) number ≡ Some (d, q) → result ≡ landing_of number q (plain_shape shape.now) }
+    ensures { (d : ℕ) (q : Tree) → slice_get (map seen nodes.now) number ≡ Some (d, q) → result ≡ operand_at number q (plain_shape shape.now) }
 {
-    let Some(right) = right_operand(nodes[number as usize].phrase) else {
-        return number;
-    };
+    let right = right_operand(nodes[number as usize].phrase)?;
     let left = number + 1;
     if takes(right, shape) {
-        landing(nodes, number_behind(nodes, left), shape)
+        Some(number_behind(nodes, left))
     } else {
-        landing(nodes, left, shape)
+        Some(left)
     }
 }
 

@@ -8,8 +8,8 @@ use Rattle.pe_code.specs.declared.code.PeCode.{PeCode}
 use Rattle.pe_gen.specs.declared.plan.Plan.{Plan}
 use Rattle.pe_gen.specs.declared.steps.ShapeStep.TheVariants.{End}
 use Rattle.pe_gen.specs.Preorder.{seen, thunks_from}
-use Rattle.pe_gen.specs.Sites.{pair, Stands, IsPlain, AreSites, LandAmong, AreEntries}
-use Rattle.pe_gen.proofs.BegunLemmas.{some-from, begun-of, run-step, begun-within, begun-shapes, begun-once, begun-land, begun-few, program-stands, program-plain, plan-of, site-asked, code-made}
+use Rattle.pe_gen.specs.Sites.{pair, Stands, IsPlain, AreSites, LandAmong, ArePassed, AreEntries}
+use Rattle.pe_gen.proofs.BegunLemmas.{some-from, begun-of, run-step, begun-within, begun-shapes, begun-once, begun-land, begun-passed, begun-few, program-stands, program-plain, plan-of, site-asked, code-made}
 use Rattle.pe_gen.proofs.CodeLemmas.{code-of}
 use Rattle.pe_gen.proofs.SeenLemmas.{nodes-few}
 use Rattle.pe_gen.proofs.SoundLemmas.{valid-of}
@@ -20,14 +20,14 @@ pub unwrap-requires : goal.unwrap-requires
 unwrap-requires c =
     let b = begun-of (reads c.args.p.now) c.args.table.now (map seen c.in_ok-nodes.nodes.items) c.in_ok-steps.steps.keys c.in_ok-pairs.pairs.items c.as_slice-shapes.result.now c.as_slice.result.now
     c.requires.table c.requires.whole c.requires.closed c.requires.depths c.requires.made c.requires.depth c.in_ok-nodes.ensures
-    c.as_slice-shapes.ensures c.in_ok-steps.ensures c.as_slice.ensures c.in_ok-pairs.ensures in
+    c.as_slice-shapes.ensures c.in_ok-steps.ensures c.as_slice.ensures c.in_ok-pairs.ensures.moved in
     some-from c.number_of_step.result _ _ c.number_of_step.ensures (run-step (reads c.args.p.now) c.args.table.now (map seen c.in_ok-nodes.nodes.items) c.in_ok-steps.steps.keys c.in_ok-pairs.pairs.items b)
 
 pub sites_of-requires-clause-within : goal.sites_of-requires-clause-within
 sites_of-requires-clause-within c =
     let b = begun-of (reads c.args.p.now) c.args.table.now (map seen c.in_ok-nodes.nodes.items) c.in_ok-steps.steps.keys c.in_ok-pairs.pairs.items c.as_slice-shapes.result.now c.as_slice.result.now
     c.requires.table c.requires.whole c.requires.closed c.requires.depths c.requires.made c.requires.depth c.in_ok-nodes.ensures
-    c.as_slice-shapes.ensures c.in_ok-steps.ensures c.as_slice.ensures c.in_ok-pairs.ensures in
+    c.as_slice-shapes.ensures c.in_ok-steps.ensures c.as_slice.ensures c.in_ok-pairs.ensures.moved in
     λ i x at.
     let within = begun-within (reads c.args.p.now) c.args.table.now (map seen c.in_ok-nodes.nodes.items) c.in_ok-steps.steps.keys c.in_ok-pairs.pairs.items b i x (sym (ap (λ xs. slice_get xs i) c.deref-2.ensures.value) ∙ at) in
     omega (arith, within, length-map c.in_ok-nodes.nodes.items seen, ap length c.deref.ensures.value)
@@ -36,7 +36,7 @@ pub sites_of-requires-clause-program : goal.sites_of-requires-clause-program
 sites_of-requires-clause-program c =
     let b = begun-of (reads c.args.p.now) c.args.table.now (map seen c.in_ok-nodes.nodes.items) c.in_ok-steps.steps.keys c.in_ok-pairs.pairs.items c.as_slice-shapes.result.now c.as_slice.result.now
     c.requires.table c.requires.whole c.requires.closed c.requires.depths c.requires.made c.requires.depth c.in_ok-nodes.ensures
-    c.as_slice-shapes.ensures c.in_ok-steps.ensures c.as_slice.ensures c.in_ok-pairs.ensures in
+    c.as_slice-shapes.ensures c.in_ok-steps.ensures c.as_slice.ensures c.in_ok-pairs.ensures.moved in
     let run = MatchOption-at_some _ (λ n. slice_get c.in_ok-steps.steps.keys n ≡ Some (End ending.Run)) c.unwrap.result c.unwrap.ensures c.number_of_step.ensures in
     subst (λ xs. Stands xs (pair 0 c.unwrap.result)) (sym c.deref-2.ensures.value) (program-stands (reads c.args.p.now) c.args.table.now (map seen c.in_ok-nodes.nodes.items) c.in_ok-steps.steps.keys c.in_ok-pairs.pairs.items b c.unwrap.result run)
 
@@ -44,7 +44,7 @@ pub sites_of-requires-clause-plain : goal.sites_of-requires-clause-plain
 sites_of-requires-clause-plain c =
     let b = begun-of (reads c.args.p.now) c.args.table.now (map seen c.in_ok-nodes.nodes.items) c.in_ok-steps.steps.keys c.in_ok-pairs.pairs.items c.as_slice-shapes.result.now c.as_slice.result.now
     c.requires.table c.requires.whole c.requires.closed c.requires.depths c.requires.made c.requires.depth c.in_ok-nodes.ensures
-    c.as_slice-shapes.ensures c.in_ok-steps.ensures c.as_slice.ensures c.in_ok-pairs.ensures in
+    c.as_slice-shapes.ensures c.in_ok-steps.ensures c.as_slice.ensures c.in_ok-pairs.ensures.moved in
     subst (λ xs. IsPlain (map seen xs) (pair 0 c.unwrap.result)) (sym c.deref.ensures.value) (program-plain (reads c.args.p.now) c.args.table.now (map seen c.in_ok-nodes.nodes.items) c.in_ok-steps.steps.keys c.in_ok-pairs.pairs.items b c.unwrap.result)
 
 pub entries_of-requires-clause-few : goal.entries_of-requires-clause-few
@@ -56,7 +56,7 @@ pub entries_of-requires-clause-small : goal.entries_of-requires-clause-small
 entries_of-requires-clause-small c =
     let b = begun-of (reads c.args.p.now) c.args.table.now (map seen c.in_ok-nodes.nodes.items) c.in_ok-steps.steps.keys c.in_ok-pairs.pairs.items c.as_slice-shapes.result.now c.as_slice.result.now
     c.requires.table c.requires.whole c.requires.closed c.requires.depths c.requires.made c.requires.depth c.in_ok-nodes.ensures
-    c.as_slice-shapes.ensures c.in_ok-steps.ensures c.as_slice.ensures c.in_ok-pairs.ensures in
+    c.as_slice-shapes.ensures c.in_ok-steps.ensures c.as_slice.ensures c.in_ok-pairs.ensures.moved in
     let program = pair 0 c.unwrap.result in
     let places = c.in_ok-sites.sites.keys in
     let all = subst (λ xs. AreSites (map seen xs) c.in_ok-pairs.pairs.items program places) c.deref.ensures.value
@@ -67,7 +67,7 @@ pub entries_of-requires-clause-within : goal.entries_of-requires-clause-within
 entries_of-requires-clause-within c =
     let b = begun-of (reads c.args.p.now) c.args.table.now (map seen c.in_ok-nodes.nodes.items) c.in_ok-steps.steps.keys c.in_ok-pairs.pairs.items c.as_slice-shapes.result.now c.as_slice.result.now
     c.requires.table c.requires.whole c.requires.closed c.requires.depths c.requires.made c.requires.depth c.in_ok-nodes.ensures
-    c.as_slice-shapes.ensures c.in_ok-steps.ensures c.as_slice.ensures c.in_ok-pairs.ensures in
+    c.as_slice-shapes.ensures c.in_ok-steps.ensures c.as_slice.ensures c.in_ok-pairs.ensures.moved in
     λ i x at.
     let within = begun-within (reads c.args.p.now) c.args.table.now (map seen c.in_ok-nodes.nodes.items) c.in_ok-steps.steps.keys c.in_ok-pairs.pairs.items b i x (sym (ap (λ xs. slice_get xs i) c.deref-4.ensures.value) ∙ at) in
     omega (arith, within, length-map c.in_ok-nodes.nodes.items seen, ap length c.deref-3.ensures.value)
@@ -76,7 +76,7 @@ pub entries_of-requires-clause-shapes : goal.entries_of-requires-clause-shapes
 entries_of-requires-clause-shapes c =
     let b = begun-of (reads c.args.p.now) c.args.table.now (map seen c.in_ok-nodes.nodes.items) c.in_ok-steps.steps.keys c.in_ok-pairs.pairs.items c.as_slice-shapes.result.now c.as_slice.result.now
     c.requires.table c.requires.whole c.requires.closed c.requires.depths c.requires.made c.requires.depth c.in_ok-nodes.ensures
-    c.as_slice-shapes.ensures c.in_ok-steps.ensures c.as_slice.ensures c.in_ok-pairs.ensures in
+    c.as_slice-shapes.ensures c.in_ok-steps.ensures c.as_slice.ensures c.in_ok-pairs.ensures.moved in
     λ i x at.
     let within = begun-shapes (reads c.args.p.now) c.args.table.now (map seen c.in_ok-nodes.nodes.items) c.in_ok-steps.steps.keys c.in_ok-pairs.pairs.items b i x (sym (ap (λ xs. slice_get xs i) c.deref-4.ensures.value) ∙ at) in
     omega (arith, within, ap length c.as_slice-shapes.ensures)
@@ -85,15 +85,24 @@ pub entries_of-requires-clause-once : goal.entries_of-requires-clause-once
 entries_of-requires-clause-once c =
     let b = begun-of (reads c.args.p.now) c.args.table.now (map seen c.in_ok-nodes.nodes.items) c.in_ok-steps.steps.keys c.in_ok-pairs.pairs.items c.as_slice-shapes.result.now c.as_slice.result.now
     c.requires.table c.requires.whole c.requires.closed c.requires.depths c.requires.made c.requires.depth c.in_ok-nodes.ensures
-    c.as_slice-shapes.ensures c.in_ok-steps.ensures c.as_slice.ensures c.in_ok-pairs.ensures in
+    c.as_slice-shapes.ensures c.in_ok-steps.ensures c.as_slice.ensures c.in_ok-pairs.ensures.moved in
     λ i j x d e.
     begun-once (reads c.args.p.now) c.args.table.now (map seen c.in_ok-nodes.nodes.items) c.in_ok-steps.steps.keys c.in_ok-pairs.pairs.items b i j x (sym (ap (λ xs. slice_get xs i) c.deref-4.ensures.value) ∙ d) (sym (ap (λ xs. slice_get xs j) c.deref-4.ensures.value) ∙ e)
+
+pub entries_of-requires-clause-passed : goal.entries_of-requires-clause-passed
+entries_of-requires-clause-passed c =
+    let b = begun-of (reads c.args.p.now) c.args.table.now (map seen c.in_ok-nodes.nodes.items) c.in_ok-steps.steps.keys c.in_ok-pairs.pairs.items c.as_slice-shapes.result.now c.as_slice.result.now
+    c.requires.table c.requires.whole c.requires.closed c.requires.depths c.requires.made c.requires.depth c.in_ok-nodes.ensures
+    c.as_slice-shapes.ensures c.in_ok-steps.ensures c.as_slice.ensures c.in_ok-pairs.ensures.moved in
+    subst (λ xs. ArePassed (map seen xs) c.as_slice-shapes.result.now c.deref-4.result.now) (sym c.deref-3.ensures.value)
+    (subst (λ ss. ArePassed (map seen c.in_ok-nodes.nodes.items) ss c.deref-4.result.now) (sym c.as_slice-shapes.ensures)
+    (subst (λ xs. ArePassed (map seen c.in_ok-nodes.nodes.items) c.args.table.now.shapes xs) (sym c.deref-4.ensures.value) (begun-passed (reads c.args.p.now) c.args.table.now (map seen c.in_ok-nodes.nodes.items) c.in_ok-steps.steps.keys c.in_ok-pairs.pairs.items b c.in_ok-pairs.ensures.ordered)))
 
 pub entries_of-requires-clause-land : goal.entries_of-requires-clause-land
 entries_of-requires-clause-land c =
     let b = begun-of (reads c.args.p.now) c.args.table.now (map seen c.in_ok-nodes.nodes.items) c.in_ok-steps.steps.keys c.in_ok-pairs.pairs.items c.as_slice-shapes.result.now c.as_slice.result.now
     c.requires.table c.requires.whole c.requires.closed c.requires.depths c.requires.made c.requires.depth c.in_ok-nodes.ensures
-    c.as_slice-shapes.ensures c.in_ok-steps.ensures c.as_slice.ensures c.in_ok-pairs.ensures in
+    c.as_slice-shapes.ensures c.in_ok-steps.ensures c.as_slice.ensures c.in_ok-pairs.ensures.moved in
     let program = pair 0 c.unwrap.result in
     let places = c.in_ok-sites.sites.keys in
     let all = subst (λ xs. AreSites (map seen xs) c.in_ok-pairs.pairs.items program places) c.deref.ensures.value
@@ -111,7 +120,7 @@ pub items_of-requires-clause-plan : goal.items_of-requires-clause-plan
 items_of-requires-clause-plan c =
     let b = begun-of (reads c.args.p.now) c.args.table.now (map seen c.in_ok-nodes.nodes.items) c.in_ok-steps.steps.keys c.in_ok-pairs.pairs.items c.as_slice-shapes.result.now c.as_slice.result.now
     c.requires.table c.requires.whole c.requires.closed c.requires.depths c.requires.made c.requires.depth c.in_ok-nodes.ensures
-    c.as_slice-shapes.ensures c.in_ok-steps.ensures c.as_slice.ensures c.in_ok-pairs.ensures in
+    c.as_slice-shapes.ensures c.in_ok-steps.ensures c.as_slice.ensures c.in_ok-pairs.ensures.moved in
     let program = pair 0 c.unwrap.result in
     let places = c.in_ok-sites.sites.keys in
     let all = subst (λ xs. AreSites (map seen xs) c.in_ok-pairs.pairs.items program places) c.deref.ensures.value
@@ -127,7 +136,7 @@ pub items_of-requires-clause-sites : goal.items_of-requires-clause-sites
 items_of-requires-clause-sites c =
     let b = begun-of (reads c.args.p.now) c.args.table.now (map seen c.in_ok-nodes.nodes.items) c.in_ok-steps.steps.keys c.in_ok-pairs.pairs.items c.as_slice-shapes.result.now c.as_slice.result.now
     c.requires.table c.requires.whole c.requires.closed c.requires.depths c.requires.made c.requires.depth c.in_ok-nodes.ensures
-    c.as_slice-shapes.ensures c.in_ok-steps.ensures c.as_slice.ensures c.in_ok-pairs.ensures in
+    c.as_slice-shapes.ensures c.in_ok-steps.ensures c.as_slice.ensures c.in_ok-pairs.ensures.moved in
     let program = pair 0 c.unwrap.result in
     let places = c.in_ok-sites.sites.keys in
     let all = subst (λ xs. AreSites (map seen xs) c.in_ok-pairs.pairs.items program places) c.deref.ensures.value
@@ -143,7 +152,7 @@ pub returns-clause-right : goal.returns-clause-right
 returns-clause-right c =
     let b = begun-of (reads c.args.p.now) c.args.table.now (map seen c.in_ok-nodes.nodes.items) c.in_ok-steps.steps.keys c.in_ok-pairs.pairs.items c.as_slice-shapes.result.now c.as_slice.result.now
     c.requires.table c.requires.whole c.requires.closed c.requires.depths c.requires.made c.requires.depth c.in_ok-nodes.ensures
-    c.as_slice-shapes.ensures c.in_ok-steps.ensures c.as_slice.ensures c.in_ok-pairs.ensures in
+    c.as_slice-shapes.ensures c.in_ok-steps.ensures c.as_slice.ensures c.in_ok-pairs.ensures.moved in
     let run = MatchOption-at_some _ (λ n. slice_get c.in_ok-steps.steps.keys n ≡ Some (End ending.Run)) c.unwrap.result c.unwrap.ensures c.number_of_step.ensures in
     let program = pair 0 c.unwrap.result in
     let places = c.in_ok-sites.sites.keys in
@@ -165,7 +174,7 @@ pub returns-clause-valid : goal.returns-clause-valid
 returns-clause-valid c =
     let b = begun-of (reads c.args.p.now) c.args.table.now (map seen c.in_ok-nodes.nodes.items) c.in_ok-steps.steps.keys c.in_ok-pairs.pairs.items c.as_slice-shapes.result.now c.as_slice.result.now
     c.requires.table c.requires.whole c.requires.closed c.requires.depths c.requires.made c.requires.depth c.in_ok-nodes.ensures
-    c.as_slice-shapes.ensures c.in_ok-steps.ensures c.as_slice.ensures c.in_ok-pairs.ensures in
+    c.as_slice-shapes.ensures c.in_ok-steps.ensures c.as_slice.ensures c.in_ok-pairs.ensures.moved in
     let run = MatchOption-at_some _ (λ n. slice_get c.in_ok-steps.steps.keys n ≡ Some (End ending.Run)) c.unwrap.result c.unwrap.ensures c.number_of_step.ensures in
     let program = pair 0 c.unwrap.result in
     let places = c.in_ok-sites.sites.keys in

@@ -3,5 +3,5 @@ use Rattle.pe_gen.specs.Preorder.{seen}
 use Rattle.pe_gen.proofs.EntryLists.{AreEntriesTo}
 use Rattle.pe_gen.proofs.sites.entries_of.Given as goal
 
-abbrev pub invariant-loop-pair : goal.invariant-loop-pair
-invariant-loop-pair l = AreEntriesTo (map seen l.nodes) l.shapes l.pairs l.sites.keys l.pair-index l.entries
+abbrev pub invariant-loop-i : goal.invariant-loop-i
+invariant-loop-i l = AreEntriesTo (map seen l.nodes) l.shapes l.pairs l.sites.keys l.i l.entries
