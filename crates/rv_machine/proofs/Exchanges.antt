@@ -1,5 +1,6 @@
 -- One instruction with its input and output, by the event that its step leads to.
-use Rattle.std.proofs.Common.{◌≡◌, ℕ, Bool, IsTrue, [], ◌∷◌, ◌++◌, sym, ap, ◌∙◌, refl, subst, append_assoc, Some, None}
+use Rattle.std.proofs.Common.{◌≡◌, ℕ, ◌<◌, Bool, IsTrue, [], ◌∷◌, ◌++◌, sym, ap, ◌∙◌, refl, subst, append_assoc, Some, None}
+use Rattle.std.proofs.lemmas.List.Elements.{All-nil}
 use Rattle.std.specs.declared.option.Option.{Option}
 use Rattle.fy_base.specs.Outside.{Bytes, IsAtEnd, Gained, GainedPart, appended, Drew}
 use Rattle.fy_base.specs.declared.data.Ending.{Ending}
@@ -23,6 +24,7 @@ turned_alone : (end : Option Ending) (program : Program) (core after : Core) (le
     → Turned end program core after left left over over held held_now
 turned_alone end program core after left over held held_now at_end did = record {
   bytes = [];
+  small = All-nil (λ byte. byte < 256);
   drew = drew_none left over at_end;
   did = λ world more before going none shows. did world more before going shows;
 }

@@ -1,5 +1,6 @@
 pub mod Runs
 pub mod Watching
+pub mod Counting
 pub mod Turns
 pub mod Exchanges
 pub mod Parts

@@ -1,5 +1,5 @@
 -- How a run over a source and a sink ends, told by the machine's run on an input.
-use Rattle.std.specs.Prelude.{◌≡◌, ℕ, ◌-◌, ◌<◌, List, ◌++◌, Some, None}
+use Rattle.std.specs.Prelude.{◌≡◌, ◌≢◌, ℕ, ◌-◌, ◌<◌, List, ◌++◌, length, All, Some, None}
 use Rattle.std.specs.Option.{ForSome, option_map}
 use Rattle.std.specs.declared.option.Option.{Option}
 use Rattle.fy_base.specs.Outside.{Bytes, Gained, GainedPart}
@@ -78,11 +78,15 @@ core_after _ program world n = (run program n world).core
 pub record RunsTo (program : Program) (core : Core) (limit : ℕ) (done : MachineRun) (after : Core) (left left_now before now : Option Bytes) : Type 0 where
   pub fed : Bytes
   pub told : ForSome left (λ bytes. fed ≡ bytes)
+  -- what is told being bytes, so is this
+  pub bytes : ForSome left (All (λ byte. byte < 256)) → All (λ byte. byte < 256) fed
   pub end : EndsSo done.end program (going_world core fed) done.steps limit
   pub core_is : after ≡ core_after done.end program (going_world core fed) done.steps
   pub rest : left_now ≡ option_map (λ _. (run program (taken_after done.end done.steps) (going_world core fed)).input) left
   pub output : HasPut done.end before now (run program done.steps (going_world core fed)).output
   pub part : GainedPart before now (run program limit (going_world core fed)).output
+  -- it tells how many bytes the run put, but where the sink failed
+  pub counted : done.end ≢ ends.OutputFault → done.bytes ≡ length (run program done.steps (going_world core fed)).output
 
 -- what a watched run came to, and that its watch holds the last words that were fetched
 pub record Watched (program : Program) (core : Core) (limit : ℕ) (done : MachineRun) (after : Core) (left left_now before now : Option Bytes) (room : ℕ) (held held_now : List Fetched) : Type 0 where

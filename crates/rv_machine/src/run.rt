@@ -4,7 +4,7 @@ ghost use Rattle.std.specs.Prelude.{◌≡◌, ◌≢◌, ◌≤◌, IsTrue, IfS
 ghost use Rattle.fy_base.specs.Outside.{IsAtEnd, Rose};
 ghost use Rattle.rv_machine.specs.Ends.{IsMachineEnd, RunsTo, Watched, status_at, status_by};
 ghost use Rattle.rv_insn.specs.Step.{Core, instruction_step, status_after};
-ghost use Rattle.rv_machine.specs.Turn.{Turned};
+ghost use Rattle.rv_machine.specs.Turn.{Turned, put_count};
 ghost use Rattle.rv_insn.specs.declared.events.Status.TheVariants.{Running};
 
 use crate::machine::Machine;
@@ -12,12 +12,14 @@ use crate::watch::{Unwatched, Watch};
 use fy_base::{Ending, Failed, Sink, Source, next_byte};
 use rv_insn::Event;
 
-/// How a run ended, and how many instructions were executed. The last one counts, also where it
-/// trapped, or where its read or its put failed.
+/// How a run ended, how many instructions were executed, and how many bytes were put, which isn't
+/// told where a put failed. The last instruction counts, also where it trapped, or where its read
+/// or its put failed.
 #[derive(Clone, Copy, PartialEq, Eq, Debug)]
 pub struct MachineRun {
     pub end: Ending,
     pub steps: u64,
+    pub bytes: u64,
 }
 
 // The input or output of the instruction that led to an event: how the run ended by it, or `None`
@@ -64,6 +66,17 @@ fn exchange<I: Source, O: Sink>(
     }
 }
 
+// How many bytes the instruction that led to an event puts.
+fn put_count(event: Event) -> u64
+    ensures count { result ≡ put_count event }
+    ensures few { result ≤ 1 }
+{
+    match event {
+        Event::Put(_) => 1,
+        _ => 0,
+    }
+}
+
 /// Runs the machine for at most `steps` instructions, and tells the watch of each word that is
 /// fetched. It takes one byte of input at a time and puts one byte of output at a time. After the
 /// end of input it asks for no more. The machine must be running.
@@ -98,17 +111,18 @@ pub fn run_watched<I: Source, O: Sink, W: Watch>(
 {
     let mut over = false;
     let mut done = 0;
+    let mut bytes = 0;
     'turns: while done < steps {
         let row = m.stride(watch, steps - done);
         done += row.steps;
         if let Some(end) = exchange(m, row.event, input, output, &mut over) {
-            return MachineRun { end, steps: done };
+            let steps = done;
+            return MachineRun { end, steps, bytes };
         }
+        bytes += put_count(row.event);
     }
-    MachineRun {
-        end: Ending::Spent,
-        steps,
-    }
+    let end = Ending::Spent;
+    MachineRun { end, steps, bytes }
 }
 
 /// Runs the machine for at most `steps` instructions, as `run_watched` does, unwatched.
