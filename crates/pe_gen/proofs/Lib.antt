@@ -23,3 +23,4 @@ pub mod Injections
 pub mod CodeLemmas
 pub mod PartLemmas
 pub mod SoundLemmas
+pub mod FrameLemmas

@@ -31,7 +31,7 @@ use Rattle.pe_gen.proofs.ScopeLemmas.{IsScoped, node-scoped}
 use Rattle.pe_gen.proofs.StepLemmas.{shape-within}
 use Rattle.pe_gen.proofs.ThunkLemmas.{length-thunk_nodes, own-stands}
 
-All-from_gets : {X : Type 0} (P : X → Type 0) (xs : List X) → ((i : ℕ) (x : X) → slice_get xs i ≡ Some x → P x) → All P xs
+pub All-from_gets : {X : Type 0} (P : X → Type 0) (xs : List X) → ((i : ℕ) (x : X) → slice_get xs i ≡ Some x → P x) → All P xs
 All-from_gets P xs h i d lt = h i (get_or xs i d) (slice_get-get_or xs i d lt)
 
 for-none : {X : Type 0} (P : X → Type 0) → ForSome None P

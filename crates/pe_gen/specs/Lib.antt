@@ -3,3 +3,4 @@ pub mod Steps
 pub mod Sites
 pub mod Thunks
 pub mod Plan
+pub mod Sizes

@@ -10,6 +10,7 @@ ghost use Rattle.pe_code.specs.Valid.{IsValid};
 ghost use Rattle.pe_right.specs.Follows.{FollowsCopyRule};
 ghost use Rattle.pe_right.specs.Right.{IsCodeOf};
 ghost use Rattle.pe_gen.specs.Sites.{is_merge};
+ghost use Rattle.pe_gen.specs.Sizes.{HasSizesOf};
 ghost use Rattle.pe_right.specs.Typed.{IsTableOf};
 
 use crate::items::items_of;
@@ -41,6 +42,7 @@ pub fn generate(alloc: Global, p: &Phrase, table: &ShapeTable) -> Result<PeCode,
     ensures right { IfOk result (λ code. IsCodeOf (reads p.now) table.now code) }
     ensures valid { IfOk result (λ code. IsValid code) }
     ensures follows { IfOk result (λ code. FollowsCopyRule (reads p.now) code) }
+    ensures sizes { IfOk result (λ code. HasSizesOf (reads p.now) code) }
 {
     let shapes = table.shapes.as_slice();
     let nodes = nodes_of(alloc, p)?;
