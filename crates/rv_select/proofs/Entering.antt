@@ -30,7 +30,7 @@ use Rattle.rv_select.proofs.Wp.{Wp, at, with_value, any_step, by_block, by_block
 use Rattle.rv_select.proofs.Values.{moves, adds}
 use Rattle.rv_select.proofs.Around.{address_with}
 use Rattle.rv_select.proofs.Memory.{hands_on, StandsAt, stands_at, cell_is, EscapeIs, escape_is, laid_with}
-use Rattle.rv_select.proofs.Selected.{IsEntry, IsSelected}
+use Rattle.rv_select.proofs.SelectedCode.{IsEntry, IsSelected}
 use Rattle.rv_select.proofs.Follows.{Follows}
 use Rattle.rv_select.proofs.Landing.{Keeps, went_code, went_value, went_completed}
 use Rattle.rv_select.proofs.Reaching.{word_small, reach_length, reached}

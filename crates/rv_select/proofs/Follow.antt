@@ -14,7 +14,7 @@ use Rattle.rv_word.specs.Laws.{output_of, IsRight}
 use Rattle.rv_select.specs.Program.{word_code}
 use Rattle.rv_select.specs.Laws.{IsSelectable, deepest, IsSameAs, StandsAs}
 use Rattle.rv_select.proofs.Runs.{spent_on, spent_none, none_on, runs_split, spent_split, stopped_stays, Reach}
-use Rattle.rv_select.proofs.Selected.{IsSelected}
+use Rattle.rv_select.proofs.SelectedCode.{IsSelected}
 use Rattle.rv_select.proofs.Follows.{Helpers, step_cost}
 use Rattle.rv_select.proofs.Placed.{selected}
 use Rattle.rv_select.proofs.ItemRuns.{none_more, first_more, both_more, run_stays, prefix_itself, prefix_then, run_grows, stuck_later}

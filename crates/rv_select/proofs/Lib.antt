@@ -3,7 +3,7 @@ pub mod Wp
 pub mod Values
 pub mod Around
 pub mod Memory
-pub mod Selected
+pub mod SelectedCode
 pub mod Follows
 pub mod Landing
 pub mod Making
@@ -25,3 +25,8 @@ pub mod Disciplined
 pub mod Counting
 pub mod Short
 pub mod Images
+pub mod Bindings
+pub mod Counted
+pub mod Emitted
+pub mod Offsets
+pub mod ItemCounts

@@ -49,7 +49,7 @@ use Rattle.rv_select.proofs.Wp.{Wrote, Wp, with_value, any_step, by_block, by_bl
 use Rattle.rv_select.proofs.Values.{moves, moves_on, adds, eightfold, taken_same, untaken_same, taken_other, untaken_other, taken_above, untaken_above}
 use Rattle.rv_select.proofs.Around.{frame_room, frames_more}
 use Rattle.rv_select.proofs.Memory.{IsSameBelow, same_then, same_wrote, unwritten}
-use Rattle.rv_select.proofs.Selected.{IsSelected}
+use Rattle.rv_select.proofs.SelectedCode.{IsSelected}
 use Rattle.rv_select.proofs.Follows.{Helpers, Follows}
 use Rattle.rv_select.proofs.Landing.{AreBytes, Keeps, has_same, has_more, went_code, went_value, went_completed, no_room}
 use Rattle.rv_select.proofs.Making.{open_length, framed}

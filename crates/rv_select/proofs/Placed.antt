@@ -21,7 +21,7 @@ use Rattle.rv_operators.specs.Operators.{operator_blocks}
 use Rattle.rv_select.specs.Numbers.{meet, first_operator, fixed_entries, block_count, entry_count, blocks_in, entries_in, label_of, entry_number, row_words}
 use Rattle.rv_select.specs.Blocks.{main_block, blocks_of, entries_of, caller_blocks, own_blocks}
 use Rattle.rv_select.specs.Program.{item_blocks, item_entries, node_word, row, rows, word_code}
-use Rattle.rv_select.proofs.Selected.{IsEntry, IsSelected}
+use Rattle.rv_select.proofs.SelectedCode.{IsEntry, IsSelected}
 
 -- ---- how many an instruction has
 

@@ -19,7 +19,7 @@ use Rattle.rv_select.specs.Laws.{IsSelectable, IsOutside, start_of, StandsAs, Re
 use Rattle.rv_select.proofs.Runs.{spent_on, spent_is, runs_split, spent_split, Reach}
 use Rattle.rv_select.proofs.Wp.{with_value, by_block}
 use Rattle.rv_select.proofs.Values.{moves, moves_on}
-use Rattle.rv_select.proofs.Selected.{IsSelected}
+use Rattle.rv_select.proofs.SelectedCode.{IsSelected}
 use Rattle.rv_select.proofs.Follows.{Helpers}
 use Rattle.rv_select.proofs.Placed.{selected}
 use Rattle.rv_select.proofs.ItemRuns.{both_more, prefix_then, run_grows, stuck_later}

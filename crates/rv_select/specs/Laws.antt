@@ -1,26 +1,38 @@
 -- Selected code does what the machine of items does, is disciplined and is short.
-use Rattle.std.specs.Prelude.{◌≡◌, ◌≢◌, ◌⊎◌, ℕ, ◌+◌, ◌*◌, ◌^◌, ◌<◌, ◌≤◌, max, true, if◌then◌else◌, is_some, List, [], ◌∷◌, length, All, Some, None}
+use Rattle.std.specs.Prelude.{◌≡◌, ◌≢◌, ◌⊎◌, ℕ, ◌+◌, ◌*◌, ◌^◌, ◌<◌, ◌≤◌, max, Bool, true, false, if◌then◌else◌, is_some, List, [], ◌∷◌, ◌++◌, length, All, Some, None}
+use Rattle.std.specs.List.{list_all}
 use Rattle.std.specs.Option.{ForSome}
 use Rattle.std.specs.declared.option.Option.{Option}
 use Rattle.fy_base.specs.Outside.{Bytes, IsPrefix}
 use Rattle.fy_base.specs.declared.data.Datum.{Datum}
 use Rattle.rv_insn.specs.declared.events.Event.TheVariants as event
+use Rattle.rv_insn.specs.declared.instructions.Insn.{Insn}
+use Rattle.rv_insn.specs.declared.instructions.Insn.TheVariants.{Branch, Jal, Jalr, Ecall}
 use Rattle.pe_code.specs.declared.code.PeInsn.{PeInsn}
 use Rattle.pe_code.specs.declared.code.PeInsn.TheVariants as insn
 use Rattle.pe_code.specs.declared.code.PeItem.{PeItem}
 use Rattle.pe_code.specs.declared.code.PeCode.{PeCode}
-use Rattle.pe_code.specs.Code.{body_of}
+use Rattle.pe_code.specs.Code.{item_at, body_of}
 use Rattle.pe_code.specs.Valid.{IsValid}
 use Rattle.pe_machine.specs.Run.{Standing, going, ended, faulted, stuck, gone}
-use Rattle.pe_items.specs.Items.{address_on}
+use Rattle.pe_machine.specs.States.{Pointer, code_at}
+use Rattle.pe_items.specs.Items.{address_on, FoundFrame, frame_from, ItemState}
 use Rattle.pe_items.specs.Run.{ItemRun, items_after}
-use Rattle.rv_word.specs.Word.{Data, Code, State, Led, goes, hangs, stops, wrong, word_run}
+use Rattle.rv_asm.specs.declared.items.Item.{Item}
+use Rattle.rv_asm.specs.declared.items.Item.TheVariants.{Plain}
+use Rattle.rv_word.specs.declared.micros.Register.TheVariants.{Frame, First}
+use Rattle.rv_word.specs.declared.micros.Micro.{Micro}
+use Rattle.rv_word.specs.declared.micros.Micro.TheVariants.{Window}
+use Rattle.rv_word.specs.Word.{set, Data, Code, State, Led, goes, hangs, stops, wrong, word_address, block, word_run}
 use Rattle.rv_word.specs.Costs.{spent}
 use Rattle.rv_word.specs.Discipline.{is_disciplined}
 use Rattle.rv_word.specs.Laws.{output_of, at_entry}
 use Rattle.rv_flow.specs.Laws.{start_data, blocks_words}
+use Rattle.rv_flow.specs.Lowering.{micro_items}
 use Rattle.rv_operators.specs.Laws.{IsDatum}
+use Rattle.rv_select.specs.Numbers.{label_of}
 use Rattle.rv_select.specs.Program.{word_code}
+use Rattle.rv_select.specs.Layout.{Stands}
 
 -- ---- what is selected
 
@@ -124,3 +136,47 @@ pub record HasSizes (items : ℕ) (w : Code) : Type 0 where
 
 abbrev pub SelectionIsShort : Type 0
 SelectionIsShort = (code : PeCode) → IsSelectable code → HasSizes (length code.items) (word_code code)
+
+-- ---- how a binding is reached
+
+-- an instruction that is no branch, no jump and no call of a service
+abbrev pub is_straight : Insn → Bool
+is_straight (Branch op rs1 rs2 offset) = false
+is_straight (Jal rd offset) = false
+is_straight (Jalr rd base imm) = false
+is_straight Ecall = false
+is_straight _ = true
+
+-- an item that is such an instruction as it is
+abbrev pub is_straight_item : Item → Bool
+is_straight_item (Plain i) = is_straight i
+is_straight_item _ = false
+
+-- the check of the frame in use, or none
+abbrev pub IsFrameCheck : List Micro → Type 0
+IsFrameCheck [] = Unit {0}
+IsFrameCheck (Window Frame k ∷ []) = Unit {0}
+IsFrameCheck _ = ⊥
+
+-- the data with the address of a frame in First
+abbrev pub with_frame_in_first : FoundFrame → Data → Data
+with_frame_in_first f e = record e { named = set e.named First (word_address f.address) }
+
+-- in code w, the block of the item at address a begins, behind the check of the frame in use, with operations that are at most four straight
+-- instructions; wherever the machine of items runs the item, after them First has the address of the frame that binds variable k, and nothing else has changed
+pub record IsReached (code : PeCode) (w : Code) (a k : ℕ) : Type 0 where
+  pub check : List Micro
+  pub reaching : List Micro
+  pub rest : List Micro
+  pub begins : block w (label_of code a) ≡ check ++ (reaching ++ rest)
+  pub is_check : IsFrameCheck check
+  pub few : length (micro_items (length w.entries) (length w.table) reaching) ≤ 4
+  pub straight : list_all is_straight_item (micro_items (length w.entries) (length w.table) reaching) ≡ true
+  pub reached : (s : ItemState) (t : State) (p : Pointer) (f : FoundFrame)
+      → Stands code w s t → s.focus ≡ code_at p → p.address ≡ a → frame_from s.items k p.frame ≡ Some f
+      → word_run w (length check + length reaching) t ≡ goes (record { rest = rest; held = with_frame_in_first f t.held })
+
+-- the binding of each variable that valid code enters is reached so
+abbrev pub BindingsAreReached : Type 0
+BindingsAreReached =
+    (code : PeCode) (a k shape : ℕ) (i : PeItem) → IsValid code → item_at code a ≡ Some i → i.insn ≡ insn.UseVar k shape → IsReached code (word_code code) a k

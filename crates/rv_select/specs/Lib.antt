@@ -4,3 +4,7 @@ pub mod Program
 pub mod Layout
 pub mod Laws
 pub mod Images
+pub mod Numbering
+pub mod Emission
+pub mod Selection
+pub mod Sizes

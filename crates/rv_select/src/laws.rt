@@ -1,7 +1,8 @@
 //! Laws of the code that is selected. Each is the contract of a function that does nothing, and calls the laws that it stands on.
 
 ghost use Rattle.rv_select.specs.Images.{SelectionsFollow};
-ghost use Rattle.rv_select.specs.Laws.{RunsFollow, RunsReach, SelectionIsDisciplined, SelectionIsShort};
+ghost use Rattle.rv_select.specs.Laws.{BindingsAreReached, RunsFollow, RunsReach, SelectionIsDisciplined, SelectionIsShort};
+ghost use Rattle.rv_select.specs.Sizes.{SelectionIsCounted};
 
 use rv_operators::{
     binary_operators_work, operators_are_disciplined, results_fit, unary_operators_work,
@@ -63,4 +64,16 @@ pub fn selection_is_disciplined()
 /// at most 1,048,576 words, all of 64 bits, and it has a place for each item.
 pub fn selection_is_short()
     ensures { SelectionIsShort }
+{}
+
+/// A variable's binding is reached, behind the check of the frame in use, by at most four plain
+/// instructions, none of which branches or jumps, however many frames are between.
+pub fn bindings_are_reached()
+    ensures { BindingsAreReached }
+{}
+
+/// It has at most 4,194,304 items, as an assembler asks, of which the first is the far jump to its
+/// start; and its table has a row for each shape, of a word for each thunk node and four others.
+pub fn selection_is_counted()
+    ensures { SelectionIsCounted }
 {}

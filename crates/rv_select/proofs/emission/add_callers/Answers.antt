@@ -1,0 +1,6 @@
+use Rattle.std.proofs.Common.{arith}
+use Rattle.rv_select.proofs.Emitted.{if_ok, blocks_before}
+use Rattle.rv_select.proofs.emission.add_callers.Goals as goal
+
+pub returns : goal.returns
+returns c = if_ok c.add-2.result (λ last. blocks_before c.in_ok-add.ensures last (omega arith)) c.add-2.ensures
