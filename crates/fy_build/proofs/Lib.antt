@@ -1,0 +1,11 @@
+pub mod Prefixes
+pub mod CopyRuns
+pub mod MachineRuns
+pub mod Headlines
+pub mod Words
+pub mod Whole
+pub mod Agreeing
+pub mod Shown
+pub mod Selecting
+pub mod Refusals
+pub mod Imaging

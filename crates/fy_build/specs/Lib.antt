@@ -1,0 +1,7 @@
+pub mod Headline
+pub mod Agreement
+pub mod Laws
+pub mod Shown
+pub mod Building
+pub mod Errors
+pub mod Selecting
