@@ -5,15 +5,16 @@ use Rattle.std.specs.declared.option.Option.{Option}
 use Rattle.std.specs.declared.result.Result.{Result}
 use Rattle.std.specs.declared.result.Result.TheVariants.{Ok, Err}
 use Rattle.fy_base.specs.Outside.{Bytes, Folder, appended, GainedPart, Rose}
-use Rattle.fy_tool.specs.World.{Contents, Counts, Later}
-use Rattle.fy_tool.specs.Note.{ended_lines}
-use Rattle.fy_tool.specs.declared.world.Stop.{Stop}
-use Rattle.fy_tool.specs.declared.world.Stop.TheVariants.{Fetch, Keep, Input, Output, Notes, Memory}
+use Rattle.fy_world.specs.World.{Contents, Counts, Later}
+use Rattle.fy_world.specs.Note.{ended_lines}
+use Rattle.fy_world.specs.declared.world.Stop.{Stop}
+use Rattle.fy_world.specs.declared.world.Stop.TheVariants.{Fetch, Keep, Input, Output, Notes, Memory}
 use Rattle.fy_words.specs.Order.{Order}
-use Rattle.fy_tool.specs.Due.{Due}
-use Rattle.fy_tool.specs.Answers.{FilesPart, InputPart, Part, Serves, Concludes, last_line, IsLastLine, all_reads_of, all_keeps_of, Answers}
-use Rattle.fy_tool.proofs.Contents.{gained_both}
-use Rattle.fy_tool.proofs.Counting.{later_more, later_counted, caused_later, others_later}
+use Rattle.fy_world.specs.Runs.{Due}
+use Rattle.fy_world.specs.Did.{FilesPart, InputPart, Part}
+use Rattle.fy_tool.specs.Answers.{Serves, Concludes, last_line, IsLastLine, all_reads_of, all_keeps_of, Answers}
+use Rattle.fy_world.proofs.Contents.{gained_both}
+use Rattle.fy_world.proofs.Counting.{later_more, later_counted, caused_later, others_later}
 
 -- the last note touches nothing else
 part_files : (due : Due) (b c d : Contents) (stop : Stop) → d ≡ record c { notes = d.notes } → Part due b c stop → FilesPart due.kept stop b.files d.files
@@ -52,12 +53,8 @@ answer_outside : (order : Option Order) (b c d : Contents) (k k1 k2 : Counts) (s
 answer_outside order b c d k k1 k2 stop status other w e =
     let last = e.outside stop refl other in
     record {
-      content = w.content;
-      told = w.told;
       due = w.due;
-      input = w.input;
-      fed = w.fed;
-      is_due = w.is_due;
+      explained = w.explained;
       stop = stop;
       caused = λ _. (other, caused_later (all_reads_of order) (all_keeps_of order) stop k k1 k2 e.later w.counted.caused);
       others = λ _. others_later stop k k1 k2 e.others w.counted.others;
@@ -88,12 +85,8 @@ answer_done : (order : Option Order) (b c d : Contents) (k k1 k2 : Counts) (code
 answer_done order b c d k k1 k2 code status w e =
     let last = e.done code refl in
     record {
-      content = w.content;
-      told = w.told;
       due = w.due;
-      input = w.input;
-      fed = w.fed;
-      is_due = w.is_due;
+      explained = w.explained;
       stop = Notes;
       caused = λ seven. absurd (w.own.0 (sym last.0 ∙ seven));
       others = λ seven. absurd (w.own.0 (sym last.0 ∙ seven));
@@ -109,12 +102,8 @@ answer_done order b c d k k1 k2 code status w e =
 answer_memory : (order : Option Order) (b c d : Contents) (k k1 k2 : Counts) (status : ℕ) → Serves order b c k k1 (Err Memory) → Concludes (Err Memory) c d k1 k2 status → Answers order b d k k2 status
 answer_memory order b c d k k1 k2 status w e =
     record {
-      content = w.content;
-      told = w.told;
       due = w.due;
-      input = w.input;
-      fed = w.fed;
-      is_due = w.is_due;
+      explained = w.explained;
       stop = Notes;
       caused = λ seven. (λ clash. cc, rose_earlier _ _ _ w.counted.later.notes (e.lost refl seven).0);
       others = λ seven. others_later Notes k k1 k2 e.others (ap (λ (c : Counts). record c { notes = k1.notes }) w.counted.others);

@@ -3,7 +3,7 @@ use Rattle.std.proofs.Common.{◌≡◌, ℕ, ◌+◌, ◌<◌, ◌≤◌, List,
 use Rattle.std.specs.Prelude.{◌≢◌, ◌⊎◌, IfOk, MatchResult, Some, None, Ok, Err}
 use Rattle.std.specs.declared.option.Option.{Option}
 use Rattle.std.specs.declared.result.Result.{Result}
-use Rattle.fy_base.specs.Outside.{Bytes, GainedPart, appended}
+use Rattle.fy_base.specs.Outside.{Bytes}
 use Rattle.fy_types.specs.Names.{first_names}
 use Rattle.fy_lexer.specs.declared.error.LexError.{LexError}
 use Rattle.fy_lexer.specs.declared.error.LexError.TheVariants as lexing
@@ -42,33 +42,32 @@ use Rattle.pe_shapes.specs.Shaping.{most_shapes, most_pairs, IsShapeOf, IsPairOf
 use Rattle.pe_shapes.specs.declared.error.ShapeError.{ShapeError}
 use Rattle.pe_shapes.specs.declared.error.ShapeError.TheVariants as shaping
 use Rattle.fy_tool.specs.Checked.{lex_refusal, parse_refusal, expand_refusal, find_refusal, shapes_refusal, IsProgramText, IsInUse, IsShownBy, IsLeastShape, IsLeastPair, IsAccepted, IsRefusedFor, not_judged, too_large, no_command, many_shapes, many_entries, large_tables, HasNames}
-use Rattle.fy_tool.specs.declared.check.Program.{Program as ProgramOfText}
-use Rattle.fy_tool.specs.Working.{IsOfText}
-use Rattle.fy_tool.specs.declared.refusal.Refusal.{Refusal}
-use Rattle.fy_tool.specs.declared.refusal.Refusal.TheVariants as refusal
-use Rattle.fy_tool.specs.declared.world.Stop.{Stop}
-use Rattle.fy_tool.specs.declared.world.Stop.TheVariants.{Input, Output, Memory}
-use Rattle.fy_tool.specs.World.{Contents}
-use Rattle.fy_tool.specs.Due.{written}
-use Rattle.fy_tool.specs.Answers.{Did}
-use Rattle.fy_tool.proofs.Contents.{appended-nil, nothing}
+use Rattle.fy_tool.specs.declared.texts.Program.{Program as ProgramOfText}
+use Rattle.fy_tool.specs.Working.{IsOfText, IsUnjudged}
+use Rattle.fy_world.specs.declared.refusal.Refusal.{Refusal}
+use Rattle.fy_world.specs.declared.refusal.Refusal.TheVariants as refusal
+use Rattle.fy_world.specs.declared.world.Stop.{Stop}
 
 -- what a check of a text answers
-abbrev Checked : {T : Type 0} → (T → Type 0) → Bytes → Result (Result T Refusal) Stop → Type 0
-Checked P text result = IfOk result (λ found. MatchResult found P (IsRefusedFor text))
+abbrev Checked : {T : Type 0} → (T → Type 0) → (Refusal → Type 0) → Result (Result T Refusal) Stop → Type 0
+Checked P R result = IfOk result (λ found. MatchResult found P R)
 
 -- a refusal was found, or memory was wanting
 abbrev Found : {T : Type 0} → Option Refusal → Result (Result T Refusal) Stop → Type 0
 Found why result = IfOk result (λ found. MatchResult found (λ _. ⊥) (λ w. why ≡ Some w))
 
-found_so : {T : Type 0} (P : T → Type 0) (text : Bytes) (why : Option Refusal) (result : Result (Result T Refusal) Stop) → Found why result → ((w : Refusal) → why ≡ Some w → IsRefusedFor text w) → Checked P text result
-found_so P text why (Err stop) found is = tt
-found_so P text why (Ok (Ok x)) found is = absurd found
-found_so P text why (Ok (Err w)) found is = is w found
+found_so : {T : Type 0} (P : T → Type 0) (R : Refusal → Type 0) (why : Option Refusal) (result : Result (Result T Refusal) Stop) → Found why result → ((w : Refusal) → why ≡ Some w → R w) → Checked P R result
+found_so P R why (Err stop) found is = tt
+found_so P R why (Ok (Ok x)) found is = absurd found
+found_so P R why (Ok (Err w)) found is = is w found
 
 -- the predefined names are few
 pub few_first : (names : List Bytes) → names ≡ first_names → length names ≤ 3000000000
 few_first names e = let h : length first_names ≡ 13 = refl in omega (arith, h, ap length e)
+
+-- and so are those of a text
+pub few_names : (first names : List Bytes) (text : Bytes) → first ≡ first_names → length text ≤ 1048576 → length names ≤ length first + length text → length names ≤ 4000000000
+few_names first names text e short few = let h : length first_names ≡ 13 = refl in omega (arith, h, ap length e)
 
 pub has_tokens : (names after : List Bytes) (text : Bytes) (tokens : List Token) → length text ≤ 1048576 → names ≡ first_names → IsTokensOf names text tokens after → AreWithin tokens → HasTokens text tokens
 has_tokens names after text tokens short e read within = record { short = short; after = after; read = subst (λ n. IsTokensOf n text tokens after) e read; within = within }
@@ -86,20 +85,20 @@ lex_told lexing.TooManyTokens w e same = cc
 lex_told lexing.OutOfMemory w e same = cc
 
 pub not_lexed : {T : Type 0} (P : T → Type 0) (names : List Bytes) (text : Bytes) (error : LexError) (result : Result (Result T Refusal) Stop) → length text ≤ 1048576 → names ≡ first_names → IsFaultOf names text error
-    → Found (lex_refusal error) result → Checked P text result
+    → Found (lex_refusal error) result → Checked P (IsUnjudged text) result
 not_lexed P names text error result short e fault found =
-    found_so P text (lex_refusal error) result found
-    (λ w told. not_judged (tokens_refused error) (no_tokens short (subst (λ n. IsFaultOf n text error) e fault) (lex_told error w told)) told)
+    found_so P (IsUnjudged text) (lex_refusal error) result found
+    (λ w told. record { cause = tokens_refused error; is_judged = (no_tokens short (subst (λ n. IsFaultOf n text error) e fault) (lex_told error w told)); told = told })
 
 pub not_parsed : {T : Type 0} (P : T → Type 0) (text : Bytes) (tokens : List Token) (error : ParseError) (result : Result (Result T Refusal) Stop) → HasTokens text tokens → IsRefusal tokens error → Found (parse_refusal error) result
-    → Checked P text result
+    → Checked P (IsUnjudged text) result
 not_parsed P text tokens (parsing.Syntax place) result has is found =
-    found_so P text (Some (refusal.Syntax place)) result found
-    (λ w told. not_judged (syntax_refused place) (no_program has is) told)
+    found_so P (IsUnjudged text) (Some (refusal.Syntax place)) result found
+    (λ w told. record { cause = syntax_refused place; is_judged = (no_program has is); told = told })
 not_parsed P text tokens (parsing.TooDeep place) result has is found =
-    found_so P text (Some (refusal.Deep place)) result found
-    (λ w told. not_judged (depth_refused place) (too_deep has is) told)
-not_parsed P text tokens parsing.OutOfMemory result has is found = found_so P text None result found (λ w told. absurd cc)
+    found_so P (IsUnjudged text) (Some (refusal.Deep place)) result found
+    (λ w told. record { cause = depth_refused place; is_judged = (too_deep has is); told = told })
+not_parsed P text tokens parsing.OutOfMemory result has is found = found_so P (IsUnjudged text) None result found (λ w told. absurd cc)
 
 expand_told : (error : ExpandError) (w : Refusal) → expand_refusal error ≡ Some w → error ≢ expanding.OutOfMemory
 expand_told (expanding.UnknownName p) w e same = cc
@@ -116,12 +115,12 @@ expand_told expanding.OutOfMemory w e same = cc
 
 pub not_expanded : {T : Type 0} (P : T → Type 0) (text : Bytes) (tokens : List Token) (tree : written.Tree) (error : ExpandError) (result : Result (Result T Refusal) Stop) → HasTokens text tokens → IsTheProgram tokens tree
     → (error ≡ expanding.OutOfMemory) ⊎ ((text : Bytes) (tokens : List Token) → HasTokens text tokens → IsAllowed tokens tree → IsJudged text (Err (expansion_refused error)))
-    → Found (expand_refusal error) result → Checked P text result
+    → Found (expand_refusal error) result → Checked P (IsUnjudged text) result
 not_expanded P text tokens tree error result has program refused found =
-    found_so P text (expand_refusal error) result found
+    found_so P (IsUnjudged text) (expand_refusal error) result found
     (λ w told. elim refused [
       | inl memory ↦ absurd (expand_told error w told memory)
-      | inr is ↦ not_judged (expansion_refused error) (is text tokens has (is_allowed tokens tree program)) told
+      | inr is ↦ record { cause = expansion_refused error; is_judged = is text tokens has (is_allowed tokens tree program); told = told }
     ])
 
 -- ---- core phrases, and length
@@ -137,15 +136,21 @@ core_judged text tokens tree phrase has program is = is text tokens has (is_allo
 pub names_of : (names after : List Bytes) (text : Bytes) (tokens : List Token) → names ≡ first_names → IsTokensOf names text tokens after → HasNames text after
 names_of names after text tokens e read = record { tokens = tokens; read = subst (λ n. IsTokensOf n text tokens after) e read }
 
+pub unjudged_long : (text : Bytes) → 1048576 < length text → IsUnjudged text refusal.Length
+unjudged_long text longer = record { cause = length_refused; is_judged = judged.too_long longer; told = refl }
+
+pub refused_unjudged : (text : Bytes) (why : Refusal) → IsUnjudged text why → IsRefusedFor text why
+refused_unjudged text why is = not_judged is.cause is.is_judged is.told
+
 pub long_text : (text : Bytes) → 1048576 < length text → IsRefusedFor text refusal.Length
-long_text text longer = not_judged length_refused (judged.too_long longer) refl
+long_text text longer = refused_unjudged text refusal.Length (unjudged_long text longer)
 
 -- ---- typing
 
 -- what finding a derivation answers of a text with this core phrase
-pub not_found : {T : Type 0} (P : T → Type 0) (text : Bytes) (p : Tree) (error : FindError) (result : Result (Result T Refusal) Stop) → IsJudged text (Ok p) → IsFinding p (Err error) → Found (find_refusal error) result → Checked P text result
+pub not_found : {T : Type 0} (P : T → Type 0) (text : Bytes) (p : Tree) (error : FindError) (result : Result (Result T Refusal) Stop) → IsJudged text (Ok p) → IsFinding p (Err error) → Found (find_refusal error) result → Checked P (IsRefusedFor text) result
 not_found P text p (finding.NoType place) result is (within, none, blamed) found =
-    found_so P text (Some (refusal.NoType place)) result found
+    found_so P (IsRefusedFor text) (Some (refusal.NoType place)) result found
     (λ w told.
     let same : refusal.NoType (blame_of [] p) ≡ w = ap refusal.NoType (sym blamed) ∙ (let e : Some (refusal.NoType place) ≡ Some w = told in cc) in
     subst (λ r. IsRefusedFor text r) same (no_command_in p is within none))
@@ -153,9 +158,9 @@ not_found P text p (finding.NoType place) result is (within, none, blamed) found
     no_command_in : (p : Tree) → IsJudged text (Ok p) → KeepTypeLimits (visits 0 [] p) → ¬ HasType [] p (atom Comm) → IsRefusedFor text (refusal.NoType (blame_of [] p))
     no_command_in p is within none = no_command p is within none
 not_found P text p finding.TypeTooLarge result is passes found =
-    found_so P text (Some refusal.LeastSize) result found
+    found_so P (IsRefusedFor text) (Some refusal.LeastSize) result found
     (λ w told. let same : refusal.LeastSize ≡ w = cc in subst (λ r. IsRefusedFor text r) same (too_large p is passes))
-not_found P text p finding.OutOfMemory result is memory found = found_so P text None result found (λ w told. absurd cc)
+not_found P text p finding.OutOfMemory result is memory found = found_so P (IsRefusedFor text) None result found (λ w told. absurd cc)
 
 -- a phrase that a derivation concludes `comm` for is a command
 pub is_program : (text : Bytes) (p : Tree) (d : PlainDerivation) → IsJudged text (Ok p) → KeepTypeLimits (visits 0 [] p) → refusal_of (conclusion_of p d) ≡ None → IsProgramText text p
@@ -172,23 +177,23 @@ counted_more n F G f count = record { members = count.members; number = count.nu
 
 -- what finding the demand shapes of a derivation answers of a text with this core phrase
 pub not_shaped : {T : Type 0} (P : T → Type 0) (text : Bytes) (p : Tree) (d : PlainDerivation) (error : ShapeError) (result : Result (Result T Refusal) Stop) → IsShownBy text p d → IsShaping (Err error) p d → Found (shapes_refusal error) result
-    → Checked P text result
+    → Checked P (IsRefusedFor text) result
 not_shaped P text p d shaping.TooManyShapes result is many found =
-    found_so P text (Some refusal.Shapes) result found
+    found_so P (IsRefusedFor text) (Some refusal.Shapes) result found
     (λ w told.
     let same : refusal.Shapes ≡ w = cc in
     subst (λ r. IsRefusedFor text r) same (many_shapes p d is many (many_more (most_shapes + 1) (IsShapeOf p d) (IsLeastShape p) (λ s has. (has.0, shapes-least p d has.0 s has.1)) many)))
 not_shaped P text p d shaping.TooManyEntries result is (few, many) found =
-    found_so P text (Some refusal.Entries) result found
+    found_so P (IsRefusedFor text) (Some refusal.Entries) result found
     (λ w told.
     let same : refusal.Entries ≡ w = cc in
     subst (λ r. IsRefusedFor text r) same (many_entries p d is few many (many_more (most_pairs + 1) (IsPairOf p d) (IsLeastPair p) (λ x has. shapes-least p d x.0 x.1 has) many)))
 not_shaped P text p d shaping.TablesTooLarge result is (passes, few) found =
-    found_so P text (Some refusal.Tables) result found
+    found_so P (IsRefusedFor text) (Some refusal.Tables) result found
     (λ w told.
     let same : refusal.Tables ≡ w = cc in
     subst (λ r. IsRefusedFor text r) same (large_tables p d is passes few (counted_more passes.shapes (IsShapeOf p d) (IsLeastShape p) (λ s has. (has.0, shapes-least p d has.0 s has.1)) passes.counted)))
-not_shaped P text p d shaping.OutOfMemory result is memory found = found_so P text None result found (λ w told. absurd cc)
+not_shaped P text p d shaping.OutOfMemory result is memory found = found_so P (IsRefusedFor text) None result found (λ w told. absurd cc)
 
 -- the derivation of a program is in use
 abbrev pub in_use : {text : Bytes} {program : ProgramOfText} → IsOfText text program → IsInUse (reads program.phrase) (plain_derivation program.derivation)
@@ -196,22 +201,3 @@ in_use {text} {program} is = record { accepted = is.derived; table = program.tab
 
 pub is_accepted : {text : Bytes} {program : ProgramOfText} → IsOfText text program → IsAccepted text
 is_accepted {text} {program} is = record { phrase = reads program.phrase; is_program = is.is_program; derivation = plain_derivation program.derivation; in_use = in_use is }
-
--- ---- what is written
-
-pub written_put : (b c : Contents) (bytes : Bytes) (status : ℕ) → status ≡ 0 → c ≡ record b { output = appended b.output bytes } → Did (written bytes) b c (Ok status)
-written_put b c bytes status none_is put = (
-  none_is,
-  put ∙ (λ i. record { files = b.files; input = b.input; output = appended b.output bytes; notes = sym (appended-nil b.notes) i }),
-)
-
-pub written_part : (b c : Contents) (bytes : Bytes) (stop : Stop) → c ≡ record b { output = c.output } → GainedPart b.output c.output bytes → stop ≡ Output → Did (written bytes) b c (Err stop)
-written_part b c bytes stop rest part stop_is = record {
-  files = ap (λ (x : Contents). x.files) rest;
-  input = ap (λ (x : Contents). x.input) rest;
-  output = part;
-  notes = subst (λ n. GainedPart b.notes n []) (sym (ap (λ (x : Contents). x.notes) rest)) (nothing b.notes []);
-  unchanged = λ _. ap (λ (x : Contents). x.files) rest;
-  whole = λ memory. let clash : Output ≡ Memory = sym stop_is ∙ memory in absurd cc;
-  asks = λ input. let clash : Output ≡ Input = sym stop_is ∙ input in absurd cc;
-}

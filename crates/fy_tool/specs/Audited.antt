@@ -3,12 +3,13 @@ use Rattle.std.specs.Prelude.{ℕ, [], ◌∷◌, ◌⊎◌}
 use Rattle.std.specs.declared.result.Result.{Result}
 use Rattle.fy_image.specs.declared.image.Image.{Image}
 use Rattle.rv_guard.specs.Guarded.{IsGuarded, IsUnguardedAt}
-use Rattle.fy_tool.specs.World.{Contents}
-use Rattle.fy_tool.specs.Due.{audited, told}
-use Rattle.fy_tool.specs.Answers.{Did}
-use Rattle.fy_tool.specs.Working.{IsUnbegun}
-use Rattle.fy_tool.specs.declared.note.Note.TheVariants as note
-use Rattle.fy_tool.specs.declared.world.Stop.{Stop}
+use Rattle.fy_world.specs.World.{Contents}
+use Rattle.fy_world.specs.Runs.{told}
+use Rattle.fy_world.specs.Did.{Did}
+use Rattle.fy_world.specs.Working.{IsUnbegun}
+use Rattle.fy_world.specs.declared.note.Note.TheVariants as note
+use Rattle.fy_world.specs.declared.world.Stop.{Stop}
+use Rattle.fy_tool.specs.Due.{audited}
 
 -- the image is guarded, and that was written, or a part of it
 pub record WasPassed (image : Image) (before now : Contents) (result : Result ℕ Stop) : Type 0 where

@@ -1,7 +1,7 @@
 -- Which texts are accepted, and why the others are refused: by the first stage that refuses, where the stages are the length, the tokens,
 -- the syntax with its nesting, the expansion, the core limits, the typing with its limits, and the limits on the demand shapes of the
 -- derivation that is in use.
-use Rattle.std.specs.Prelude.{ℕ, ◌≡◌, ◌+◌, List, [], Some, None, Ok, Err}
+use Rattle.std.specs.Prelude.{◌≡◌, ℕ, ◌+◌, List, [], Some, None, Ok, Err}
 use Rattle.std.specs.declared.option.Option.{Option}
 use Rattle.fy_base.specs.Outside.{Bytes}
 use Rattle.fy_types.specs.Names.{first_names}
@@ -33,8 +33,8 @@ use Rattle.pe_shapes.specs.Counts.{HasMany, HasAtMost}
 use Rattle.pe_shapes.specs.Shaping.{most_shapes, most_pairs, IsShapeOf, IsPairOf, PassesWords, KeepsLimits as KeepsShapeLimits}
 use Rattle.pe_shapes.specs.declared.error.ShapeError.{ShapeError}
 use Rattle.pe_shapes.specs.declared.error.ShapeError.TheVariants as shaping
-use Rattle.fy_tool.specs.declared.refusal.Refusal.{Refusal}
-use Rattle.fy_tool.specs.declared.refusal.Refusal.TheVariants as refusal
+use Rattle.fy_world.specs.declared.refusal.Refusal.{Refusal}
+use Rattle.fy_world.specs.declared.refusal.Refusal.TheVariants as refusal
 
 -- the refusal that each error is; none where memory was wanting
 abbrev pub lex_refusal : LexError → Option Refusal

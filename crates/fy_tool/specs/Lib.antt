@@ -1,11 +1,7 @@
-pub mod World
-pub mod Note
-pub mod Shown
 pub mod Checked
-pub mod Steps
+pub mod Given
 pub mod Due
-pub mod Counted
 pub mod Answers
 pub mod Working
 pub mod Audited
-pub mod Stepping
+pub mod Complete

@@ -3,16 +3,15 @@
 ghost use Rattle.std.specs.Prelude.{◌≡◌, ◌≢◌, [], Some, Err, IfOk};
 ghost use Rattle.fy_image.specs.Ranges.{IsImage};
 ghost use Rattle.fy_words.specs.Order.{audit};
-ghost use Rattle.fy_tool.specs.Answers.{IsOwn, Serves};
+ghost use Rattle.fy_world.specs.Did.{IsOwn};
+ghost use Rattle.fy_tool.specs.Answers.{Serves};
 ghost use Rattle.fy_tool.specs.Audited.{Audits};
-ghost use Rattle.fy_tool.specs.Counted.{Counted};
+ghost use Rattle.fy_world.specs.Counted.{Counted};
 
-use crate::commands::{image_in, write};
-use crate::note::Note;
-use crate::tell::refuse;
-use crate::world::{Stop, World};
+use crate::exec::image_in;
 use fy_audit::{AuditError, audit};
 use fy_image::Image;
+use fy_world::{Note, Stop, World, refuse, write};
 use std::alloc::Global;
 
 // Judges an image: writes that it is guarded, or tells the word at which it isn't.

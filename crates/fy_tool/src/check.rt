@@ -1,122 +1,21 @@
-//! Texts that are checked.
+//! `check`: whether a text is a program.
 
-ghost use Rattle.std.specs.Prelude.{◌≡◌, ◌≢◌, ◌≤◌, [], ◌∷◌, length, Some, IfOk, IfErr, MatchResult};
-ghost use Rattle.fy_tool.specs.Counted.{Counted};
-ghost use Rattle.fy_tool.specs.Checked.{IsRefusedFor};
-ghost use Rattle.fy_tool.specs.Working.{Checks, IsCore, IsOfText};
+ghost use Rattle.std.specs.Prelude.{◌≡◌, Some};
+ghost use Rattle.fy_words.specs.Order.{check};
+ghost use Rattle.fy_tool.specs.Answers.{Serves};
 
-use crate::refusal::{
-    Refusal, expand_refusal, find_refusal, lex_refusal, parse_refusal, shapes_refusal,
-};
-use crate::world::{Stop, World};
-use fy_base::OutOfMemory;
-use fy_derive::Derivation;
-use fy_expand::expand;
-use fy_grammar::parse;
-use fy_least::find;
-use fy_lexer::lex;
-use fy_phrase::{Phrase, ShapeTable};
-use fy_types::Names;
-use pe_shapes::shapes_of;
+use crate::texts::program_in;
+use fy_world::{Note, Stop, World, refuse, write};
 use std::alloc::Global;
 
-// The most bytes that a text has.
-const TEXT_LIMIT: usize = 1_048_576;
-
-/// What a text stands for: its core phrase, a derivation that this is a command, the table of the
-/// derivation's demand shapes, and its names.
-#[derive(Debug, Drop)]
-pub(crate) struct Program {
-    pub phrase: Phrase,
-    pub derivation: Derivation,
-    pub table: ShapeTable,
-    pub names: Names,
-}
-
-// A core phrase, and the names of its text.
-#[derive(Debug, Drop)]
-pub(crate) struct Core {
-    pub phrase: Phrase,
-    pub names: Names,
-}
-
-// A refusal, or want of memory.
-fn refused<T: Drop>(why: Option<Refusal>) -> Result<Result<T, Refusal>, Stop>
-    ensures why { IfOk result (λ found. MatchResult found (λ _. ⊥) (λ w. why ≡ Some w)) }
-    ensures memory { IfErr result (λ stop. stop ≡ Stop.Memory) }
-{
-    match why {
-        Some(why) => Ok(Err(why)),
-        None => Err(Stop::Memory),
-    }
-}
-
-// The core phrase of a text, or why it has none.
-fn core_of(alloc: Global, text: &[u8]) -> Result<Result<Core, Refusal>, Stop>
-    requires { length text.now ≤ 1048576 }
-    ensures core { IfOk result (λ found. MatchResult found (IsCore text.now) (IsRefusedFor text.now)) }
-    ensures memory { IfErr result (λ stop. stop ≡ Stop.Memory) }
-{
-    let mut names = match Names::new(alloc) {
-        Ok(names) => names,
-        Err(OutOfMemory) => return Err(Stop::Memory),
-    };
-    let tokens = match lex(alloc, &mut names, text) {
-        Ok(tokens) => tokens,
-        Err(error) => return refused(lex_refusal(error)),
-    };
-    let tree = match parse(alloc, tokens.as_slice()) {
-        Ok(tree) => tree,
-        Err(error) => return refused(parse_refusal(error)),
-    };
-    match expand(alloc, &tree) {
-        Ok(phrase) => Ok(Ok(Core { phrase, names })),
-        Err(error) => refused(expand_refusal(error)),
-    }
-}
-
-// The program of a text, or why it is none.
-fn program_of(alloc: Global, text: &[u8]) -> Result<Result<Program, Refusal>, Stop>
-    requires { length text.now ≤ 1048576 }
-    ensures checked { IfOk result (λ found. MatchResult found (IsOfText text.now) (IsRefusedFor text.now)) }
-    ensures memory { IfErr result (λ stop. stop ≡ Stop.Memory) }
-{
-    let core = match core_of(alloc, text)? {
-        Ok(core) => core,
-        Err(why) => return Ok(Err(why)),
-    };
-    let derivation = match find(alloc, &core.phrase) {
-        Ok(derivation) => derivation,
-        Err(error) => return refused(find_refusal(error)),
-    };
-    match shapes_of(alloc, &core.phrase, &derivation) {
-        Ok(table) => Ok(Ok(Program {
-            phrase: core.phrase,
-            derivation,
-            table,
-            names: core.names,
-        })),
-        Err(error) => refused(shapes_refusal(error)),
-    }
-}
-
-/// The program of the text in a file, or why it is none. The stages are its length, its tokens, its
-/// syntax with its nesting, its expansion, the core limits, its typing with its limits, and the limits
-/// on the demand shapes of the derivation that is found; the first that refuses is told.
-pub(crate) fn program_in<W: World>(
-    alloc: Global,
-    file: &str,
-    world: &mut W,
-) -> Result<Result<Program, Refusal>, Stop>
-    ensures holds { W.holds world.new ≡ W.holds world.old }
-    ensures read { Checks file.now (W.holds world.old).files result }
-    ensures counted { Counted (file.now ∷ []) [] (W.counts world.old) (W.counts world.new) result }
-    ensures input { IfErr result (λ stop. stop ≢ Stop.Input) }
+/// Checks the text in a file.
+pub(crate) fn check_file<W: World>(alloc: Global, file: &str, world: &mut W) -> Result<u8, Stop>
+    ensures serves { Serves (Some (check file.now)) (W.holds world.old) (W.holds world.new) (W.counts world.old) (W.counts world.new) result }
     ensures same { W.names world.new ≡ W.names world.old }
 {
-    let Some(text) = world.fetch(alloc, file, TEXT_LIMIT)? else {
-        return Ok(Err(Refusal::Length));
-    };
-    let found = program_of(alloc, text.as_slice())?;
-    Ok(found)
+    match program_in(alloc, file, world) {
+        Err(stop) => Err(stop),
+        Ok(Err(why)) => refuse(2, Note::Refused(why), world),
+        Ok(Ok(_)) => write(b"accepted\n", world),
+    }
 }

@@ -2,18 +2,26 @@
 #![tactic(auto)]
 
 mod audit;
+mod build;
 mod check;
-mod commands;
-mod note;
-mod refusal;
-mod runs;
-mod shown;
-mod source;
-mod steps;
-mod tell;
+mod copy;
+mod derive;
+mod exec;
+mod given;
+mod laws;
+mod list;
+mod refused;
+mod run;
+mod sample;
+mod serve;
+mod texts;
 mod top;
 mod trace;
-mod world;
+mod wanted;
 
 pub use fy_words::{Command, command_of};
+pub use laws::{
+    images_are_accepted, named_derivations_are_accepted, runs_complete,
+    texts_within_limits_are_accepted,
+};
 pub use top::forsythe;

@@ -4,15 +4,36 @@ ghost use Rattle.std.specs.Prelude.{◌≡◌, map, string_bytes, IfSome};
 ghost use Rattle.std.specs.Option.{option_map};
 ghost use Rattle.fy_words.specs.Order.{command_from, order_of};
 ghost use Rattle.fy_words.specs.Order.{IsInRange};
-ghost use Rattle.fy_tool.specs.Answers.{Answers};
+ghost use Rattle.fy_tool.specs.Answers.{Answers, Concludes};
 
-use crate::commands::serve;
-use crate::note::Note;
-use crate::tell::{conclude, refuse};
-use crate::world::{Outside, World};
+use crate::serve::serve;
 use fy_base::{Files, Sink, Source};
 use fy_words::{Command, command_of};
+use fy_world::{Note, Outside, Stop, World, refuse, tell};
 use std::alloc::Global;
+
+// The status, and the last note where the outside failed or memory was wanting.
+fn conclude<W: World>(work: Result<u8, Stop>, world: &mut W) -> u8
+    ensures concludes { Concludes work (W.holds world.old) (W.holds world.new) (W.counts world.old) (W.counts world.new) result }
+    ensures same { W.names world.new ≡ W.names world.old }
+{
+    let note = match work {
+        Ok(status) => return status,
+        Err(Stop::Notes) => return 7,
+        Err(Stop::Memory) => {
+            return match tell(&[Note::Memory], world) {
+                Ok(()) => 9,
+                Err(_) => 7,
+            };
+        }
+        Err(Stop::Fetch) => Note::OutsideFiles,
+        Err(Stop::Keep) => Note::OutsideFiles,
+        Err(Stop::Input) => Note::OutsideInput,
+        Err(Stop::Output) => Note::OutsideOutput,
+    };
+    let _ = tell(&[note], world);
+    7
+}
 
 // Answers a command, or words that are none.
 fn answer<W: World>(alloc: Global, command: Option<Command>, world: &mut W) -> u8
@@ -38,12 +59,13 @@ fn answer<W: World>(alloc: Global, command: Option<Command>, world: &mut W) -> u
 /// |---|---|
 /// | 0 | done, or the program ended |
 /// | 1 | the program faulted |
-/// | 2 | `check`, `derive`, `copy` or `trace` refuses the text, or it can't be built yet: it has over 4,096 bytes or isn't of the small grammar |
+/// | 2 | the text is refused, or the shapes of the derivation in use pass a limit |
 /// | 3 | the stack was exhausted |
 /// | 4 | all the instructions or steps that were allowed are spent, or the next focus of the copy rule is too large to hold |
 /// | 5 | the words are no command |
 /// | 6 | the bytes are no image's |
 /// | 7 | a count of faults rose |
+/// | 8 | the derivation that is named is refused |
 /// | 9 | memory was wanting |
 /// | 10 | the image trapped |
 /// | 12 | the image that `audit` judges isn't guarded |

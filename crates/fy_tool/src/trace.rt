@@ -1,44 +1,55 @@
-//! The last instructions of a run.
+//! `trace`: a run of push-enter code, step by step.
 
-ghost use Rattle.std.specs.Prelude.{◌≡◌, [], IfOk, drop, slice_get};
-ghost use Rattle.circular_buffer.specs.Buffer.{buffer};
+ghost use Rattle.std.specs.Prelude.{◌≡◌, ◌≤◌, [], ◌⊎◌, Some, IfOk};
+ghost use Rattle.fy_words.specs.Order.{trace, trace_steps_wanted};
+ghost use Rattle.fy_world.specs.Counted.{Counted};
+ghost use Rattle.fy_world.specs.Did.{IsOwn};
+ghost use Rattle.fy_world.specs.Working.{IsUnbegun};
+ghost use Rattle.fy_tool.specs.Answers.{Serves};
+ghost use Rattle.fy_tool.specs.Working.{HasTraced, IsOfSomeText};
 
-use circular_buffer::HeapCircularBuffer;
+use crate::texts::{Program, program_in};
+use crate::wanted::trace_steps_wanted;
 use fy_base::OutOfMemory;
-use rv_machine::{Fetched, Watch};
+use fy_world::{Note, Stop, World, refuse, run_stepped};
+use pe_gen::generate;
 use std::alloc::Global;
 
-/// The last words that a run fetched, the oldest first.
-#[derive(Drop)]
-pub struct Trace {
-    pub(crate) words: HeapCircularBuffer<Fetched>,
-}
-
-impl Trace {
-    /// An empty trace, which keeps so many words.
-    pub fn new(alloc: Global, count: u32) -> Result<Trace, OutOfMemory>
-        ensures { IfOk result (λ trace. trace.words ≡ buffer [] count) }
-    {
-        Ok(Trace {
-            words: HeapCircularBuffer::with_capacity(alloc, count as usize)?,
-        })
-    }
-
-    /// Takes the oldest word.
-    pub fn pop(&mut self) -> Option<Fetched>
-        ensures word { result ≡ slice_get self.old.words.items 0 }
-        ensures rest { self.new.words.items ≡ drop 1 self.old.words.items }
-    {
-        self.words.pop_front()
+// Runs the push-enter code of a program, and tells each step.
+fn trace_program<W: World>(
+    alloc: Global,
+    program: &Program,
+    steps: u64,
+    world: &mut W,
+) -> Result<u8, Stop>
+    requires text { IsOfSomeText program.now }
+    requires steps { steps ≤ 1000000 }
+    ensures traced { IsUnbegun (W.holds world.old) (W.holds world.new) result
+        ⊎ HasTraced program.now steps (W.holds world.old) (W.holds world.new) result }
+    ensures own { IfOk result IsOwn }
+    ensures counted { Counted [] [] (W.counts world.old) (W.counts world.new) result }
+    ensures same { W.names world.new ≡ W.names world.old }
+{
+    match generate(alloc, &program.phrase, &program.table) {
+        Ok(code) => run_stepped(alloc, &code, &program.names, steps, world),
+        Err(OutOfMemory) => Err(Stop::Memory),
     }
 }
 
-impl Watch for Trace {
-    ghost room = { λ trace. trace.words.capacity };
-
-    ghost held = { λ trace. trace.words.items };
-
-    fn fetched(&mut self, pc: u64, word: u32) {
-        self.words.push_back(Fetched { pc, word });
+/// Runs the push-enter code of the text in a file, and tells each step.
+pub(crate) fn trace_file<W: World>(
+    alloc: Global,
+    file: &str,
+    steps: Option<u64>,
+    world: &mut W,
+) -> Result<u8, Stop>
+    requires { trace_steps_wanted steps ≤ 1000000 }
+    ensures serves { Serves (Some (trace file.now steps)) (W.holds world.old) (W.holds world.new) (W.counts world.old) (W.counts world.new) result }
+    ensures same { W.names world.new ≡ W.names world.old }
+{
+    match program_in(alloc, file, world) {
+        Err(stop) => Err(stop),
+        Ok(Err(why)) => refuse(2, Note::Refused(why), world),
+        Ok(Ok(program)) => trace_program(alloc, &program, trace_steps_wanted(steps), world),
     }
 }

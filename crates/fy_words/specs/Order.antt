@@ -1,5 +1,5 @@
 -- What the words ask for.
-use Rattle.std.specs.Prelude.{ℕ, ◌≤◌, ◌+◌, ◌-◌, ◌*◌, ◌&&◌, ◌||◌, not, true, false, nat_le, nat_eq, Bool, if◌then◌else◌, List, [], ◌∷◌, ◌++◌, length, drop, unwrap_or, Some, None, codes}
+use Rattle.std.specs.Prelude.{ℕ, ◌<◌, ◌≤◌, ◌+◌, ◌-◌, ◌*◌, ◌^◌, ◌&&◌, ◌||◌, not, true, false, nat_le, nat_eq, Bool, if◌then◌else◌, List, [], ◌∷◌, ◌++◌, length, drop, unwrap_or, option_and_then, Some, None, codes}
 use Rattle.std.specs.Fmt.{decimal}
 use Rattle.std.specs.List.{starts_with}
 use Rattle.std.specs.Option.{option_map, option_to_list}
@@ -13,24 +13,26 @@ use Rattle.fy_words.specs.declared.command.Command.TheVariants as command
 pub data Order : Type 0 where
   check : (file : Bytes) → Order
   derive : (file : Bytes) → Order
-  build : (file image : Bytes) (stack : Option ℕ) → Order
+  build : (file image : Bytes) (stack : Option ℕ) (derivation : Option Bytes) → Order
   exec : (image : Bytes) (steps last : Option ℕ) → Order
-  run : (file : Bytes) (steps stack : Option ℕ) (image : Option Bytes) → Order
+  run : (file : Bytes) (steps stack : Option ℕ) (derivation image : Option Bytes) → Order
   copy : (file : Bytes) (steps : Option ℕ) → Order
   trace : (file : Bytes) (steps : Option ℕ) → Order
   list : (file : Bytes) → Order
+  sample : (number size : ℕ) → Order
   audit : (image : Bytes) → Order
 
 -- the order that a command stands for
 abbrev pub order_of : Command → Order
 order_of (command.Check file) = check file.now
 order_of (command.Derive file) = derive file.now
-order_of (command.Build file image stack) = build file.now image.now stack
+order_of (command.Build file image stack derivation) = build file.now image.now stack (option_map (λ name. name.now) derivation)
 order_of (command.Exec image steps last) = exec image.now steps last
-order_of (command.Run file steps stack image) = run file.now steps stack (option_map (λ name. name.now) image)
+order_of (command.Run file steps stack derivation image) = run file.now steps stack (option_map (λ name. name.now) derivation) (option_map (λ name. name.now) image)
 order_of (command.Copy file steps) = copy file.now steps
 order_of (command.Trace file steps) = trace file.now steps
 order_of (command.List file) = list file.now
+order_of (command.Sample number size) = sample number size
 order_of (command.Audit image) = audit image.now
 
 -- ---- options and operands
@@ -85,6 +87,11 @@ abbrev pub only_operand : List Bytes → Option Bytes
 only_operand (word ∷ []) = name_of word
 only_operand _ = None
 
+-- the two operands
+abbrev pub both_operands : List Bytes → Option (Bytes × Bytes)
+both_operands (first ∷ second ∷ []) = Some (first, second)
+both_operands _ = None
+
 -- an option that stands among the words at most once: not among them, its value, or none where that isn't in form or stands twice
 abbrev pub at_most_once : {X : Type 0} → (Bytes → Option X) → List Bytes → Option (Option X)
 at_most_once form [] = Some None
@@ -93,6 +100,9 @@ at_most_once form (value ∷ other ∷ more) = None
 
 abbrev pub image_option : List Bytes → Option (Option Bytes)
 image_option words = at_most_once name_of (values (codes "--image=") words)
+
+abbrev pub derivation_option : List Bytes → Option (Option Bytes)
+derivation_option words = at_most_once name_of (values (codes "--derivation=") words)
 
 abbrev pub stack_option : List Bytes → Option (Option ℕ)
 stack_option words = at_most_once (number_in 1024 16777216) (values (codes "--stack=") words)
@@ -121,14 +131,16 @@ check_from words = if are_known [] words then option_map check (only_operand (op
 abbrev pub derive_from : List Bytes → Option Order
 derive_from words = if are_known [] words then option_map derive (only_operand (operands words)) else None
 
--- `build FILE --image=OUT [--stack=W]`
-abbrev pub build_with : Option Bytes → Option (Option Bytes) → Option (Option ℕ) → Option Order
-build_with (Some file) (Some (Some image)) (Some stack) = Some (build file image stack)
-build_with _ _ _ = None
+-- `build FILE --image=OUT [--stack=W] [--derivation=D]`
+abbrev pub build_with : Option Bytes → Option (Option Bytes) → Option (Option ℕ) → Option (Option Bytes) → Option Order
+build_with (Some file) (Some (Some image)) (Some stack) (Some derivation) = Some (build file image stack derivation)
+build_with _ _ _ _ = None
 
 abbrev pub build_from : List Bytes → Option Order
 build_from words =
-    if are_known (codes "--image=" ∷ codes "--stack=" ∷ []) words then build_with (only_operand (operands words)) (image_option words) (stack_option words) else None
+    if are_known (codes "--image=" ∷ codes "--stack=" ∷ codes "--derivation=" ∷ []) words
+    then build_with (only_operand (operands words)) (image_option words) (stack_option words) (derivation_option words)
+    else None
 
 -- `exec IMAGE [--steps=N] [--trace=K]`
 abbrev pub exec_with : Option Bytes → Option (Option ℕ) → Option (Option ℕ) → Option Order
@@ -139,14 +151,16 @@ abbrev pub exec_from : List Bytes → Option Order
 exec_from words =
     if are_known (codes "--steps=" ∷ codes "--trace=" ∷ []) words then exec_with (only_operand (operands words)) (steps_option words) (trace_option words) else None
 
--- `run FILE [--steps=N] [--stack=W] [--image=OUT]`
-abbrev pub run_with : Option Bytes → Option (Option ℕ) → Option (Option ℕ) → Option (Option Bytes) → Option Order
-run_with (Some file) (Some steps) (Some stack) (Some image) = Some (run file steps stack image)
-run_with _ _ _ _ = None
+-- `run FILE [--steps=N] [--stack=W] [--derivation=D] [--image=OUT]`
+abbrev pub run_with : Option Bytes → Option (Option ℕ) → Option (Option ℕ) → Option (Option Bytes) → Option (Option Bytes) → Option Order
+run_with (Some file) (Some steps) (Some stack) (Some derivation) (Some image) = Some (run file steps stack derivation image)
+run_with _ _ _ _ _ = None
 
 abbrev pub run_from : List Bytes → Option Order
 run_from words =
-    if are_known (codes "--steps=" ∷ codes "--stack=" ∷ codes "--image=" ∷ []) words then run_with (only_operand (operands words)) (steps_option words) (stack_option words) (image_option words) else None
+    if are_known (codes "--steps=" ∷ codes "--stack=" ∷ codes "--derivation=" ∷ codes "--image=" ∷ []) words
+    then run_with (only_operand (operands words)) (steps_option words) (stack_option words) (derivation_option words) (image_option words)
+    else None
 
 -- `copy FILE [--steps=M]`
 abbrev pub copy_with : Option Bytes → Option (Option ℕ) → Option Order
@@ -168,6 +182,17 @@ trace_from words = if are_known (codes "--steps=" ∷ []) words then trace_with 
 abbrev pub list_from : List Bytes → Option Order
 list_from words = if are_known [] words then option_map list (only_operand (operands words)) else None
 
+-- `sample NUMBER SIZE`
+abbrev pub sample_with : Option ℕ → Option ℕ → Option Order
+sample_with (Some number) (Some size) = Some (sample number size)
+sample_with _ _ = None
+
+abbrev pub sample_from : List Bytes → Option Order
+sample_from words =
+    if are_known [] words
+    then option_and_then (λ both. sample_with (number_in 0 4294967295 both.0) (number_in 1 2000 both.1)) (both_operands (operands words))
+    else None
+
 -- `audit IMAGE`
 abbrev pub audit_from : List Bytes → Option Order
 audit_from words = if are_known [] words then option_map audit (only_operand (operands words)) else None
@@ -184,8 +209,9 @@ command_from (name ∷ words) =
     else (if bytes_eq name (codes "copy") then copy_from words
     else (if bytes_eq name (codes "trace") then trace_from words
     else (if bytes_eq name (codes "list") then list_from words
+    else (if bytes_eq name (codes "sample") then sample_from words
     else (if bytes_eq name (codes "audit") then audit_from words
-    else None))))))))
+    else None)))))))))
 
 -- ---- what is wanted where no option says it
 
@@ -205,12 +231,13 @@ copy_wanted steps = unwrap_or steps 100000
 abbrev pub trace_steps_wanted : Option ℕ → ℕ
 trace_steps_wanted steps = unwrap_or steps 10000
 
--- an order whose image has a stack of a size that images have, or whose steps are few enough
+-- an order whose image has a stack of a size that images have, or whose steps are few enough, or whose sample has a size that samples have
 abbrev pub IsInRange : Order → Type 0
-IsInRange (build file image stack) = (1024 ≤ stack_wanted stack) × (stack_wanted stack ≤ 16777216)
-IsInRange (run file steps stack image) = (1024 ≤ stack_wanted stack) × (stack_wanted stack ≤ 16777216)
+IsInRange (build file image stack derivation) = (1024 ≤ stack_wanted stack) × (stack_wanted stack ≤ 16777216)
+IsInRange (run file steps stack derivation image) = (1024 ≤ stack_wanted stack) × (stack_wanted stack ≤ 16777216)
 IsInRange (copy file steps) = copy_wanted steps ≤ 1000000000
 IsInRange (trace file steps) = trace_steps_wanted steps ≤ 1000000
+IsInRange (sample number size) = (number < 2 ^ 32) × (1 ≤ size) × (size ≤ 2000)
 IsInRange (check file) = Unit {0}
 IsInRange (derive file) = Unit {0}
 IsInRange (exec image steps last) = Unit {0}

@@ -3,9 +3,9 @@
 ghost use Rattle.std.specs.Prelude.{◌≡◌, ◌≤◌, map, string_bytes, IfSome};
 ghost use Rattle.std.specs.Option.{option_map};
 ghost use Rattle.fy_words.specs.Order.{IsInRange, copy_wanted, trace_steps_wanted, stack_wanted};
-ghost use Rattle.fy_words.specs.Order.{stack_option, trace_option, steps_option, check_from, build_from, exec_from, run_from, list_from, command_from, order_of, copy_option, copy_from, trace_steps_option, trace_from, derive_from, audit_from};
+ghost use Rattle.fy_words.specs.Order.{stack_option, trace_option, steps_option, check_from, build_from, exec_from, run_from, list_from, sample_from, command_from, order_of, copy_option, copy_from, trace_steps_option, trace_from, derive_from, audit_from};
 
-use crate::words::{are_known, name_option, number_option, only_operand};
+use crate::words::{are_known, both_operands, name_option, number_in, number_option, only_operand};
 
 /// What the words ask for. An option that isn't among the words is `None`.
 #[derive(Clone, Copy)]
@@ -23,6 +23,7 @@ pub enum Command<'a> {
         file: &'a str,
         image: &'a str,
         stack: Option<u32>,
+        derivation: Option<&'a str>,
     },
     /// Runs an image.
     Exec {
@@ -35,6 +36,7 @@ pub enum Command<'a> {
         file: &'a str,
         steps: Option<u64>,
         stack: Option<u32>,
+        derivation: Option<&'a str>,
         image: Option<&'a str>,
     },
     /// Runs the text in the file by the copy rule.
@@ -50,6 +52,11 @@ pub enum Command<'a> {
     /// Lists the image of the text in the file.
     List {
         file: &'a str,
+    },
+    /// Makes the sample program of this number and this many statements, and runs it.
+    Sample {
+        number: u32,
+        size: u32,
     },
     /// Judges an image without its source.
     Audit {
@@ -127,18 +134,24 @@ fn derive_of(words: &[String]) -> Option<Command<'_>>
     Some(Command::Derive { file })
 }
 
-// `build FILE --image=OUT [--stack=W]`
+// `build FILE --image=OUT [--stack=W] [--derivation=D]`
 fn build_of(words: &[String]) -> Option<Command<'_>>
     ensures order { option_map order_of result ≡ build_from (map string_bytes words.now) }
     ensures stack { IfSome result (λ command. IsInRange (order_of command)) }
 {
-    if !are_known(&["--image=", "--stack="], words) {
+    if !are_known(&["--image=", "--stack=", "--derivation="], words) {
         return None;
     }
     let file = only_operand(words)?;
     let image = name_option("--image=", words)??;
     let stack = stack_option(words)?;
-    Some(Command::Build { file, image, stack })
+    let derivation = name_option("--derivation=", words)?;
+    Some(Command::Build {
+        file,
+        image,
+        stack,
+        derivation,
+    })
 }
 
 // `exec IMAGE [--steps=N] [--trace=K]`
@@ -159,22 +172,27 @@ fn exec_of(words: &[String]) -> Option<Command<'_>>
     })
 }
 
-// `run FILE [--steps=N] [--stack=W] [--image=OUT]`
+// `run FILE [--steps=N] [--stack=W] [--derivation=D] [--image=OUT]`
 fn run_of(words: &[String]) -> Option<Command<'_>>
     ensures order { option_map order_of result ≡ run_from (map string_bytes words.now) }
     ensures stack { IfSome result (λ command. IsInRange (order_of command)) }
 {
-    if !are_known(&["--steps=", "--stack=", "--image="], words) {
+    if !are_known(
+        &["--steps=", "--stack=", "--derivation=", "--image="],
+        words,
+    ) {
         return None;
     }
     let file = only_operand(words)?;
     let steps = steps_option(words)?;
     let stack = stack_option(words)?;
+    let derivation = name_option("--derivation=", words)?;
     let image = name_option("--image=", words)?;
     Some(Command::Run {
         file,
         steps,
         stack,
+        derivation,
         image,
     })
 }
@@ -217,6 +235,23 @@ fn list_of(words: &[String]) -> Option<Command<'_>>
     Some(Command::List { file })
 }
 
+// `sample NUMBER SIZE`
+fn sample_of(words: &[String]) -> Option<Command<'_>>
+    ensures order { option_map order_of result ≡ sample_from (map string_bytes words.now) }
+    ensures stack { IfSome result (λ command. IsInRange (order_of command)) }
+{
+    if !are_known(&[], words) {
+        return None;
+    }
+    let (number, size) = both_operands(words)?;
+    let number = number_in(0, 4_294_967_295, number)?;
+    let size = number_in(1, 2000, size)?;
+    Some(Command::Sample {
+        number: number as u32,
+        size: size as u32,
+    })
+}
+
 // `audit IMAGE`
 fn audit_of(words: &[String]) -> Option<Command<'_>>
     ensures order { option_map order_of result ≡ audit_from (map string_bytes words.now) }
@@ -248,6 +283,7 @@ pub fn command_of(words: &[String]) -> Option<Command<'_>>
         "copy" => copy_of(words),
         "trace" => trace_of(words),
         "list" => list_of(words),
+        "sample" => sample_of(words),
         "audit" => audit_of(words),
         _ => None,
     }

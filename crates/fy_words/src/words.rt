@@ -2,16 +2,17 @@
 
 ghost use Rattle.std.specs.Prelude.{◌≡◌, ◌≤◌, ◌<◌, ℕ, ◌^◌, ◌-◌, ◌∷◌, ◌++◌, [], List, min, not, ◌||◌, IfSome, map, string_bytes};
 ghost use Rattle.std.specs.Option.{option_map, option_to_list};
-ghost use Rattle.fy_words.specs.Order.{is_option, operands, behind, values, has_key, are_known, name_of, number_in, only_operand, at_most_once, number_from};
+ghost use Rattle.fy_words.specs.Order.{is_option, operands, behind, values, has_key, are_known, name_of, number_in, only_operand, both_operands, at_most_once, number_from};
 ghost use Rattle.fy_base.specs.Outside.{Bytes};
 ghost use Rattle.fy_words.specs.Words.{AreFound};
 
-// What was found among words: nothing, one text, or two and more.
+// What was found among words: nothing, one text, two, or three and more.
 #[derive(Clone, Copy)]
 pub(crate) enum Found<'a> {
     Nothing,
     Once(&'a str),
-    Twice,
+    Twice(&'a str, &'a str),
+    Often,
 }
 
 impl<'a> Found<'a> {
@@ -21,7 +22,8 @@ impl<'a> Found<'a> {
     {
         match self {
             Found::Nothing => Found::Once(text),
-            Found::Once(_) | Found::Twice => Found::Twice,
+            Found::Once(first) => Found::Twice(first, text),
+            Found::Twice(..) | Found::Often => Found::Often,
         }
     }
 
@@ -31,6 +33,16 @@ impl<'a> Found<'a> {
     {
         match self {
             Found::Once(text) if !text.is_empty() => Some(text),
+            _ => None,
+        }
+    }
+
+    // The two texts, if they are two.
+    fn both(self) -> Option<(&'a str, &'a str)>
+        ensures { (texts : List Bytes) → AreFound self.entry texts → option_map (λ both. (both.0.now, both.1.now)) result ≡ both_operands texts }
+    {
+        match self {
+            Found::Twice(first, second) => Some((first, second)),
             _ => None,
         }
     }
@@ -133,6 +145,13 @@ pub(crate) fn only_operand(words: &[String]) -> Option<&str>
     operands(words).only()
 }
 
+/// The two operands.
+pub(crate) fn both_operands(words: &[String]) -> Option<(&str, &str)>
+    ensures { option_map (λ both. (both.0.now, both.1.now)) result ≡ both_operands (operands (map string_bytes words.now)) }
+{
+    operands(words).both()
+}
+
 /// The value of an option that is a name, or `None` where it isn't in form or stands twice.
 pub(crate) fn name_option<'a>(key: &str, words: &'a [String]) -> Option<Option<&'a str>>
     ensures { option_map (λ name. option_map (λ text. text.now) name) result ≡ at_most_once name_of (values key.now (map string_bytes words.now)) }
@@ -157,8 +176,8 @@ fn number_of(text: &str) -> u64
     number
 }
 
-// The number in a range that is written so, in plain decimal.
-fn number_in(least: u64, most: u64, text: &str) -> Option<u64>
+/// The number in a range that is written so, in plain decimal.
+pub(crate) fn number_in(least: u64, most: u64, text: &str) -> Option<u64>
     requires { most < 2 ^ 63 }
     ensures number { result ≡ number_in least most text.now }
     ensures within { IfSome result (λ n. (least ≤ n) × (n ≤ most)) }
@@ -190,6 +209,6 @@ pub(crate) fn number_option(
             Some(number) => Some(Some(number)),
             None => None,
         },
-        Found::Twice => None,
+        _ => None,
     }
 }

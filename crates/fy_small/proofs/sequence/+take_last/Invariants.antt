@@ -1,4 +1,0 @@
-use Rattle.fy_small.proofs.sequence.+take_last.Given as goal
-
-abbrev pub decreases-take_last : goal.decreases-take_last
-decreases-take_last l = l.count

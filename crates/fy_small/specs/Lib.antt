@@ -1,4 +1,0 @@
-pub mod Small
-pub mod Reading
-pub mod Said
-pub mod Headline

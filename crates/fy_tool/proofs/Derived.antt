@@ -1,0 +1,114 @@
+-- Derivations that are named, and what they show of texts.
+use Rattle.std.proofs.Common.{◌≡◌, ℕ, ◌<◌, ◌≤◌, List, [], ◌∷◌, length, subst, sym, Some, None}
+use Rattle.std.specs.Prelude.{IfOk, Ok, Err}
+use Rattle.std.specs.declared.option.Option.{Option}
+use Rattle.std.specs.declared.result.Result.{Result}
+use Rattle.fy_base.specs.Outside.{Bytes, Folder, Tells}
+use Rattle.fy_derive.specs.Derivations.{PlainDerivation}
+use Rattle.fy_derive.specs.Judging.{conclusion_of, refusal}
+use Rattle.fy_derive.specs.Limits.{KeepsLimits}
+use Rattle.fy_derive.specs.Reading.{plain_derivation}
+use Rattle.fy_derive.specs.Shapes.{shape_table}
+use Rattle.fy_derive.specs.ShapeTables.{HasJustPairs}
+use Rattle.fy_derive.specs.declared.derivation.Derivation.{Derivation}
+use Rattle.fy_expand.specs.Judged.{IsJudged}
+use Rattle.fy_phrase.specs.Reads.{reads}
+use Rattle.fy_phrase.specs.Tree.{Tree}
+use Rattle.pe_shapes.specs.Shaping.{KeepsLimits as KeepsShapeLimits}
+use Rattle.fy_read.specs.FieldNames.{NumbersFields}
+use Rattle.fy_read.specs.Refusals.{KeepsThroughout}
+use Rattle.fy_world.proofs.Parts.{content_of}
+use Rattle.fy_world.specs.World.{Counts}
+use Rattle.fy_world.specs.Counted.{Faulted}
+use Rattle.fy_world.specs.declared.world.Stop.{Stop}
+use Rattle.fy_world.proofs.Counting.{counted_behind, faulted_after}
+use Rattle.fy_world.specs.declared.note.Note.{Note}
+use Rattle.fy_world.specs.declared.note.Note.TheVariants as note
+use Rattle.fy_world.specs.declared.refusal.Refusal.{Refusal}
+use Rattle.fy_tool.specs.Checked.{IsRefusedFor}
+use Rattle.fy_tool.specs.Given.{Spells, handed, unread, wrong, too_long, by_text, before_typing, by_derivation, by_shapes}
+use Rattle.fy_tool.specs.Working.{IsCore, IsOfText, IsUnjudged, ReadFrom, Tables, ChecksGiven, GivenBy, WasGiven}
+use Rattle.fy_tool.specs.declared.given.TurnedDown.{TurnedDown}
+use Rattle.fy_tool.specs.declared.texts.Core.{Core}
+use Rattle.fy_tool.specs.declared.texts.Program.{Program}
+use Rattle.fy_tool.proofs.ImageCommands.{given_found}
+
+-- what a derivation that spells from a text's names shows of the text
+spells : (text written : Bytes) (core : Core) (after : List Bytes) (d : PlainDerivation) → length written ≤ 16777216 → IsCore text core → NumbersFields core.names after d written → KeepsLimits d → KeepsThroughout written → Spells text written d
+spells text written core after d short is numbers limits keeps = record { short = short; names = core.names; named = is.named; after = after; numbers = numbers; limits = limits; keeps = keeps }
+
+-- the derivation is in use
+pub given_in_use : (core : Core) (written : Bytes) (after : List Bytes) (program : Program) → length written ≤ 16777216 → ReadFrom core.names after written (Ok program.derivation) → reads program.phrase ≡ reads core.phrase
+    → refusal (conclusion_of (reads core.phrase) (plain_derivation program.derivation)) ≡ None → Tables (reads core.phrase) (plain_derivation program.derivation) (Ok program.table) → GivenBy core written (Ok program)
+given_in_use core written after program short read same accepted tabled = λ text name is.
+    let d = plain_derivation program.derivation in
+    let spelled = spells text written core after d short is read.0 read.1 read.2 in
+    let P : Tree → Type 0 = λ p. IsJudged text (Ok p) × (refusal (conclusion_of p d) ≡ None) × HasJustPairs program.table (shape_table p d) × KeepsShapeLimits p program.table in
+    let moved = subst P (sym same) (is.is_judged, accepted, tabled.0, tabled.1) in
+    record {
+      is_judged = moved.0;
+      given = handed name written moved.0 spelled;
+      derived = moved.1;
+      table_is = moved.2;
+      table_limits = moved.3;
+    }
+
+-- judging stops at a node
+pub given_wrong : (core : Core) (written : Bytes) (after : List Bytes) (d : Derivation) (node : ℕ) → length written ≤ 16777216 → ReadFrom core.names after written (Ok d) → refusal (conclusion_of (reads core.phrase) (plain_derivation d)) ≡ Some node
+    → GivenBy core written (Err (record { status = 8; note = note.DerivationNode node }))
+given_wrong core written after d node short read at = λ text name is.
+    by_derivation name written (reads core.phrase) (note.DerivationNode node) is.is_judged (wrong (plain_derivation d) node (spells text written core after (plain_derivation d) short is read.0 read.1 read.2) at)
+
+-- its shapes pass a limit
+pub given_passing : (core : Core) (written : Bytes) (after : List Bytes) (d : Derivation) (why : Refusal) → length written ≤ 16777216 → ReadFrom core.names after written (Ok d) → refusal (conclusion_of (reads core.phrase) (plain_derivation d)) ≡ None
+    → Tables (reads core.phrase) (plain_derivation d) (Err why) → GivenBy core written (Err (record { status = 2; note = note.Refused why }))
+given_passing core written after d why short read accepted passed = λ text name is.
+    by_shapes name written (reads core.phrase) (plain_derivation d) passed.0 why is.is_judged (spells text written core after (plain_derivation d) short is read.0 read.1 read.2) accepted passed.1 passed.2
+
+-- no derivation was read
+pub given_unread : (core : Core) (written : Bytes) (after : List Bytes) (why : Note) → length written ≤ 16777216 → ReadFrom core.names after written (Err why) → GivenBy core written (Err (record { status = 8; note = why }))
+given_unread core written after why short read = λ text name is. by_derivation name written (reads core.phrase) why is.is_judged (unread read.0 why short read.1 read.2)
+
+-- ---- files
+
+pub was_given : (file name : Bytes) (files : Option Folder) (text written : Bytes) (core : Core) (found : Result Program TurnedDown) → Tells files file (Some text) → Tells files name (Some written) → IsCore text core → GivenBy core written found
+    → WasGiven file (Some name) files found
+was_given file name files text written core found told told_named is given = record { text = text; told = told; written = Some written; told_named = told_named; is = given text name is }
+
+pub all_given : (file name : Bytes) (files : Option Folder) (text written : Bytes) (core : Core) (result : Result (Result Program TurnedDown) Stop) → Tells files file (Some text) → Tells files name (Some written) → IsCore text core
+    → IfOk result (GivenBy core written) → ChecksGiven file (Some name) files result
+all_given file name files text written core (Ok found) told told_named is given = was_given file name files text written core found told told_named is given
+all_given file name files text written core (Err stop) told told_named is given = tt
+
+-- too many bytes are written
+pub was_long : (file name : Bytes) (files : Option Folder) (text written : Bytes) (core : Core) → Tells files file (Some text) → Tells files name (Some written) → IsCore text core → 16777216 < length written
+    → WasGiven file (Some name) files (Err (record { status = 8; note = note.DerivationLength }))
+was_long file name files text written core told told_named is longer = record {
+  text = text;
+  told = told;
+  written = Some written;
+  told_named = told_named;
+  is = by_derivation name written (reads core.phrase) note.DerivationLength is.is_judged (too_long longer);
+}
+
+-- the text has no core phrase
+pub was_unjudged : (file name : Bytes) (files : Option Folder) (text : Bytes) (why : Refusal) → Tells files file (Some text) → IsUnjudged text why → WasGiven file (Some name) files (Err (record { status = 2; note = note.Refused why }))
+was_unjudged file name files text why told is =
+    let named = content_of files name in
+    record { text = text; told = told; written = named.0; told_named = named.1; is = before_typing name named.0 is.cause why is.is_judged is.told }
+
+-- no derivation is named
+pub was_found : (file : Bytes) (files : Option Folder) (text : Bytes) (program : Program) → Tells files file (Some text) → IsOfText text program → WasGiven file None files (Ok program)
+was_found file files text program told is = record { text = text; told = told; written = None; told_named = tt; is = given_found text None program is }
+
+pub was_refused : (file : Bytes) (files : Option Folder) (text : Bytes) (why : Refusal) → Tells files file (Some text) → IsRefusedFor text why → WasGiven file None files (Err (record { status = 2; note = note.Refused why }))
+was_refused file files text why told is = record { text = text; told = told; written = None; told_named = tt; is = by_text None why is }
+
+-- ---- counts
+
+abbrev failed : Stop → Result ℕ Stop
+failed stop = Err stop
+
+-- the second file wasn't fetched
+pub second_faulted : (file name : Bytes) (k k1 k2 : Counts) (stop : Stop) → k1 ≡ k → Faulted (name ∷ []) [] stop k1 k2 → Faulted (file ∷ name ∷ []) [] stop k k2
+second_faulted file name k k1 k2 stop same fault = faulted_after (file ∷ name ∷ []) [] stop k k1 k2 same (counted_behind file (name ∷ []) [] k1 k2 (failed stop) fault)

@@ -1,9 +1,0 @@
-use Rattle.std.proofs.Common.{refl}
-use Rattle.fy_image.specs.declared.error.ImageError.TheVariants.{TooLarge}
-use Rattle.fy_tool.proofs.Judging.{too_long}
-use Rattle.fy_tool.proofs.commands.image_in.Goals as goal
-
-pub returns-in_default-clause-read : goal.returns-in_default-clause-read
-returns-in_default-clause-read g c =
-    let long = rw c.in_default.is at c.in_ok-bytes.ensures.content in
-    (long.content, long.told, (TooLarge, too_long long.content long.longer, refl))

@@ -1,0 +1,13 @@
+use Rattle.fy_tool.proofs.Checking.{long_text}
+use Rattle.fy_tool.proofs.texts.program_in.Goals as goal
+
+pub returns-in_default-clause-read : goal.returns-in_default-clause-read
+returns-in_default-clause-read g c =
+    let long = rw c.in_default.is at c.in_ok-text.ensures.content in
+    (long.content, long.told, long_text long.content long.longer)
+
+pub returns-clause-read : goal.returns-clause-read
+returns-clause-read g c =
+    let content = rw c.in-Some.is at c.in_ok-text.ensures.content in
+    let checked = rw c.as_slice.ensures.value at c.in_ok-found.ensures.checked in
+    (c.in-Some.text.items, content.0, checked)

@@ -1,0 +1,55 @@
+-- Which phrase and which derivation an order works with: the derivation that it names, or else one that the text has; and why it does nothing.
+use Rattle.std.specs.Prelude.{◌≡◌, ℕ, ◌<◌, ◌≤◌, List, length, Some, None, Ok, Err}
+use Rattle.std.specs.declared.option.Option.{Option}
+use Rattle.fy_base.specs.Outside.{Bytes}
+use Rattle.fy_phrase.specs.Tree.{Tree}
+use Rattle.fy_expand.specs.Judged.{IsJudged}
+use Rattle.fy_expand.specs.Judged as judged
+use Rattle.fy_derive.specs.Derivations.{PlainDerivation}
+use Rattle.fy_derive.specs.Judging.{conclusion_of, refusal as refusal_of}
+use Rattle.fy_derive.specs.Limits.{KeepsLimits}
+use Rattle.fy_read.specs.FieldNames.{NumbersFields}
+use Rattle.fy_read.specs.Refusals.{IsReadFault, KeepsThroughout}
+use Rattle.fy_read.specs.declared.error.ReadError.{ReadError}
+use Rattle.pe_shapes.specs.Shaping.{IsShaping}
+use Rattle.pe_shapes.specs.declared.error.ShapeError.{ShapeError}
+use Rattle.fy_world.specs.Note.{read_note}
+use Rattle.fy_world.specs.declared.note.Note.{Note}
+use Rattle.fy_world.specs.declared.note.Note.TheVariants as note
+use Rattle.fy_world.specs.declared.refusal.Refusal.{Refusal}
+use Rattle.fy_tool.specs.Checked.{IsProgramText, IsRefusedFor, HasNames, told_as, shapes_refusal}
+
+-- the most bytes of the text of a derivation
+abbrev pub most_written : ℕ
+most_written = 16777216
+
+-- what is written spells the derivation, which keeps its limits, as the text throughout does those on texts, with its fields numbered by the names of the text
+pub record Spells (text written : Bytes) (d : PlainDerivation) : Type 0 where
+  pub short : length written ≤ most_written
+  pub names : List Bytes
+  pub named : HasNames text names
+  pub after : List Bytes
+  pub numbers : NumbersFields names after d written
+  pub limits : KeepsLimits d
+  pub keeps : KeepsThroughout written
+
+-- what is written is refused as a derivation for the phrase: it is too long, it can't be read as one, or judging stops at a node
+pub data IsDerivationRefused (text : Bytes) (p : Tree) (written : Bytes) : Note → Type 0 where
+  too_long : most_written < length written → IsDerivationRefused text p written note.DerivationLength
+  unread : (error : ReadError) (why : Note) → length written ≤ most_written → IsReadFault written error → read_note error ≡ Some why → IsDerivationRefused text p written why
+  wrong : (d : PlainDerivation) (node : ℕ) → Spells text written d → refusal_of (conclusion_of p d) ≡ Some node → IsDerivationRefused text p written (note.DerivationNode node)
+
+-- the text has the phrase, and the derivation is the one that is named, or else any that shows it to be a command within the limits on types
+pub data IsGiven (text : Bytes) (p : Tree) (d : PlainDerivation) : Option Bytes → Option Bytes → Type 0 where
+  found : (written : Option Bytes) → IsProgramText text p → IsGiven text p d None written
+  handed : (name written : Bytes) → IsJudged text (Ok p) → Spells text written d → IsGiven text p d (Some name) (Some written)
+
+-- with which status and note an order on the text does nothing: the text is refused, or the derivation that is named is, or the shapes of that derivation are.
+-- Where a derivation is named, typing refuses no text
+pub data IsTurnedDown (text : Bytes) : Option Bytes → Option Bytes → ℕ → Note → Type 0 where
+  by_text : (written : Option Bytes) (why : Refusal) → IsRefusedFor text why → IsTurnedDown text None written 2 (note.Refused why)
+  before_typing : (name : Bytes) (written : Option Bytes) (cause : judged.Refusal) (why : Refusal) → IsJudged text (Err cause) → told_as cause ≡ Some why
+      → IsTurnedDown text (Some name) written 2 (note.Refused why)
+  by_derivation : (name written : Bytes) (p : Tree) (why : Note) → IsJudged text (Ok p) → IsDerivationRefused text p written why → IsTurnedDown text (Some name) (Some written) 8 why
+  by_shapes : (name written : Bytes) (p : Tree) (d : PlainDerivation) (error : ShapeError) (why : Refusal) → IsJudged text (Ok p) → Spells text written d
+      → refusal_of (conclusion_of p d) ≡ None → IsShaping (Err error) p d → shapes_refusal error ≡ Some why → IsTurnedDown text (Some name) (Some written) 2 (note.Refused why)

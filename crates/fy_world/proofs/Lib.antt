@@ -1,0 +1,15 @@
+pub mod Contents
+pub mod Counting
+pub mod Endings
+pub mod Lines
+pub mod WholeRuns
+pub mod Parts
+pub mod Executing
+pub mod Copying
+pub mod Tracing
+pub mod Keeping
+pub mod Sampling
+pub mod Stepwise
+pub mod StepLines
+pub mod StepRuns
+pub mod Listing

@@ -1,0 +1,10 @@
+use Rattle.fy_world.proofs.Keeping.{ran_kept, ran_unkept}
+use Rattle.fy_world.proofs.images.keep_and_run.Goals as goal
+
+pub returns-in-Ok-keep_image-clause-runs : goal.returns-in-Ok-keep_image-clause-runs
+returns-in-Ok-keep_image-clause-runs g c =
+    ran_kept c.args.image.now c.in-Ok.machine.program c.in-Ok.machine.core c.args.steps c.args.name.now _ (g.W.World.holds c.keep_image.new.world) _ c.in-Ok-keep_image.field-0 c.run_machine.result c.in-Ok.ensures.program c.in-Ok.ensures.start c.in-Ok-keep_image.ensures.keeps
+    c.run_machine.ensures.run c.run_machine.ensures.memory
+
+pub returns-clause-runs : goal.returns-clause-runs
+returns-clause-runs g c = ran_unkept c.args.image.now c.in-Ok.machine.program c.args.steps c.args.name.now _ _ c.in-Err-keep_image.stop c.in-Ok.ensures.program c.in-Err-keep_image.ensures.keeps

@@ -1,0 +1,9 @@
+pub mod World
+pub mod Counted
+pub mod Note
+pub mod Shown
+pub mod Steps
+pub mod Runs
+pub mod Did
+pub mod Working
+pub mod Stepping

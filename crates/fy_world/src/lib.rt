@@ -1,0 +1,20 @@
+//! All that a call touches, and what is done with it: notes, listings, kept images and runs.
+#![tactic(auto)]
+
+mod images;
+mod note;
+mod refusal;
+mod runs;
+mod shown;
+mod steps;
+mod telling;
+mod trace;
+mod world;
+
+pub use images::{execute, keep_and_run, keep_and_sample, keep_image, list_image};
+pub use note::{Note, read_note, refusal_note};
+pub use refusal::Refusal;
+pub use runs::run_copied;
+pub use steps::run_stepped;
+pub use telling::{refuse, tell, write};
+pub use world::{Outside, Stop, World};
