@@ -14,7 +14,9 @@ pub use arithmetic::{Applied, apply_binary, apply_unary, put_text};
 pub use data::{BinOp, Datum, Ending, FaultKind, Place, PutKind, TrapKind, UnOp};
 pub use error::OutOfMemory;
 pub use list::{DoubleList, ListOf, PlaceList, Text, WordList};
-pub use memory::{MemoryFiles, MemorySink, MemorySource, SteadyFiles, SteadySink, SteadySource};
+pub use memory::{
+    MemoryFiles, MemorySink, MemorySource, SteadyFiles, SteadySink, SteadySource, TornSink,
+};
 pub use outside::{Failed, FetchError, Files, KeepError, Sink, Source, next_byte};
 pub use real::{RealFiles, RealSink, RealSource};
 

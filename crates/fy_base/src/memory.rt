@@ -236,6 +236,76 @@ impl Sink for MemorySink {
     }
 }
 
+/// A sink that tears the piece of one call, counted from 0: it appends so many of the piece's first
+/// bytes, or all where it is shorter, and then fails. Like the other sinks in memory, it fails and
+/// appends nothing where its room would be passed.
+#[derive(Debug, Drop)]
+pub struct TornSink {
+    steady: SteadySink,
+    call: u64,
+    count: usize,
+    made: u64,
+    faults: u64,
+}
+
+impl TornSink {
+    /// A sink with room for so many bytes, which tears the piece of the call of this number after so
+    /// many bytes. It takes all memory that there will be.
+    pub fn new(alloc: Global, room: usize, call: u64, count: usize) -> Result<TornSink, OutOfMemory>
+        ensures held { IfOk result (λ s. ⟦<TornSink as Sink>⟧.held s ≡ Some []) }
+        ensures room { IfOk result (λ s. s.steady.room ≡ room) }
+        ensures tears { IfOk result (λ s. (s.call ≡ call) × (s.count ≡ count) × (s.made ≡ 0)) }
+    {
+        let steady = SteadySink::new(alloc, room)?;
+        Ok(TornSink {
+            steady,
+            call,
+            count,
+            made: 0,
+            faults: 0,
+        })
+    }
+
+    /// The bytes held.
+    pub fn bytes(&self) -> &[u8]
+        ensures { Some result.now ≡ ⟦<TornSink as Sink>⟧.held self.now }
+    {
+        self.steady.bytes()
+    }
+}
+
+impl Sink for TornSink {
+    ghost held = { λ s. ⟦<SteadySink as Sink>⟧.held s.steady };
+
+    ghost faults = { λ s. s.faults };
+
+    fn put(&mut self, piece: &[u8]) -> Result<(), Failed>
+        ensures gained { OnOk result (Gained (Some self.old.steady.bytes.items) (Some self.new.steady.bytes.items) piece.now) }
+        ensures part { OnErr result (GainedPart (Some self.old.steady.bytes.items) (Some self.new.steady.bytes.items) piece.now) }
+        ensures cause { HasCause self.old.faults self.new.faults result }
+        ensures as_told { self.old.made ≡ self.old.call → IsErr result }
+        ensures torn { self.old.made ≡ self.old.call → vec_len self.old.steady.bytes + min self.old.count (length piece.now) ≤ self.old.steady.room → self.new.steady.bytes.items ≡ self.old.steady.bytes.items ++ take self.old.count piece.now }
+        ensures otherwise { (self.old.made ≡ self.old.call → ⊥) → (IsErr result ↔ (self.old.steady.room < vec_len self.old.steady.bytes + length piece.now)) }
+        ensures nothing { IsErr result → (self.old.made ≡ self.old.call → self.old.steady.room < vec_len self.old.steady.bytes + min self.old.count (length piece.now)) → self.new.steady.bytes.items ≡ self.old.steady.bytes.items }
+        ensures counted { self.new.made ≡ next_count self.old.made }
+        ensures rest { (self.new.steady.room ≡ self.old.steady.room) × (self.new.call ≡ self.old.call) × (self.new.count ≡ self.old.count) }
+        ensures fault { OnErr result (self.new.faults ≡ next_count self.old.faults) }
+    {
+        let tears = self.made == self.call;
+        self.made = self.made.saturating_add(1);
+        let part = if tears {
+            &piece[..self.count.min(piece.len())]
+        } else {
+            piece
+        };
+        if self.steady.put(part).is_ok() && !tears {
+            return Ok(());
+        }
+        self.faults = self.faults.saturating_add(1);
+        Err(Failed)
+    }
+}
+
 // A name and the file's bytes.
 #[derive(Debug, Drop)]
 struct Entry {

@@ -1,7 +1,7 @@
 use crate::{
     Applied, BinOp, Datum, Failed, FaultKind, FetchError, Files, KeepError, MemoryFiles,
     MemorySink, MemorySource, PutKind, RealFiles, RealSink, RealSource, Sink, Source, SteadyFiles,
-    SteadySink, SteadySource, Text, UnOp, apply_binary, apply_unary, put_text,
+    SteadySink, SteadySource, Text, TornSink, UnOp, apply_binary, apply_unary, put_text,
 };
 use std::test::Fail;
 
@@ -80,6 +80,11 @@ fn sinks_hold_and_fail(rt: HostRuntime) -> Result<(), Fail> {
     assert_eq!(rt; failing.put(b"b"), Err(Failed));
     assert_eq!(rt; failing.put(b"c"), Ok(()));
     assert_eq!(rt; failing.bytes(), b"ac".as_slice());
+    let mut torn = TornSink::new(alloc, 5, 1, 2)?;
+    assert_eq!(rt; torn.put(b"a"), Ok(()));
+    assert_eq!(rt; torn.put(b"bcd"), Err(Failed));
+    assert_eq!(rt; torn.put(b"ef"), Ok(()));
+    assert_eq!(rt; torn.bytes(), b"abcef".as_slice());
     let mut real = RealSink::new(Vec::new(alloc));
     assert_eq!(rt; real.put(b"ab"), Ok(()));
     Ok(())
