@@ -31,7 +31,7 @@ use Rattle.fy_world.specs.declared.note.Note.{Note}
 use Rattle.fy_world.specs.declared.world.Stop.{Stop}
 use Rattle.fy_world.specs.declared.world.Stop.TheVariants.{Memory}
 use Rattle.fy_tool.specs.Audited.{Audits}
-use Rattle.fy_tool.specs.Due.{Sources, IsBuilt, HasRun as RunsBuilt, IsReadyFirst, image_of, kept_as, unread, builds, lists, executes, runs, samples, audits, unguarded}
+use Rattle.fy_tool.specs.Due.{Sources, IsBuilt, RunsBuilt, IsReadyFirst, image_of, kept_as, unread, builds, lists, executes, runs, samples, audits, unguarded}
 use Rattle.fy_tool.specs.Answers.{Serves}
 use Rattle.fy_tool.specs.Working.{IsOfText, IsGivenFor, IsImageFor, Builds, BuildsAndRuns, BuildsAndSamples, Lists}
 use Rattle.fy_tool.specs.Given.{found}

@@ -9,7 +9,8 @@ use Rattle.fy_base.specs.Outside.{Bytes, Folder}
 use Rattle.fy_words.specs.Order.{Order}
 use Rattle.fy_world.specs.World.{Contents, Counts}
 use Rattle.fy_world.specs.Counted.{Faulted, Counted}
-use Rattle.fy_world.specs.Runs.{AreBytes, Due, told}
+use Rattle.fy_build.specs.Headline.{AreBytes}
+use Rattle.fy_world.specs.Runs.{Due, told}
 use Rattle.fy_world.specs.Did.{Did, IsOwn}
 use Rattle.fy_world.specs.Working.{IsUnbegun}
 use Rattle.fy_world.specs.declared.note.Note.{Note}

@@ -21,7 +21,7 @@ use Rattle.fy_words.specs.Order.{steps_wanted}
 use Rattle.fy_world.specs.declared.note.Note.{Note}
 use Rattle.fy_tool.specs.Checked.{IsProgramText, IsInUse, IsLeastShape, IsLeastPair}
 use Rattle.fy_tool.specs.Given.{Spells, IsTurnedDown}
-use Rattle.fy_tool.specs.Due.{HasRun}
+use Rattle.fy_tool.specs.Due.{RunsBuilt}
 
 -- the shapes of a phrase's least types keep their limits
 pub record LeastShapesFit (p : Tree) : Type 0 where
@@ -44,7 +44,7 @@ NamedDerivationIsAccepted = (text name written : Bytes) (p : Tree) (d : PlainDer
 -- a run of an image whose copy rule is over within the stack, and whose instructions suffice, is over in the same way
 abbrev pub RunCompletes : Type 0
 RunCompletes = (text : Bytes) (named derivation : Option Bytes) (stack steps : Option ℕ) (input : Bytes) (image : Image) (bytes : Bytes) (n : ℕ) (end : RunEnd)
-    (run : HasRun text named derivation stack steps input image bytes n end) (m : ℕ) → AreBytes input
+    (run : RunsBuilt text named derivation stack steps input image bytes n end) (m : ℕ) → AreBytes input
     → IsOverStanding (copy_after run.built.phrase input m).standing → peak_load run.built.phrase input m ≤ image.stack_words
     → instruction_bound run.built.phrase m ≤ steps_wanted steps
     → IsSameOver (machine_after run.built.runs.program image input n) (copy_after run.built.phrase input m)

@@ -22,10 +22,10 @@ use Rattle.rv_machine.specs.Start.{IsProgramOf}
 use Rattle.fy_build.specs.Building.{HasTableWords}
 use Rattle.fy_build.specs.Headline.{AreBytes, RunsAsCopyRule}
 use Rattle.fy_build.specs.Shown.{RunEnd, ShowsCopyRule}
-use Rattle.fy_sample.specs.Sample.{sample_text, summary}
+use Rattle.fy_sample.specs.Sample.{sample_text}
 use Rattle.fy_words.specs.Order.{Order, stack_wanted, steps_wanted, copy_wanted, trace_steps_wanted}
 use Rattle.fy_words.specs.Order as orders
-use Rattle.fy_world.specs.Runs.{Due, told, written, IsRun, ran, running_of, CopyEnd, IsCopyRun, copied, stepped, stepping_of}
+use Rattle.fy_world.specs.Runs.{Due, told, written, IsRun, ran, sampled, running_of, CopyEnd, IsCopyRun, copied, stepped, stepping_of}
 use Rattle.fy_world.specs.Note.{ended_lines, refusal_note}
 use Rattle.fy_world.specs.Shown.{listing}
 use Rattle.fy_world.specs.Steps.{StepEnd, IsSteppedRun}
@@ -155,7 +155,7 @@ pub record IsBuilt (text : Bytes) (named derivation : Option Bytes) (stack : ℕ
   pub runs : RunsAsCopyRule phrase image
 
 -- an image of a text, its bytes, and a run of it that ended so after n instructions, which shows what the copy rule does
-pub record HasRun (text : Bytes) (named derivation : Option Bytes) (stack steps : Option ℕ) (input : Bytes) (image : Image) (bytes : Bytes) (n : ℕ) (end : RunEnd) : Type 0 where
+pub record RunsBuilt (text : Bytes) (named derivation : Option Bytes) (stack steps : Option ℕ) (input : Bytes) (image : Image) (bytes : Bytes) (n : ℕ) (end : RunEnd) : Type 0 where
   pub built : IsBuilt text named derivation (stack_wanted stack) image
   pub spelled : IsImageBytes image bytes
   pub is_run : IsRun (running_of built.runs.program image input (steps_wanted steps)) n end
@@ -182,10 +182,6 @@ audited = written (codes "audited" ++ 10 ∷ [])
 -- bytes kept under a name, and nothing else
 abbrev pub kept : Bytes → Bytes → Due
 kept name bytes = record { status = 0; output = []; notes = []; kept = Some (name, bytes); rest = None; running = None }
-
--- what a run is due to do, and then the summary at output
-abbrev pub sampled : Due → Due
-sampled due = record due { output = due.output ++ summary due.status (length due.output) }
 
 -- what is due for the words, by what the files hold that they name and by the input
 pub data IsDue (sources : Sources) (input : Bytes) : Option Order → Due → Type 0 where
@@ -217,12 +213,12 @@ pub data IsDue (sources : Sources) (input : Bytes) : Option Order → Due → Ty
       → IsDue sources input (Some (orders.exec name steps last)) (ran (running_of program image input (steps_wanted steps)) last None n end)
   -- `run` keeps the image of a text and runs it
   runs : (file : Bytes) (steps stack : Option ℕ) (named name : Option Bytes) (text : Bytes) (image : Image) (bytes : Bytes) (n : ℕ) (end : RunEnd) → sources.file ≡ Some text
-      → (has_run : HasRun text named sources.derivation stack steps input image bytes n end)
+      → (has_run : RunsBuilt text named sources.derivation stack steps input image bytes n end)
       → IsDue sources input (Some (orders.run file steps stack named name))
       (ran (running_of has_run.built.runs.program image input (steps_wanted steps)) None (Some (kept_as file name, bytes)) n end)
   -- `sample` does so with a sample program, and then writes a summary
   samples : (number size : ℕ) (image : Image) (bytes : Bytes) (n : ℕ) (end : RunEnd)
-      → (has_run : HasRun (sample_text number size) None sources.derivation None None input image bytes n end)
+      → (has_run : RunsBuilt (sample_text number size) None sources.derivation None None input image bytes n end)
       → IsDue sources input (Some (orders.sample number size))
       (sampled (ran (running_of has_run.built.runs.program image input (steps_wanted None)) None (Some (codes "sample.img", bytes)) n end))
   -- `copy` runs the phrase by the copy rule

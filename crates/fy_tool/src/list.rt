@@ -9,11 +9,9 @@ ghost use Rattle.fy_tool.specs.Working.{IsGivenForSome, Lists};
 
 use crate::build::image_for;
 use crate::texts::{Program, program_in};
+use crate::wanted::STACK_WORDS;
 use fy_world::{Note, Stop, World, list_image, refuse};
 use std::alloc::Global;
-
-// The stack words of the image.
-const STACK_WORDS: u32 = 1_048_576;
 
 // Writes the listing of the image of a program.
 fn list_program<W: World>(alloc: Global, program: &Program, world: &mut W) -> Result<u8, Stop>

@@ -9,6 +9,7 @@ ghost use Rattle.fy_tool.specs.Working.{BuildsAndSamples, IsGivenForSome, IsSamp
 
 use crate::build::image_for;
 use crate::texts::{Program, program_of};
+use crate::wanted::{RUN_LIMIT, STACK_WORDS};
 use fy_base::OutOfMemory;
 use fy_build::runs_show_copy_rule;
 use fy_sample::{sample_text, samples_are_short};
@@ -17,12 +18,6 @@ use std::alloc::Global;
 
 // The name under which the image is kept.
 const IMAGE_NAME: &str = "sample.img";
-
-// The stack words of the image.
-const STACK_WORDS: u32 = 1_048_576;
-
-// The most instructions of the run.
-const RUN_LIMIT: u64 = 1_000_000_000;
 
 // The program of a sample, or why its text is none.
 fn program_for(alloc: Global, number: u32, size: u32) -> Result<Result<Program, Refusal>, Stop>

@@ -15,7 +15,8 @@ use Rattle.rv_insn.specs.Step.{Core}
 use Rattle.rv_machine.specs.Start.{IsProgramOf, start_of}
 use Rattle.fy_world.specs.World.{Contents}
 use Rattle.fy_world.specs.Note.{ended_lines}
-use Rattle.fy_world.specs.Runs.{AreBytes, of_machine, Due, Running, ran}
+use Rattle.fy_build.specs.Headline.{AreBytes}
+use Rattle.fy_world.specs.Runs.{of_machine, Due, Running, ran}
 use Rattle.fy_world.specs.Did.{files_after, after_all, InputPart, Did}
 use Rattle.fy_world.specs.Working.{IsUnbegun, WasKept, Keeps, HasRun, HasKeptAndRun, KeepsAndRuns}
 use Rattle.fy_world.specs.declared.world.Stop.{Stop}

@@ -16,7 +16,8 @@ use Rattle.rv_machine.specs.Ends.{IsMachineEnd}
 use Rattle.rv_machine.specs.declared.run.MachineRun.{MachineRun}
 use Rattle.fy_world.specs.World.{Contents}
 use Rattle.fy_world.specs.Note.{texts, ended_lines}
-use Rattle.fy_world.specs.Runs.{AreBytes, Running, of_machine, run_status, end_notes, ran, sampled}
+use Rattle.fy_build.specs.Headline.{AreBytes}
+use Rattle.fy_world.specs.Runs.{Running, of_machine, run_status, end_notes, ran, sampled}
 use Rattle.fy_world.specs.Did.{files_after, after_all, InputPart, Did}
 use Rattle.fy_world.specs.Working.{WasKept, Keeps, HasRun, HasSampled, HasKeptAndSampled, KeepsAndSamples, SumsUp}
 use Rattle.fy_world.specs.declared.world.Stop.{Stop}

@@ -1,5 +1,5 @@
 -- Runs, and what is due for them: a status, an output, notes, the file that is kept and what is left at input.
-use Rattle.std.specs.Prelude.{ℕ, ◌≤◌, ◌<◌, ◌<◌, List, [], ◌∷◌, ◌++◌, All, length, map, Some, None, option_to_list}
+use Rattle.std.specs.Prelude.{ℕ, ◌≤◌, ◌<◌, List, [], ◌∷◌, ◌++◌, length, map, Some, None, option_to_list}
 use Rattle.std.specs.declared.option.Option.{Option}
 use Rattle.circular_buffer.specs.Buffer.{keep_last}
 use Rattle.fy_base.specs.Outside.{Bytes}
@@ -27,10 +27,6 @@ use Rattle.fy_world.specs.Shown.{shown}
 use Rattle.fy_world.specs.Steps.{StepEnd, Stepping, step_status, step_note, step_lines}
 use Rattle.fy_world.specs.declared.note.Note.{Note}
 use Rattle.fy_world.specs.declared.note.Note.TheVariants as note
-
--- what an input is made of
-abbrev pub AreBytes : Bytes → Type 0
-AreBytes input = All (λ byte. byte < 256) input
 
 -- a run of a machine, of at most so many instructions
 pub record Running : Type 0 where

@@ -19,7 +19,8 @@ use Rattle.fy_sample.specs.Sample.{summary}
 use Rattle.fy_world.specs.Shown.{listing}
 use Rattle.fy_world.specs.World.{Contents}
 use Rattle.fy_world.specs.Note.{texts, ended_lines}
-use Rattle.fy_world.specs.Runs.{AreBytes, Due, IsRun, run_status, end_notes, ran, sampled, CopyEnd, IsCopyRun, copied, written}
+use Rattle.fy_build.specs.Headline.{AreBytes}
+use Rattle.fy_world.specs.Runs.{Due, IsRun, run_status, end_notes, ran, sampled, CopyEnd, IsCopyRun, copied, written}
 use Rattle.fy_world.specs.Did.{Did, WholeLines}
 use Rattle.fy_world.specs.declared.world.Stop.{Stop}
 use Rattle.fy_world.specs.declared.world.Stop.TheVariants.{Input, Memory}
