@@ -1,10 +1,10 @@
 -- Which field is refused first, step by step.
 use Rattle.std.proofs.Common.{◌≡◌, ◌≢◌, ◌⊎◌, ℕ, suc, ◌+◌, ◌-◌, ◌*◌, ◌^◌, ◌<◌, ◌≤◌, min, Bool, true, false, not, ◌&&◌, All, if◌then◌else◌, nat_eq, ltb, leb, List, [], ◌∷◌, ◌++◌, length, take, drop, length-append, sym, ap, ◌∙◌, refl, arith, subst, inl, inr, Some, None, Option}
-use Rattle.fy_image.proofs.Lists.{places_long}
-use Rattle.std.proofs.lemmas.Bool.{le-ltb, ne_eqb}
+use Rattle.fy_image.proofs.Lists.{places_long, start_is}
+use Rattle.std.proofs.lemmas.Bool.{le-ltb, lt-ltb, ne_eqb}
 use Rattle.std.proofs.Math.Bool.{and-false, and_assoc}
 use Rattle.std.proofs.lemmas.List.Elements.{All-head, All-tail}
-use Rattle.std.proofs.lemmas.List.{append-nil, append_assoc, take_min, length-take, take-append-drop}
+use Rattle.std.proofs.lemmas.List.{append-nil, append_assoc, length-take, take-append-drop}
 use Rattle.std.proofs.Math.Seq.{take-append_seam, drop-append_seam}
 use Rattle.std.specs.declared.result.Result.{Result}
 use Rattle.std.specs.declared.result.Result.TheVariants.{Ok, Err}
@@ -12,14 +12,13 @@ use Rattle.std.proofs.lemmas.Nat.{from_le_bytes-to_le_bytes_4}
 use Rattle.std.specs.List.{starts_with, list_all, flat_map}
 use Rattle.fy_base.specs.declared.data.Place.{Place}
 use Rattle.fy_base.specs.Outside.{Bytes}
-use Rattle.fy_image.specs.Form.{PlaceFits, magic, word, place_bytes}
+use Rattle.fy_image.specs.Form.{PlaceFits, magic, most_stack, version_number, word, place_bytes}
 use Rattle.fy_image.specs.Reading.{is_place, body_refusal}
-use Rattle.fy_image.specs.Refusals.{IsJudged, Field, place_list, or_else, number_of, number_at, numbers, version_refusal, version_1, range_refusal, number_in, any_bytes, fields_1, first_refusal, magic_refusal, lists_1, IsCause}
+use Rattle.fy_image.specs.Refusals.{IsJudged, Field, place_list, or_else, number_of, number_at, numbers, version_of, version_refusal, version_field, range_refusal, number_in, any_bytes, fields_of, fields_behind, first_refusal, magic_refusal, lists_of, IsCause}
 use Rattle.fy_image.specs.declared.error.ImageError.{ImageError}
 use Rattle.fy_image.specs.declared.error.ImageError.TheVariants as errors
-
-start_is : (bytes start : Bytes) (n : ℕ) → start ≡ take (min (length bytes) n) bytes → take n bytes ≡ start
-start_is bytes start n is = let swapped : min n (length bytes) ≡ min (length bytes) n = omega arith in sym (take_min n bytes) ∙ ap (λ k. take k bytes) swapped ∙ sym is
+use Rattle.fy_image.specs.declared.version.Version.{Version}
+use Rattle.fy_image.specs.declared.version.Version.TheVariants.{One, Two}
 
 -- the first bytes aren't the magic's
 pub magic_bad : (bytes start : Bytes) → start ≡ take (min (length bytes) 8) bytes → starts_with nat_eq magic start ≡ false → magic_refusal bytes ≡ Some errors.BadMagic
@@ -46,25 +45,25 @@ magic_good bytes start is same long =
     let l : ltb (length bytes) 8 ≡ false = grind arith in rw (e, l) refl
 
 -- a field that is cut off
-pub cut_off : (field : Field) (fields : List Field) (bytes : Bytes) → length bytes < field.size → first_refusal (field ∷ fields) bytes ≡ Some errors.Truncated
+pub cut_off : (field : Field) (fields : List Field) (bytes : Bytes) → length bytes < field.size bytes → first_refusal (field ∷ fields) bytes ≡ Some errors.Truncated
 unfolding first_refusal
-cut_off field fields bytes short = let l : ltb (length bytes) field.size ≡ true = grind arith in rw l refl
+cut_off field fields bytes short = let l : ltb (length bytes) (field.size bytes) ≡ true = lt-ltb (length bytes) (field.size bytes) short in rw l refl
 
 -- a field that is there
-pub whole : (field : Field) (fields : List Field) (part rest : Bytes) → length part ≡ field.size → first_refusal (field ∷ fields) (part ++ rest) ≡ or_else (field.refusal part) (first_refusal fields rest)
+pub whole : (field : Field) (fields : List Field) (part rest : Bytes) → length part ≡ field.size (part ++ rest) → first_refusal (field ∷ fields) (part ++ rest) ≡ or_else (field.refusal part) (first_refusal fields rest)
 unfolding first_refusal
 whole field fields part rest long =
-    let l : ltb (length (part ++ rest)) field.size ≡ false = le-ltb (length (part ++ rest)) field.size (omega (arith, length-append part rest)) in
-    let t : take field.size (part ++ rest) ≡ part = ap (λ n. take n (part ++ rest)) (sym long) ∙ take-append_seam part rest in
-    let d : drop field.size (part ++ rest) ≡ rest = ap (λ n. drop n (part ++ rest)) (sym long) ∙ drop-append_seam part rest in
+    let l : ltb (length (part ++ rest)) (field.size (part ++ rest)) ≡ false = le-ltb (length (part ++ rest)) (field.size (part ++ rest)) (omega (arith, length-append part rest)) in
+    let t : take (field.size (part ++ rest)) (part ++ rest) ≡ part = ap (λ n. take n (part ++ rest)) (sym long) ∙ take-append_seam part rest in
+    let d : drop (field.size (part ++ rest)) (part ++ rest) ≡ rest = ap (λ n. drop n (part ++ rest)) (sym long) ∙ drop-append_seam part rest in
     rw (l, t, d) refl
 
 -- a field that is there and isn't refused
-pub passed : (field : Field) (fields : List Field) (part rest : Bytes) → length part ≡ field.size → field.refusal part ≡ None → first_refusal (field ∷ fields) (part ++ rest) ≡ first_refusal fields rest
+pub passed : (field : Field) (fields : List Field) (part rest : Bytes) → length part ≡ field.size (part ++ rest) → field.refusal part ≡ None → first_refusal (field ∷ fields) (part ++ rest) ≡ first_refusal fields rest
 passed field fields part rest long good = whole field fields part rest long ∙ ap (λ r. or_else r (first_refusal fields rest)) good
 
 -- a field that is there and is refused
-pub refused : (field : Field) (fields : List Field) (part rest : Bytes) (error : ImageError) → length part ≡ field.size → field.refusal part ≡ Some error → first_refusal (field ∷ fields) (part ++ rest) ≡ Some error
+pub refused : (field : Field) (fields : List Field) (part rest : Bytes) (error : ImageError) → length part ≡ field.size (part ++ rest) → field.refusal part ≡ Some error → first_refusal (field ∷ fields) (part ++ rest) ≡ Some error
 refused field fields part rest error long bad = whole field fields part rest long ∙ ap (λ r. or_else r (first_refusal fields rest)) bad
 
 -- a number is read back
@@ -94,14 +93,18 @@ number_bad least most field n fields rest fits (inr high) =
     refused (number_in least most field) fields (word n) rest (errors.BadField field) refl (ap (λ k. range_refusal least most field k) (number_back n fits) ∙ above_range least most field n high)
 
 -- the version
-pub version_good : (fields : List Field) (rest : Bytes) → first_refusal (version_1 ∷ fields) (word 1 ++ rest) ≡ first_refusal fields rest
+pub version_good : (version : Version) (c t n : ℕ) (rest : Bytes)
+    → first_refusal (version_field ∷ fields_behind (version_of (number_of (word (version_number version)))) c t n) (word (version_number version) ++ rest) ≡ first_refusal (fields_of version c t n) rest
 unfolding number_of
-version_good fields rest = passed version_1 fields (word 1) rest refl refl
+version_good One c t n rest = passed version_field (fields_of One c t n) (word 1) rest refl refl
+version_good Two c t n rest = passed version_field (fields_of Two c t n) (word 2) rest refl refl
 
-pub version_bad : (n : ℕ) (fields : List Field) (rest : Bytes) → n < 2 ^ 32 → n ≢ 1 → first_refusal (version_1 ∷ fields) (word n ++ rest) ≡ Some (errors.BadVersion n)
-version_bad n fields rest fits other =
-    refused version_1 fields (word n) rest (errors.BadVersion n) refl
-    (ap (λ k. version_refusal k) (number_back n fits) ∙ (let e = ne_eqb n 1 other in rw e refl))
+other_version : (n : ℕ) → n ≢ 1 → n ≢ 2 → version_refusal n ≡ Some (errors.BadVersion n)
+other_version n one two = let a = ne_eqb n 1 one in let b = ne_eqb n 2 two in rw (a, b) refl
+
+pub version_bad : (n : ℕ) (fields : List Field) (rest : Bytes) → n < 2 ^ 32 → n ≢ 1 → n ≢ 2 → first_refusal (version_field ∷ fields) (word n ++ rest) ≡ Some (errors.BadVersion n)
+version_bad n fields rest fits one two =
+    refused version_field fields (word n) rest (errors.BadVersion n) refl (ap (λ k. version_refusal k) (number_back n fits) ∙ other_version n one two)
 
 -- bytes whatever they are
 pub any_good : (size : ℕ) (fields : List Field) (part rest : Bytes) → length part ≡ size → first_refusal (any_bytes size ∷ fields) (part ++ rest) ≡ first_refusal fields rest
@@ -117,7 +120,7 @@ unfolding first_refusal
 end_bad bytes some = let e = ne_eqb (length bytes) 0 (λ z. omega arith) in rw e refl
 
 -- a field that is cut off, told by an error
-pub cut_judged : (error : ImageError) (field : Field) (bytes : Bytes) → error ≡ errors.Truncated → length bytes < field.size → (fields : List Field) → IsCause error (first_refusal (field ∷ fields) bytes)
+pub cut_judged : (error : ImageError) (field : Field) (bytes : Bytes) → error ≡ errors.Truncated → length bytes < field.size bytes → (fields : List Field) → IsCause error (first_refusal (field ∷ fields) bytes)
 cut_judged error field bytes is short fields = let P : ImageError → Type 0 = λ e. IsCause e (first_refusal (field ∷ fields) bytes) in subst P (sym is) (cut_off field fields bytes short)
 
 -- the numbers of places
@@ -140,30 +143,30 @@ has_numbers place =
     rw (line, col) refl
 
 -- numbers of which the first are those of places: what stands behind them decides
-nonzero_behind : (places : List Place) (m : ℕ) (rest : Bytes) → All PlaceFits places → list_all is_nonzero (numbers (2 * length places + m) (flat_map place_bytes places ++ rest)) ≡ list_all is_nonzero (numbers m rest)
+nonzero_behind : (places : List Place) (m : ℕ) (rest : Bytes) → All PlaceFits places → list_all is_nonzero (numbers (2 * length places + m) (flat_map (place_bytes One) places ++ rest)) ≡ list_all is_nonzero (numbers m rest)
 nonzero_behind [] m rest fit = ap (λ n. list_all is_nonzero (numbers n rest)) (let e : 2 * 0 + m ≡ m = omega arith in e)
 nonzero_behind (place ∷ places) m rest fit =
     let two : 2 * suc (length places) + m ≡ suc (suc (2 * length places + m)) = omega arith in
     let fits = All-head PlaceFits place places fit in
-    ap (λ n. list_all is_nonzero (numbers n (flat_map place_bytes (place ∷ places) ++ rest))) two
-    ∙ ap (λ b. list_all is_nonzero (numbers (suc (suc (2 * length places + m))) b)) (append_assoc (place_bytes place) (flat_map place_bytes places) rest)
-    ∙ nonzero_more place.line place.col (2 * length places + m) (flat_map place_bytes places ++ rest) fits.line fits.col
-    ∙ ap (λ b. b && list_all is_nonzero (numbers (2 * length places + m) (flat_map place_bytes places ++ rest))) (has_numbers place)
+    ap (λ n. list_all is_nonzero (numbers n (flat_map (place_bytes One) (place ∷ places) ++ rest))) two
+    ∙ ap (λ b. list_all is_nonzero (numbers (suc (suc (2 * length places + m))) b)) (append_assoc (place_bytes One place) (flat_map (place_bytes One) places) rest)
+    ∙ nonzero_more place.line place.col (2 * length places + m) (flat_map (place_bytes One) places ++ rest) fits.line fits.col
+    ∙ ap (λ b. b && list_all is_nonzero (numbers (2 * length places + m) (flat_map (place_bytes One) places ++ rest))) (has_numbers place)
     ∙ nonzero_behind places m rest (All-tail PlaceFits place places fit)
 
 -- places
 pub places_good : (count field : ℕ) (places : List Place) (fields : List Field) (rest : Bytes) → All PlaceFits places → length places ≡ count
-    → first_refusal (place_list count field ∷ fields) (flat_map place_bytes places ++ rest) ≡ first_refusal fields rest
+    → first_refusal (place_list count field ∷ fields) (flat_map (place_bytes One) places ++ rest) ≡ first_refusal fields rest
 places_good count field places fields rest fit same =
-    let all : list_all is_nonzero (numbers (2 * count) (flat_map place_bytes places)) ≡ true =
-    ap (λ n. list_all is_nonzero (numbers n (flat_map place_bytes places))) (let e : 2 * count ≡ 2 * length places + 0 = omega arith in e)
-    ∙ ap (λ b. list_all is_nonzero (numbers (2 * length places + 0) b)) (sym (append-nil (flat_map place_bytes places)))
+    let all : list_all is_nonzero (numbers (2 * count) (flat_map (place_bytes One) places)) ≡ true =
+    ap (λ n. list_all is_nonzero (numbers n (flat_map (place_bytes One) places))) (let e : 2 * count ≡ 2 * length places + 0 = omega arith in e)
+    ∙ ap (λ b. list_all is_nonzero (numbers (2 * length places + 0) b)) (sym (append-nil (flat_map (place_bytes One) places)))
     ∙ nonzero_behind places 0 [] fit in
-    passed (place_list count field) fields (flat_map place_bytes places) rest (places_long places count same) (ap (λ b. if b then None else Some (errors.BadField field)) all)
+    passed (place_list count field) fields (flat_map (place_bytes One) places) rest (places_long places count same) (ap (λ b. if b then None else Some (errors.BadField field)) all)
 
 -- two numbers of which one is 0, behind places: the bytes that the list has of what follows them
 zero_behind : (places : List Place) (line col m : ℕ) (rest : Bytes) → All PlaceFits places → line < 2 ^ 32 → col < 2 ^ 32 → is_place line col ≡ false
-    → list_all is_nonzero (numbers (2 * length places + suc (suc m)) (flat_map place_bytes places ++ ((word line ++ word col) ++ rest))) ≡ false
+    → list_all is_nonzero (numbers (2 * length places + suc (suc m)) (flat_map (place_bytes One) places ++ ((word line ++ word col) ++ rest))) ≡ false
 zero_behind places line col m rest fit line_fits col_fits bad =
     nonzero_behind places (suc (suc m)) ((word line ++ word col) ++ rest) fit
     ∙ nonzero_more line col m rest line_fits col_fits
@@ -171,20 +174,20 @@ zero_behind places line col m rest fit line_fits col_fits bad =
 
 -- bytes of which none is wanting, where two numbers behind places are no place
 pub places_bad : (count field : ℕ) (places : List Place) (line col : ℕ) (fields : List Field) (rest : Bytes) → All PlaceFits places → line < 2 ^ 32 → col < 2 ^ 32 → is_place line col ≡ false
-    → length places < count → 8 * count ≤ length (flat_map place_bytes places ++ ((word line ++ word col) ++ rest))
-    → first_refusal (place_list count field ∷ fields) (flat_map place_bytes places ++ ((word line ++ word col) ++ rest)) ≡ Some (errors.BadField field)
+    → length places < count → 8 * count ≤ length (flat_map (place_bytes One) places ++ ((word line ++ word col) ++ rest))
+    → first_refusal (place_list count field ∷ fields) (flat_map (place_bytes One) places ++ ((word line ++ word col) ++ rest)) ≡ Some (errors.BadField field)
 places_bad count field places line col fields rest fit line_fits col_fits bad few there =
     let k = length places in
     let m : ℕ = 8 * (count - (k + 1)) in
-    let own : Bytes = flat_map place_bytes places ++ ((word line ++ word col) ++ take m rest) in
+    let own : Bytes = flat_map (place_bytes One) places ++ ((word line ++ word col) ++ take m rest) in
     let placed = places_long places k refl in
-    let enough : m ≤ length rest = omega (arith, length-append (flat_map place_bytes places) ((word line ++ word col) ++ rest), length-append (word line ++ word col) rest) in
+    let enough : m ≤ length rest = omega (arith, length-append (flat_map (place_bytes One) places) ((word line ++ word col) ++ rest), length-append (word line ++ word col) rest) in
     let taken : length (take m rest) ≡ m = length-take m rest ∙ omega arith in
-    let long : length own ≡ 8 * count = omega (arith, length-append (flat_map place_bytes places) ((word line ++ word col) ++ take m rest), length-append (word line ++ word col) (take m rest)) in
-    let whole_is : flat_map place_bytes places ++ ((word line ++ word col) ++ rest) ≡ own ++ drop m rest =
-    ap (λ b. flat_map place_bytes places ++ ((word line ++ word col) ++ b)) (sym (take-append-drop m rest))
-    ∙ ap (λ b. flat_map place_bytes places ++ b) (sym (append_assoc (word line ++ word col) (take m rest) (drop m rest)))
-    ∙ sym (append_assoc (flat_map place_bytes places) ((word line ++ word col) ++ take m rest) (drop m rest)) in
+    let long : length own ≡ 8 * count = omega (arith, length-append (flat_map (place_bytes One) places) ((word line ++ word col) ++ take m rest), length-append (word line ++ word col) (take m rest)) in
+    let whole_is : flat_map (place_bytes One) places ++ ((word line ++ word col) ++ rest) ≡ own ++ drop m rest =
+    ap (λ b. flat_map (place_bytes One) places ++ ((word line ++ word col) ++ b)) (sym (take-append-drop m rest))
+    ∙ ap (λ b. flat_map (place_bytes One) places ++ b) (sym (append_assoc (word line ++ word col) (take m rest) (drop m rest)))
+    ∙ sym (append_assoc (flat_map (place_bytes One) places) ((word line ++ word col) ++ take m rest) (drop m rest)) in
     let two : 2 * count ≡ 2 * k + suc (suc (2 * (count - (k + 1)))) = omega arith in
     let some : list_all is_nonzero (numbers (2 * count) own) ≡ false =
     ap (λ n. list_all is_nonzero (numbers n own)) two ∙ zero_behind places line col (2 * (count - (k + 1))) (take m rest) fit line_fits col_fits bad in
@@ -206,25 +209,28 @@ counts_at bytes s c t n r1 r2 r3 r4 e1 e2 e3 e4 fc ft fn =
     )
 
 -- the refusal of the body by the counts
-pub body_by : (bytes : Bytes) (c t n : ℕ) → (number_at bytes 4 ≡ c) × (number_at bytes 8 ≡ t) × (number_at bytes 12 ≡ n) → body_refusal bytes ≡ first_refusal (fields_1 c t n) bytes
+pub body_by : (version : Version) (bytes : Bytes) (c t n : ℕ) → (number_at bytes 4 ≡ c) × (number_at bytes 8 ≡ t) × (number_at bytes 12 ≡ n) → body_refusal version bytes ≡ first_refusal (fields_of version c t n) bytes
 unfolding body_refusal
-body_by bytes c t n at = ap (λ k. first_refusal (fields_1 k (number_at bytes 8) (number_at bytes 12)) bytes) at.0 ∙ ap (λ k. first_refusal (fields_1 c k (number_at bytes 12)) bytes) at.1 ∙ ap (λ k. first_refusal (fields_1 c t k) bytes) at.2
+body_by version bytes c t n at =
+    ap (λ k. first_refusal (fields_of version k (number_at bytes 8) (number_at bytes 12)) bytes) at.0
+    ∙ ap (λ k. first_refusal (fields_of version c k (number_at bytes 12)) bytes) at.1
+    ∙ ap (λ k. first_refusal (fields_of version c t k) bytes) at.2
 
 -- what is left of the refusal behind the numbers
-pub header_judged : (r0 r1 r2 r3 r4 r5 : Bytes) (s c t n : ℕ) → (r0 ≡ word s ++ r1) × (r1 ≡ word c ++ r2) × (r2 ≡ word t ++ r3) × (r3 ≡ word n ++ r4) → (c < 2 ^ 32) × (t < 2 ^ 32) × (n < 2 ^ 32)
-    → ((f : List Field) → first_refusal (number_in 1024 16777216 1 ∷ f) r0 ≡ first_refusal f r1)
+pub header_judged : (version : Version) (r0 r1 r2 r3 r4 r5 : Bytes) (s c t n : ℕ) → (r0 ≡ word s ++ r1) × (r1 ≡ word c ++ r2) × (r2 ≡ word t ++ r3) × (r3 ≡ word n ++ r4) → (c < 2 ^ 32) × (t < 2 ^ 32) × (n < 2 ^ 32)
+    → ((f : List Field) → first_refusal (number_in 1024 (most_stack version) 1 ∷ f) r0 ≡ first_refusal f r1)
     × ((f : List Field) → first_refusal (number_in 1 4194304 2 ∷ f) r1 ≡ first_refusal f r2)
     × ((f : List Field) → first_refusal (number_in 0 1048576 3 ∷ f) r2 ≡ first_refusal f r3)
     × ((f : List Field) → first_refusal (number_in 0 524288 4 ∷ f) r3 ≡ first_refusal f r4)
     × ((f : List Field) → first_refusal (number_in 0 0 5 ∷ f) r4 ≡ first_refusal f r5)
-    → body_refusal r0 ≡ first_refusal (lists_1 c t n) r5
-header_judged r0 r1 r2 r3 r4 r5 s c t n taken fits judged =
-    body_by r0 c t n (counts_at r0 s c t n r1 r2 r3 r4 taken.0 taken.1 taken.2 taken.3 fits.0 fits.1 fits.2)
-    ∙ judged.0 (number_in 1 4194304 2 ∷ number_in 0 1048576 3 ∷ number_in 0 524288 4 ∷ number_in 0 0 5 ∷ lists_1 c t n)
-    ∙ judged.1 (number_in 0 1048576 3 ∷ number_in 0 524288 4 ∷ number_in 0 0 5 ∷ lists_1 c t n)
-    ∙ judged.2 (number_in 0 524288 4 ∷ number_in 0 0 5 ∷ lists_1 c t n)
-    ∙ judged.3 (number_in 0 0 5 ∷ lists_1 c t n)
-    ∙ judged.4 (lists_1 c t n)
+    → body_refusal version r0 ≡ first_refusal (lists_of version c t n) r5
+header_judged version r0 r1 r2 r3 r4 r5 s c t n taken fits judged =
+    body_by version r0 c t n (counts_at r0 s c t n r1 r2 r3 r4 taken.0 taken.1 taken.2 taken.3 fits.0 fits.1 fits.2)
+    ∙ judged.0 (number_in 1 4194304 2 ∷ number_in 0 1048576 3 ∷ number_in 0 524288 4 ∷ number_in 0 0 5 ∷ lists_of version c t n)
+    ∙ judged.1 (number_in 0 1048576 3 ∷ number_in 0 524288 4 ∷ number_in 0 0 5 ∷ lists_of version c t n)
+    ∙ judged.2 (number_in 0 524288 4 ∷ number_in 0 0 5 ∷ lists_of version c t n)
+    ∙ judged.3 (number_in 0 0 5 ∷ lists_of version c t n)
+    ∙ judged.4 (lists_of version c t n)
 
 -- a refusal is its error's cause
 pub cause_some : (error : ImageError) (refusal : Option ImageError) → refusal ≡ Some error → IsCause error refusal

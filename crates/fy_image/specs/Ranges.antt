@@ -5,7 +5,7 @@ use Rattle.fy_image.specs.declared.image.Image.{Image}
 -- an image that keeps every range
 pub record IsImage (image : Image) : Type 0 where
   pub stack_least : 1024 ≤ image.stack_words
-  pub stack_most : image.stack_words ≤ 16777216
+  pub stack_most : image.stack_words ≤ 67108864
   pub code_least : 1 ≤ length image.code
   pub code_most : length image.code ≤ 4194304
   pub table_most : length image.table ≤ 1048576

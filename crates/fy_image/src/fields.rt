@@ -3,12 +3,14 @@
 ghost use Rattle.std.specs.Prelude.{◌≡◌, ◌*◌, ◌%◌, ◌^◌, [], ◌++◌, All, ◌<◌, ◌≤◌, length, List, IfOk, IfErr, OnOk, MatchOption, MatchResult, None, Some, false};
 ghost use Rattle.std.specs.List.{flat_map};
 ghost use Rattle.fy_base.specs.Outside.{Bytes};
-ghost use Rattle.fy_image.specs.Form.{PlaceFits, magic, word, double, place_bytes};
-ghost use Rattle.fy_image.specs.Reading.{Judges, is_place};
-ghost use Rattle.fy_image.specs.Refusals.{any_bytes, first_refusal, magic_refusal, number_in, place_list};
+ghost use Rattle.fy_image.specs.Form.{PlaceFits, magic, word, double, short, place_bytes, most_stack};
+ghost use Rattle.fy_image.specs.Reading.{Judges, JudgesAll, is_place};
+ghost use Rattle.fy_image.specs.Refusals.{any_bytes, first_refusal, magic_refusal, number_in, place_fields, place_list, short_number};
 ghost use Rattle.fy_image.specs.declared.error.ImageError.TheVariants as errors;
 
 use crate::error::ImageError;
+use crate::short::{short_of, short_size};
+use crate::version::Version;
 use fy_base::{DoubleList, Place, PlaceList, WordList};
 use std::alloc::Global;
 use std::marker::Model;
@@ -113,6 +115,34 @@ impl<'a> Fields<'a> {
         Ok(n)
     }
 
+    /// Takes the words of stack, as many as a version has.
+    pub fn stack_words(&mut self, version: Version) -> Result<u32, ImageError>
+        ensures taken { IfOk result (λ n. self.old ≡ word n ++ self.new) }
+        ensures range { IfOk result (λ n. (1024 ≤ n) × (n ≤ most_stack version)) }
+        ensures fits { IfOk result (λ n. n < 2 ^ 32) }
+        ensures judged { Judges result (number_in 1024 (most_stack version) 1) self.old self.new }
+    {
+        match version {
+            Version::One => self.number_in(1024, 16_777_216, 1),
+            Version::Two => self.number_in(1024, 67_108_864, 1),
+        }
+    }
+
+    /// Takes a short number.
+    fn short(&mut self, field: u8) -> Result<u32, ImageError>
+        ensures taken { IfOk result (λ n. self.old ≡ short n ++ self.new) }
+        ensures some { IfOk result (λ n. 0 < n) }
+        ensures fits { IfOk result (λ n. n < 2 ^ 32) }
+        ensures judged { Judges result (short_number field) self.old self.new }
+    {
+        let size = short_size(self.rest);
+        let bytes = self.take(size)?;
+        match short_of(bytes) {
+            Some(n) => Ok(n),
+            None => Err(ImageError::BadField(field)),
+        }
+    }
+
     /// Takes so many words of four bytes.
     pub fn words(&mut self, alloc: Global, count: u32) -> Result<WordList, ImageError>
         ensures taken { IfOk result (λ words. self.old ≡ flat_map word words ++ self.new) }
@@ -141,10 +171,28 @@ impl<'a> Fields<'a> {
         Ok(doubles)
     }
 
-    /// Takes so many places, each its line and then its column. Where bytes are wanting for them no
-    /// place is judged.
-    pub fn places(&mut self, alloc: Global, count: u32, field: u8) -> Result<PlaceList, ImageError>
-        ensures taken { IfOk result (λ places. self.old ≡ flat_map place_bytes places ++ self.new) }
+    /// Takes so many places, each its line and then its column.
+    pub fn places(
+        &mut self,
+        alloc: Global,
+        version: Version,
+        count: u32,
+        field: u8,
+    ) -> Result<PlaceList, ImageError>
+        ensures taken { IfOk result (λ places. self.old ≡ flat_map (place_bytes version) places ++ self.new) }
+        ensures count { IfOk result (λ places. length places ≡ count) }
+        ensures fit { IfOk result (λ places. All PlaceFits places) }
+        ensures judged { JudgesAll result (place_fields version count field) self.old self.new }
+    {
+        match version {
+            Version::One => self.word_places(alloc, count, field),
+            Version::Two => self.short_places(alloc, count, field),
+        }
+    }
+
+    /// Takes so many places of eight bytes. Where bytes are wanting for them no place is judged.
+    fn word_places(&mut self, alloc: Global, count: u32, field: u8) -> Result<PlaceList, ImageError>
+        ensures taken { IfOk result (λ places. self.old ≡ flat_map (place_bytes Version.One) places ++ self.new) }
         ensures count { IfOk result (λ places. length places ≡ count) }
         ensures fit { IfOk result (λ places. All PlaceFits places) }
         ensures judged { Judges result (place_list count field) self.old self.new }
@@ -159,6 +207,27 @@ impl<'a> Fields<'a> {
                 Some(place) => places.push(place)?,
                 None => return Err(ImageError::BadField(field)),
             }
+        }
+        Ok(places)
+    }
+
+    /// Takes so many places of two short numbers.
+    fn short_places(
+        &mut self,
+        alloc: Global,
+        count: u32,
+        field: u8,
+    ) -> Result<PlaceList, ImageError>
+        ensures taken { IfOk result (λ places. self.old ≡ flat_map (place_bytes Version.Two) places ++ self.new) }
+        ensures count { IfOk result (λ places. length places ≡ count) }
+        ensures fit { IfOk result (λ places. All PlaceFits places) }
+        ensures judged { JudgesAll result (place_fields Version.Two count field) self.old self.new }
+    {
+        let mut places = PlaceList::new(alloc);
+        for _ in 0..count {
+            let line = self.short(field)?;
+            let col = self.short(field)?;
+            places.push(Place { line, col })?;
         }
         Ok(places)
     }

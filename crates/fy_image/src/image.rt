@@ -6,7 +6,7 @@ use fy_base::{DoubleList, PlaceList, WordList};
 /// and every call that gives one keeps them.
 #[derive(Debug, Drop)]
 pub struct Image {
-    /// The words of 8 bytes of the machine's stack, 1,024 to 16,777,216.
+    /// The words of 8 bytes of the machine's stack, 1,024 to 67,108,864.
     pub stack_words: u32,
     /// The instructions, 1 to 4,194,304.
     pub code: WordList,

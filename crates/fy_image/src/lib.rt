@@ -6,6 +6,8 @@ mod fields;
 mod image;
 mod laws;
 mod read;
+mod short;
+mod version;
 mod write;
 
 pub use error::ImageError;

@@ -2,20 +2,21 @@
 
 ghost use Rattle.fy_image.specs.declared.error.ImageError.TheVariants as errors;
 ghost use Rattle.fy_image.specs.declared.image.Image.{Image};
-ghost use Rattle.fy_image.specs.Reading.{HeaderFits, body_refusal, header_bytes, lists_of};
+ghost use Rattle.fy_image.specs.Reading.{HeaderFits, IsBody, body_refusal, header_bytes, lists_behind};
 ghost use Rattle.std.specs.Prelude.{◌≡◌, ◌++◌, ℕ, drop, IfOk, IfErr, MatchResult, None};
-ghost use Rattle.fy_image.specs.Form.{FitsFields, IsImageBytes, body_of};
+ghost use Rattle.fy_image.specs.Form.{IsImageBytes};
 ghost use Rattle.fy_image.specs.Refusals.{IsCause, IsJudged, first_refusal, refusal_of};
 
 use crate::error::ImageError;
 use crate::fields::Fields;
 use crate::image::Image;
+use crate::version::Version;
 use std::alloc::Global;
 
 /// The longest file of an image, in bytes.
 const MOST_BYTES: usize = 33_554_432;
 
-// The numbers of version 1 behind the version, but for the zero.
+// The numbers behind the version, but for the zero.
 #[derive(Clone, Copy)]
 struct Header {
     stack_words: u32,
@@ -25,14 +26,14 @@ struct Header {
 }
 
 #[tactic(auto, unfolding(crate::specs::Reading::body_refusal))]
-fn read_header_1(fields: &mut Fields) -> Result<Header, ImageError>
+fn read_header(version: Version, fields: &mut Fields) -> Result<Header, ImageError>
     ensures taken { IfOk result (λ header. fields.old ≡ header_bytes header ++ fields.new) }
-    ensures ranges { IfOk result (λ header. HeaderFits header) }
+    ensures ranges { IfOk result (λ header. HeaderFits version header) }
     ensures judged { MatchResult result
-        (λ header. body_refusal fields.old ≡ first_refusal (lists_of header) fields.new)
-        (λ e. IsCause e (body_refusal fields.old)) }
+        (λ header. body_refusal version fields.old ≡ first_refusal (lists_behind version header) fields.new)
+        (λ e. IsCause e (body_refusal version fields.old)) }
 {
-    let stack_words = fields.number_in(1024, 16_777_216, 1)?;
+    let stack_words = fields.stack_words(version)?;
     let code_words = fields.number_in(1, 4_194_304, 2)?;
     let table_words = fields.number_in(0, 1_048_576, 3)?;
     let places = fields.number_in(0, 524_288, 4)?;
@@ -45,15 +46,15 @@ fn read_header_1(fields: &mut Fields) -> Result<Header, ImageError>
     })
 }
 
-// The fields of version 1 behind the version.
-fn read_version_1(alloc: Global, fields: &mut Fields) -> Result<Image, ImageError>
-    ensures found { IfOk result (λ image. FitsFields image × (fields.old ≡ body_of image)) }
-    ensures judged { IsJudged result (body_refusal fields.old) }
+// The fields behind the version.
+fn read_body(alloc: Global, version: Version, fields: &mut Fields) -> Result<Image, ImageError>
+    ensures found { IfOk result (λ image. IsBody version image fields.old) }
+    ensures judged { IsJudged result (body_refusal version fields.old) }
 {
-    let header = read_header_1(fields)?;
+    let header = read_header(version, fields)?;
     let code = fields.words(alloc, header.code_words)?;
     let table = fields.doubles(alloc, header.table_words)?;
-    let places = fields.places(alloc, header.places, 6)?;
+    let places = fields.places(alloc, version, header.places, 6)?;
     fields.end()?;
     Ok(Image {
         stack_words: header.stack_words,
@@ -63,7 +64,7 @@ fn read_version_1(alloc: Global, fields: &mut Fields) -> Result<Image, ImageErro
     })
 }
 
-// The fields of any version.
+// All fields.
 fn read(alloc: Global, bytes: &[u8]) -> Result<Image, ImageError>
     ensures found { IfOk result (λ image. IsImageBytes image bytes.now) }
     ensures judged { IsJudged result (refusal_of bytes.now) }
@@ -74,7 +75,8 @@ fn read(alloc: Global, bytes: &[u8]) -> Result<Image, ImageError>
     let mut fields = Fields::new(bytes);
     fields.magic()?;
     match fields.number()? {
-        1 => read_version_1(alloc, &mut fields),
+        1 => read_body(alloc, Version::One, &mut fields),
+        2 => read_body(alloc, Version::Two, &mut fields),
         version => Err(ImageError::BadVersion(version)),
     }
 }

@@ -169,7 +169,7 @@ image_simulated code image p input n i program bytes =
     let e : Data = start_data image.stack_words input in
     let d : IsDisciplined code = discipline_is code i.disciplined in
     let some : 0 < length code.entries = d.some in
-    let most : image.stack_words ≤ 16777216 = i.ranges.stack_most in
+    let most : image.stack_words ≤ 67108864 = i.ranges.stack_most in
     let sound = start_sound image.stack_words input most bytes in
     let first = entry_comes code p at labels is w 0 (view e start_scratch) some (start_shows image input most) in
     let moves : Moves code p at w 1 2 (start_state code image input) =
@@ -180,7 +180,7 @@ image_simulated code image p input n i program bytes =
 pub images_reach : (code : Code) (image : Image) (program : Program) (input : Bytes) (n : ℕ) → IsImageOf code image → IsProgramOf image program → All (λ byte. byte < 256) input
     → ComesToLed (machine_after program image input) (2 + spent code n (start_state code image input)) (word_run code n (start_state code image input))
 images_reach code image p input n i program bytes =
-    let most : image.stack_words ≤ 16777216 = i.ranges.stack_most in
+    let most : image.stack_words ≤ 67108864 = i.ranges.stack_most in
     let d : IsDisciplined code = discipline_is code i.disciplined in
     let sound = start_sound image.stack_words input most bytes in
     reached code p (item_at code i.assembled i.assembly) (going_world (start_of image) input) (n + 1) (2 + spent code n (start_state code image input))
@@ -190,7 +190,7 @@ images_reach code image p input n i program bytes =
 pub images_follow : (code : Code) (image : Image) (program : Program) (input : Bytes) (n : ℕ) → IsImageOf code image → IsProgramOf image program → All (λ byte. byte < 256) input
     → IsBehindLed (machine_after program image input n) (word_run code n (start_state code image input))
 images_follow code image p input n i program bytes =
-    let most : image.stack_words ≤ 16777216 = i.ranges.stack_most in
+    let most : image.stack_words ≤ 67108864 = i.ranges.stack_most in
     let d : IsDisciplined code = discipline_is code i.disciplined in
     let sound = start_sound image.stack_words input most bytes in
     let r : Led = word_run code n (start_state code image input) in

@@ -54,7 +54,7 @@ reads_start image input (R d) = refl
 reads_start image input X3 = ap (λ n. stack_start + 8 * n) (sym (length-replicate {A = ℕ} image.stack_words 0))
 reads_start image input s = refl
 
-pub start_shows : (image : Image) (input : Bytes) → image.stack_words ≤ 16777216 → Shows (going_world (start_of image) input) code_start (view (start_data image.stack_words input) start_scratch)
+pub start_shows : (image : Image) (input : Bytes) → image.stack_words ≤ 67108864 → Shows (going_world (start_of image) input) code_start (view (start_data image.stack_words input) start_scratch)
 unfolding start_of start_memory
 start_shows image input most =
     let many : length (replicate {A = ℕ} image.stack_words 0) ≡ image.stack_words = length-replicate {A = ℕ} image.stack_words 0 in
@@ -71,7 +71,7 @@ start_shows image input most =
       output = refl;
     }
 
-pub start_sound : (stack_words : ℕ) (input : Bytes) → stack_words ≤ 16777216 → All (λ byte. byte < 256) input → IsSound (start_data stack_words input)
+pub start_sound : (stack_words : ℕ) (input : Bytes) → stack_words ≤ 67108864 → All (λ byte. byte < 256) input → IsSound (start_data stack_words input)
 start_sound stack_words input most bytes =
     let many : length (replicate {A = ℕ} stack_words 0) ≡ stack_words = length-replicate {A = ℕ} stack_words 0 in
     record {

@@ -48,7 +48,7 @@ pub fn run(alloc: Global, stack_words: u32, items: &[Item]) -> Result<(Ending, S
         places,
     };
     let size = image.code.len();
-    if !(1024..=16_777_216).contains(&stack_words) || !(1..=4_194_304).contains(&size) {
+    if !(1024..=67_108_864).contains(&stack_words) || !(1..=4_194_304).contains(&size) {
         return Err("no image".into());
     }
     let mut m = Machine::load(alloc, &image)?;

@@ -1,5 +1,6 @@
 use Rattle.std.proofs.Common.{◌≢◌, ◌∙◌, sym, ap, rules}
 use Rattle.std.proofs.lemmas.Result.{err_from_is_err_and}
+use Rattle.fy_image.specs.declared.version.Version.TheVariants.{One, Two}
 use Rattle.fy_image.specs.Refusals.{magic_refusal}
 use Rattle.fy_image.proofs.Judging.{cause_some, cause_cut, judged_along}
 use Rattle.fy_image.proofs.Spelling.{refusal_large, refusal_magic, refusal_cut, refusal_version, refusal_body}
@@ -27,12 +28,20 @@ returns-in-1-clause-judged c =
     let good = ap (λ b. magic_refusal b) (sym c.new-fields.ensures) ∙ c.in_ok-magic.ensures.judged in
     let is = sym c.new-fields.ensures ∙ c.in_ok-magic.ensures.taken in
     let version = c.in_ok-version in
-    judged_along _ _ _ (refusal_body c.args.bytes.now _ _ version.version c.if-bytes-gt-MOST_BYTES.false good is version.ensures.taken c.in-1.is) c.read_version_1.ensures.judged
+    judged_along _ _ _ (refusal_body One c.args.bytes.now _ _ version.version c.if-bytes-gt-MOST_BYTES.false good is version.ensures.taken c.in-1.is) c.read_body.ensures.judged
+
+pub returns-in-2-clause-judged : goal.returns-in-2-clause-judged
+returns-in-2-clause-judged c =
+    let good = ap (λ b. magic_refusal b) (sym c.new-fields.ensures) ∙ c.in_ok-magic.ensures.judged in
+    let is = sym c.new-fields.ensures ∙ c.in_ok-magic.ensures.taken in
+    let version = c.in_ok-version in
+    judged_along _ _ _ (refusal_body Two c.args.bytes.now _ _ version.version c.if-bytes-gt-MOST_BYTES.false good is version.ensures.taken c.in-2.is) c.read_body-in-2.ensures.judged
 
 pub returns-in_default-clause-judged : goal.returns-in_default-clause-judged
 returns-in_default-clause-judged c =
     let good = ap (λ b. magic_refusal b) (sym c.new-fields.ensures) ∙ c.in_ok-magic.ensures.judged in
     let is = sym c.new-fields.ensures ∙ c.in_ok-magic.ensures.taken in
     let version = c.in_ok-version in
-    let other : version.version ≢ 1 = (λ e. search rules) in
-    refusal_version c.args.bytes.now _ _ version.version c.if-bytes-gt-MOST_BYTES.false good is version.ensures.taken version.ensures.fits other
+    let one : version.version ≢ 1 = (λ e. search rules) in
+    let two : version.version ≢ 2 = (λ e. search rules) in
+    refusal_version c.args.bytes.now _ _ version.version c.if-bytes-gt-MOST_BYTES.false good is version.ensures.taken version.ensures.fits one two

@@ -1,5 +1,5 @@
 use Rattle.fy_image.proofs.Judging.{header_judged}
-use Rattle.fy_image.proofs.read.read_header_1.Goals as goal
+use Rattle.fy_image.proofs.read.read_header.Goals as goal
 
 pub returns-clause-judged : goal.returns-clause-judged
 returns-clause-judged c =
@@ -8,6 +8,6 @@ returns-clause-judged c =
     let t = c.in_ok-table_words in
     let n = c.in_ok-places in
     let z = c.in_ok-number_in in
-    header_judged _ _ _ _ _ _ s.stack_words w.code_words t.table_words n.places
+    header_judged c.args.version _ _ _ _ _ _ s.stack_words w.code_words t.table_words n.places
     (s.ensures.taken, w.ensures.taken, t.ensures.taken, n.ensures.taken) (w.ensures.fits, t.ensures.fits, n.ensures.fits)
     (s.ensures.judged, w.ensures.judged, t.ensures.judged, n.ensures.judged, z.ensures.judged)
