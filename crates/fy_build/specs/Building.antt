@@ -24,7 +24,7 @@ pub record IsProgramPhrase (p : Tree) : Type 0 where
 -- how many words the stack of an image may have
 pub record IsStackSize (words : ℕ) : Type 0 where
   pub least : 1024 ≤ words
-  pub most : words ≤ 16777216
+  pub most : words ≤ 67108864
 
 -- so many words has a table with a row for each shape of the derivation
 pub record HasTableWords (p : Tree) (d : PlainDerivation) (words : ℕ) : Type 0 where

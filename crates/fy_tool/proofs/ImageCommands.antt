@@ -64,7 +64,7 @@ is_built text named written stack program image is of = record {
 }
 
 -- a stack that is wanted is of a size that images have
-pub stack_size : (words stack : ℕ) → words ≡ stack → (1024 ≤ stack) × (stack ≤ 16777216) → IsStackSize words
+pub stack_size : (words stack : ℕ) → words ≡ stack → (1024 ≤ stack) × (stack ≤ 67108864) → IsStackSize words
 stack_size words stack is within = subst IsStackSize (sym is) (record { least = within.0; most = within.1 })
 
 -- the phrase of a judged text is one that images are built of

@@ -65,7 +65,7 @@ pub(crate) fn build_file<W: World>(
     derivation: Option<&str>,
     world: &mut W,
 ) -> Result<u8, Stop>
-    requires { (1024 ≤ stack_wanted stack) × (stack_wanted stack ≤ 16777216) }
+    requires { (1024 ≤ stack_wanted stack) × (stack_wanted stack ≤ 67108864) }
     ensures serves { Serves (Some (build file.now name.now stack (option_map (λ name. name.now) derivation.entry))) (W.holds world.old) (W.holds world.new) (W.counts world.old) (W.counts world.new) result }
     ensures same { W.names world.new ≡ W.names world.old }
 {

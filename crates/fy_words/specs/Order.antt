@@ -105,7 +105,7 @@ abbrev pub derivation_option : List Bytes → Option (Option Bytes)
 derivation_option words = at_most_once name_of (values (codes "--derivation=") words)
 
 abbrev pub stack_option : List Bytes → Option (Option ℕ)
-stack_option words = at_most_once (number_in 1024 16777216) (values (codes "--stack=") words)
+stack_option words = at_most_once (number_in 1024 67108864) (values (codes "--stack=") words)
 
 abbrev pub steps_option : List Bytes → Option (Option ℕ)
 steps_option words = at_most_once (number_in 1 1000000000000) (values (codes "--steps=") words)
@@ -233,8 +233,8 @@ trace_steps_wanted steps = unwrap_or steps 10000
 
 -- an order whose image has a stack of a size that images have, or whose steps are few enough, or whose sample has a size that samples have
 abbrev pub IsInRange : Order → Type 0
-IsInRange (build file image stack derivation) = (1024 ≤ stack_wanted stack) × (stack_wanted stack ≤ 16777216)
-IsInRange (run file steps stack derivation image) = (1024 ≤ stack_wanted stack) × (stack_wanted stack ≤ 16777216)
+IsInRange (build file image stack derivation) = (1024 ≤ stack_wanted stack) × (stack_wanted stack ≤ 67108864)
+IsInRange (run file steps stack derivation image) = (1024 ≤ stack_wanted stack) × (stack_wanted stack ≤ 67108864)
 IsInRange (copy file steps) = copy_wanted steps ≤ 1000000000
 IsInRange (trace file steps) = trace_steps_wanted steps ≤ 1000000
 IsInRange (sample number size) = (number < 2 ^ 32) × (1 ≤ size) × (size ≤ 2000)

@@ -67,9 +67,9 @@ pub enum Command<'a> {
 // The words of the stack that `--stack=` asks for.
 fn stack_option(words: &[String]) -> Option<Option<u32>>
     ensures option { result ≡ stack_option (map string_bytes words.now) }
-    ensures range { IfSome result (λ stack. (1024 ≤ stack_wanted stack) × (stack_wanted stack ≤ 16777216)) }
+    ensures range { IfSome result (λ stack. (1024 ≤ stack_wanted stack) × (stack_wanted stack ≤ 67108864)) }
 {
-    let stack = number_option("--stack=", 1024, 16_777_216, words)?;
+    let stack = number_option("--stack=", 1024, 67_108_864, words)?;
     match stack {
         None => Some(None),
         Some(words) => Some(Some(words as u32)),

@@ -87,7 +87,7 @@ fn keep_limits(items: &[Item]) -> Result<(), Fail>
 fn is_image(image: &Image) -> bool
     ensures { IsTrue result ↔ IsImage image.now }
 {
-    (1024..=16_777_216).contains(&image.stack_words)
+    (1024..=67_108_864).contains(&image.stack_words)
         && (1..=4_194_304).contains(&image.code.len())
         && image.table.len() <= 1_048_576
         && image.places.len() <= 524_288
