@@ -10,7 +10,7 @@ use Rattle.fy_build.specs.Shown.{RunsShowCopyRule}
 use Rattle.fy_derive.specs.Reading.{plain_derivation}
 use Rattle.fy_derive.proofs.RunSafety.{accepted-never_stuck}
 use Rattle.fy_image.specs.Form.{IsImageBytes}
-use Rattle.fy_image.specs.Refusals.{refusal_of, or_else, magic_refusal, first_refusal, version_1, fields_1, number_at}
+use Rattle.fy_image.specs.Refusals.{refusal_of, or_else, magic_refusal, first_refusal, version_field, fields_behind, version_of, number_at}
 use Rattle.fy_image.specs.declared.error.ImageError.{ImageError}
 use Rattle.fy_image.specs.declared.error.ImageError.TheVariants.{TooLarge}
 use Rattle.fy_image.specs.declared.image.Image.{Image}
@@ -168,7 +168,7 @@ serves_sample number size program b c d k k1 k2 result law is a (inr has) = ran 
 -- bytes that are too many are no image's
 pub too_long : (bytes : Bytes) → 33554432 < length bytes → refusal_of bytes ≡ Some TooLarge
 unfolding refusal_of
-too_long bytes longer = ap (λ b. if b then Some TooLarge else or_else (magic_refusal bytes) (first_refusal (version_1 ∷ fields_1 (number_at bytes 16) (number_at bytes 20) (number_at bytes 24)) (drop 8 bytes))) (lt-ltb 33554432 (length bytes) longer)
+too_long bytes longer = ap (λ b. if b then Some TooLarge else or_else (magic_refusal bytes) (first_refusal (version_field ∷ fields_behind (version_of (number_at bytes 8)) (number_at bytes 16) (number_at bytes 20) (number_at bytes 24)) (drop 8 bytes))) (lt-ltb 33554432 (length bytes) longer)
 
 -- bytes that are no image, where one is taken
 pub serves_no_image : (order : Order) (bytes : Bytes) (error : ImageError) (why : Note) (b c d : Contents) (k k1 k2 : Counts) (result : Result ℕ Stop) → image_of order (only bytes) ≡ Some bytes → refusal_of bytes ≡ Some error

@@ -12,10 +12,11 @@ use Rattle.fy_derive.specs.Derivations.{PlainDerivation}
 use Rattle.fy_derive.specs.Limits.{KeepsLimits}
 use Rattle.fy_derive.specs.Print.{derivation_text}
 use Rattle.fy_read.specs.Spelling.{IsTextOf}
-use Rattle.fy_image.specs.Form.{IsImageBytes}
+use Rattle.fy_image.specs.Form.{IsImageBytes, IsSpelled}
 use Rattle.fy_image.specs.Refusals.{refusal_of}
 use Rattle.fy_image.specs.declared.error.ImageError.{ImageError}
 use Rattle.fy_image.specs.declared.image.Image.{Image}
+use Rattle.fy_image.specs.declared.version.Version.TheVariants.{Two}
 use Rattle.rv_guard.specs.Guarded.{IsGuarded, IsUnguardedAt}
 use Rattle.rv_insn.specs.Program.{Program}
 use Rattle.rv_machine.specs.Start.{IsProgramOf}
@@ -154,10 +155,10 @@ pub record IsBuilt (text : Bytes) (named derivation : Option Bytes) (stack : ℕ
   pub guarded : IsGuarded image
   pub runs : RunsAsCopyRule phrase image
 
--- an image of a text, its bytes, and a run of it that ended so after n instructions, which shows what the copy rule does
+-- an image of a text, its bytes in version 2, and a run of it that ended so after n instructions, which shows what the copy rule does
 pub record RunsBuilt (text : Bytes) (named derivation : Option Bytes) (stack steps : Option ℕ) (input : Bytes) (image : Image) (bytes : Bytes) (n : ℕ) (end : RunEnd) : Type 0 where
   pub built : IsBuilt text named derivation (stack_wanted stack) image
-  pub spelled : IsImageBytes image bytes
+  pub spelled : IsSpelled Two image bytes
   pub is_run : IsRun (running_of built.runs.program image input (steps_wanted steps)) n end
   pub shows : AreBytes input → ShowsCopyRule end built.phrase image built.runs.program input n
 
@@ -200,9 +201,9 @@ pub data IsDue (sources : Sources) (input : Bytes) : Option Order → Due → Ty
   -- `derive` writes the text of the derivation in use, which shows that the phrase is a command; it can be read back, since it is one of that derivation, which keeps the limits
   derives : (file text : Bytes) (p : Tree) (names : List Bytes) (d : PlainDerivation) → sources.file ≡ Some text → IsProgramText text p → HasNames text names → IsInUse p d
       → KeepsLimits d → IsTextOf names d (derivation_text names d) → IsDue sources input (Some (orders.derive file)) (written (derivation_text names d))
-  -- `build` keeps the image's bytes
+  -- `build` keeps the image's bytes, in version 2
   builds : (file name : Bytes) (stack : Option ℕ) (named : Option Bytes) (text : Bytes) (image : Image) (bytes : Bytes) → sources.file ≡ Some text
-      → IsBuilt text named sources.derivation (stack_wanted stack) image → IsImageBytes image bytes
+      → IsBuilt text named sources.derivation (stack_wanted stack) image → IsSpelled Two image bytes
       → IsDue sources input (Some (orders.build file name stack named)) (kept name bytes)
   -- `list` writes the image's listing
   lists : (file text : Bytes) (image : Image) → sources.file ≡ Some text → (built : IsBuilt text None sources.derivation (stack_wanted None) image)

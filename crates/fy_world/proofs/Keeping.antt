@@ -8,7 +8,8 @@ use Rattle.std.specs.declared.result.Result.{Result}
 use Rattle.std.specs.declared.result.Result.TheVariants.{Ok, Err}
 use Rattle.fy_base.specs.Outside.{Bytes, OthersStay, GainedPart, appended}
 use Rattle.fy_build.specs.Shown.{RunEnd}
-use Rattle.fy_image.specs.Form.{IsImageBytes}
+use Rattle.fy_image.specs.Form.{IsSpelled}
+use Rattle.fy_image.specs.declared.version.Version.TheVariants.{Two}
 use Rattle.fy_image.specs.declared.image.Image.{Image}
 use Rattle.rv_insn.specs.Program.{Program}
 use Rattle.rv_insn.specs.Step.{Core}
@@ -43,7 +44,7 @@ err_is : (a b : Stop) → failed a ≡ failed b → a ≡ b
 err_is a b e = ap stop_of e
 
 -- all was kept
-pub was_kept : (image : Image) (name bytes : Bytes) (h c : Contents) (status : ℕ) → IsImageBytes image bytes → c ≡ record h { files = files_after h.files (Some (name, bytes)) } → status ≡ 0 → WasKept image name h c (Ok status)
+pub was_kept : (image : Image) (name bytes : Bytes) (h c : Contents) (status : ℕ) → IsSpelled Two image bytes → c ≡ record h { files = files_after h.files (Some (name, bytes)) } → status ≡ 0 → WasKept image name h c (Ok status)
 was_kept image name bytes h c status spelled kept none_is = record {
   bytes = bytes;
   spelled = spelled;
@@ -56,7 +57,7 @@ was_kept image name bytes h c status spelled kept none_is = record {
 }
 
 -- the named file is unknown
-pub not_kept : (image : Image) (name bytes : Bytes) (h c : Contents) (stop : Stop) → IsImageBytes image bytes → c ≡ record h { files = c.files } → stop ≡ Keep → OthersStay h.files c.files name → WasKept image name h c (Err stop)
+pub not_kept : (image : Image) (name bytes : Bytes) (h c : Contents) (stop : Stop) → IsSpelled Two image bytes → c ≡ record h { files = c.files } → stop ≡ Keep → OthersStay h.files c.files name → WasKept image name h c (Err stop)
 not_kept image name bytes h c stop spelled rest keep unknown =
     let other : stop ≢ Memory = λ memory. let clash : Keep ≡ Memory = sym keep ∙ memory in cc in
     let no_input : stop ≢ Input = λ input. let clash : Keep ≡ Input = sym keep ∙ input in cc in
@@ -172,7 +173,7 @@ kept_and_run image program core limit name h c d status result of start was run 
 
 -- ---- what a call that keeps an image answers
 
-pub keeps_failed : (image : Image) (name bytes : Bytes) (h c : Contents) (stop : Stop) → IsImageBytes image bytes → c ≡ record h { files = c.files } → (stop ≡ Memory → c.files ≡ h.files) → (stop ≡ Keep → OthersStay h.files c.files name)
+pub keeps_failed : (image : Image) (name bytes : Bytes) (h c : Contents) (stop : Stop) → IsSpelled Two image bytes → c ≡ record h { files = c.files } → (stop ≡ Memory → c.files ≡ h.files) → (stop ≡ Keep → OthersStay h.files c.files name)
     → (stop ≡ Keep) ⊎ (stop ≡ Memory) → Keeps image name h c (Err stop)
 keeps_failed image name bytes h c stop spelled rest same unknown (inl keep) = inr (not_kept image name bytes h c stop spelled rest keep (unknown keep))
 keeps_failed image name bytes h c stop spelled rest same unknown (inr memory) = inl (unbegun h c stop memory (rest ∙ ap (λ f. record h { files = f }) (same memory)))

@@ -5,7 +5,8 @@ use Rattle.std.specs.declared.result.Result.{Result}
 use Rattle.std.specs.declared.result.Result.TheVariants.{Err}
 use Rattle.fy_base.specs.Outside.{Bytes, GainedPart, appended}
 use Rattle.fy_build.specs.Shown.{RunEnd}
-use Rattle.fy_image.specs.Form.{IsImageBytes}
+use Rattle.fy_image.specs.Form.{IsSpelled}
+use Rattle.fy_image.specs.declared.version.Version.TheVariants.{Two}
 use Rattle.fy_image.specs.declared.image.Image.{Image}
 use Rattle.fy_phrase.specs.Tree.{Tree}
 use Rattle.rv_insn.specs.Program.{Program, AreRead}
@@ -43,10 +44,10 @@ pub record AreFetched (program : Program) (words : List Fetched) : Type 0 where
   pub read : AreRead program.words program.instructions
   pub each : All (λ fetched. word_at program fetched.pc ≡ Some fetched.word) words
 
--- an image's bytes were kept under a name, or a part of that was done
+-- an image's bytes, in version 2, were kept under a name, or a part of that was done
 pub record WasKept (image : Image) (name : Bytes) (before now : Contents) (result : Result ℕ Stop) : Type 0 where
   pub bytes : Bytes
-  pub spelled : IsImageBytes image bytes
+  pub spelled : IsSpelled Two image bytes
   pub ready : result ≢ Err Memory
   pub closed : result ≢ Err Input
   pub did : Did (record { status = 0; output = []; notes = []; kept = Some (name, bytes); rest = None; running = None }) before now result
@@ -86,7 +87,7 @@ Executes image limit trace before now result = IsUnbegun before now result ⊎ H
 -- an image was kept under a name, and then it ran
 pub record HasKeptAndRun (image : Image) (limit : ℕ) (name : Bytes) (before now : Contents) (result : Result ℕ Stop) : Type 0 where
   pub bytes : Bytes
-  pub spelled : IsImageBytes image bytes
+  pub spelled : IsSpelled Two image bytes
   pub executed : HasExecuted image limit None (Some (name, bytes)) before now result
   pub ready : result ≢ Err Memory
 
@@ -123,7 +124,7 @@ pub record HasSampled (program : Program) (core : Core) (limit : ℕ) (kept : Op
 -- an image was kept under a name, and then it ran, and a summary was written
 pub record HasKeptAndSampled (image : Image) (limit : ℕ) (name : Bytes) (before now : Contents) (result : Result ℕ Stop) : Type 0 where
   pub bytes : Bytes
-  pub spelled : IsImageBytes image bytes
+  pub spelled : IsSpelled Two image bytes
   pub program : Program
   pub is_the_images : IsProgramOfImage image program
   pub has_sampled : HasSampled program (start_of image) limit (Some (name, bytes)) before now result

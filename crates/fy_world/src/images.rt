@@ -60,7 +60,7 @@ pub fn execute<W: World>(
     }
 }
 
-/// Keeps the bytes of an image under a name.
+/// Keeps the bytes of an image under a name, in version 2.
 pub fn keep_image<W: World>(
     alloc: Global,
     image: &Image,
