@@ -21,7 +21,7 @@ use Rattle.fy_sample.specs.Sample.{sample_text}
 use Rattle.rv_insn.specs.Program.{Program as Code}
 use Rattle.rv_machine.proofs.Loading.{one_program}
 use Rattle.rv_machine.specs.Start.{start_of}
-use Rattle.fy_words.specs.Order.{Order, build, exec, run, list, sample, audit, steps_wanted, stack_wanted}
+use Rattle.fy_words.specs.Order.{Order, build, exec, run, list, sample, audit, migrate, steps_wanted, stack_wanted}
 use Rattle.fy_world.specs.World.{Contents, Counts}
 use Rattle.fy_world.specs.Note.{refusal_note}
 use Rattle.fy_world.specs.Runs.{told}
@@ -31,7 +31,7 @@ use Rattle.fy_world.specs.declared.note.Note.{Note}
 use Rattle.fy_world.specs.declared.world.Stop.{Stop}
 use Rattle.fy_world.specs.declared.world.Stop.TheVariants.{Memory}
 use Rattle.fy_tool.specs.Audited.{Audits}
-use Rattle.fy_tool.specs.Due.{Sources, IsBuilt, RunsBuilt, IsReadyFirst, image_of, kept_as, unread, builds, lists, executes, runs, samples, audits, unguarded}
+use Rattle.fy_tool.specs.Due.{Sources, IsBuilt, RunsBuilt, IsReadyFirst, image_of, kept_as, unread, builds, lists, executes, runs, samples, audits, unguarded, migrates}
 use Rattle.fy_tool.specs.Answers.{Serves}
 use Rattle.fy_tool.specs.Working.{IsOfText, IsGivenFor, IsImageFor, Builds, BuildsAndRuns, BuildsAndSamples, Lists}
 use Rattle.fy_tool.specs.Given.{found}
@@ -196,3 +196,10 @@ serves_audit name bytes image b c d k k1 k2 result spelled a ready (inr (inl was
     done_quietly (audit name) (only bytes) b c d k k1 k2 result _ a (λ input. audits name bytes image refl spelled was.guarded) was.did (λ _ memory. ready memory)
 serves_audit name bytes image b c d k k1 k2 result spelled a ready (inr (inr was)) =
     done_quietly (audit name) (only bytes) b c d k k1 k2 result _ a (λ input. unguarded name bytes image was.word refl spelled was.unguarded) was.did (λ _ memory. ready memory)
+
+-- `migrate` of an image
+pub serves_migrate : (from to bytes : Bytes) (image : Image) (b c d : Contents) (k k1 k2 : Counts) (result : Result ℕ Stop) → IsImageBytes image bytes → After (migrate from to) (only bytes) b c d k k1 k2 result → Keeps image to c d result
+    → Serves (Some (migrate from to)) b d k k2 result
+serves_migrate from to bytes image b c d k k1 k2 result spelled a (inl unbegun) = none_done (migrate from to) (only bytes) b c d k k1 k2 result a unbegun
+serves_migrate from to bytes image b c d k k1 k2 result spelled a (inr was) =
+    done_quietly (migrate from to) (only bytes) b c d k k1 k2 result _ a (λ input. migrates from to bytes image was.bytes refl spelled was.spelled) was.did (λ _ memory. absurd (was.ready memory))

@@ -54,8 +54,9 @@ named_by (orders.trace file steps) = None
 named_by (orders.list file) = None
 named_by (orders.sample number size) = None
 named_by (orders.audit image) = None
+named_by (orders.migrate from to) = None
 
--- the text that an order takes; `exec` and `audit` take an image
+-- the text that an order takes; `exec`, `audit` and `migrate` take an image
 abbrev pub text_of : Order → Sources → Option Bytes
 text_of (orders.check file) sources = sources.file
 text_of (orders.derive file) sources = sources.file
@@ -67,11 +68,13 @@ text_of (orders.list file) sources = sources.file
 text_of (orders.sample number size) sources = Some (sample_text number size)
 text_of (orders.exec image steps last) sources = None
 text_of (orders.audit image) sources = None
+text_of (orders.migrate from to) sources = None
 
 -- the bytes of the image that an order takes
 abbrev pub image_of : Order → Sources → Option Bytes
 image_of (orders.exec image steps last) sources = sources.file
 image_of (orders.audit image) sources = sources.file
+image_of (orders.migrate from to) sources = sources.file
 image_of (orders.check file) sources = None
 image_of (orders.derive file) sources = None
 image_of (orders.build file image stack named) sources = None
@@ -93,6 +96,7 @@ file_of (orders.trace file steps) = Some file
 file_of (orders.list file) = Some file
 file_of (orders.sample number size) = None
 file_of (orders.audit image) = Some image
+file_of (orders.migrate from to) = Some from
 
 -- the files that an order reads
 abbrev pub reads_of : Order → List Bytes
@@ -107,6 +111,7 @@ abbrev pub keeps_of : Order → List Bytes
 keeps_of (orders.build file image stack named) = image ∷ []
 keeps_of (orders.run file steps stack named image) = kept_as file image ∷ []
 keeps_of (orders.sample number size) = codes "sample.img" ∷ []
+keeps_of (orders.migrate from to) = to ∷ []
 keeps_of (orders.check file) = []
 keeps_of (orders.derive file) = []
 keeps_of (orders.exec image steps last) = []
@@ -128,6 +133,7 @@ IsReadyFirst (orders.build file image stack named) = Unit {0}
 IsReadyFirst (orders.run file steps stack named image) = Unit {0}
 IsReadyFirst (orders.sample number size) = Unit {0}
 IsReadyFirst (orders.audit image) = Unit {0}
+IsReadyFirst (orders.migrate from to) = Unit {0}
 
 -- an order that runs an image
 abbrev pub RunsImage : Order → Type 0
@@ -141,6 +147,7 @@ RunsImage (orders.copy file steps) = ⊥
 RunsImage (orders.trace file steps) = ⊥
 RunsImage (orders.list file) = ⊥
 RunsImage (orders.audit image) = ⊥
+RunsImage (orders.migrate from to) = ⊥
 
 -- ---- images
 
@@ -235,6 +242,9 @@ pub data IsDue (sources : Sources) (input : Bytes) : Option Order → Due → Ty
   -- `audit` of an image that isn't guarded tells the word; by `images_are_judged_one_way` there is no other, and no guarded image has one
   unguarded : (name bytes : Bytes) (image : Image) (word : ℕ) → sources.file ≡ Some bytes → IsImageBytes image bytes → IsUnguardedAt image word
       → IsDue sources input (Some (orders.audit name)) (told 12 (note.Audit word ∷ []))
+  -- `migrate` keeps the bytes in version 2 of the image whose bytes the file holds; these are no other image's
+  migrates : (from to old : Bytes) (image : Image) (new : Bytes) → sources.file ≡ Some old → IsImageBytes image old → IsSpelled Two image new
+      → IsDue sources input (Some (orders.migrate from to)) (kept to new)
 
 -- ---- what is told of the files
 

@@ -10,6 +10,7 @@ mod exec;
 mod given;
 mod laws;
 mod list;
+mod migrate;
 mod refused;
 mod run;
 mod sample;

@@ -11,6 +11,7 @@ use crate::copy::copy_file;
 use crate::derive::derive_file;
 use crate::exec::exec_file;
 use crate::list::list_file;
+use crate::migrate::migrate_file;
 use crate::run::run_file;
 use crate::sample::run_sample;
 use crate::trace::trace_file;
@@ -50,5 +51,6 @@ pub(crate) fn serve<W: World>(alloc: Global, command: Command, world: &mut W) ->
         Command::List { file } => list_file(alloc, file, world),
         Command::Sample { number, size } => run_sample(alloc, number, size, world),
         Command::Audit { image } => audit_file(alloc, image, world),
+        Command::Migrate { from, to } => migrate_file(alloc, from, to, world),
     }
 }

@@ -21,6 +21,7 @@ pub data Order : Type 0 where
   list : (file : Bytes) → Order
   sample : (number size : ℕ) → Order
   audit : (image : Bytes) → Order
+  migrate : (from to : Bytes) → Order
 
 -- the order that a command stands for
 abbrev pub order_of : Command → Order
@@ -34,6 +35,7 @@ order_of (command.Trace file steps) = trace file.now steps
 order_of (command.List file) = list file.now
 order_of (command.Sample number size) = sample number size
 order_of (command.Audit image) = audit image.now
+order_of (command.Migrate from to) = migrate from.now to.now
 
 -- ---- options and operands
 
@@ -91,6 +93,15 @@ only_operand _ = None
 abbrev pub both_operands : List Bytes → Option (Bytes × Bytes)
 both_operands (first ∷ second ∷ []) = Some (first, second)
 both_operands _ = None
+
+-- the two operands, where both are names
+abbrev pub both_with : Option Bytes → Option Bytes → Option (Bytes × Bytes)
+both_with (Some first) (Some second) = Some (first, second)
+both_with _ _ = None
+
+abbrev pub both_names : List Bytes → Option (Bytes × Bytes)
+both_names (first ∷ second ∷ []) = both_with (name_of first) (name_of second)
+both_names _ = None
 
 -- an option that stands among the words at most once: not among them, its value, or none where that isn't in form or stands twice
 abbrev pub at_most_once : {X : Type 0} → (Bytes → Option X) → List Bytes → Option (Option X)
@@ -197,6 +208,10 @@ sample_from words =
 abbrev pub audit_from : List Bytes → Option Order
 audit_from words = if are_known [] words then option_map audit (only_operand (operands words)) else None
 
+-- `migrate IN OUT`
+abbrev pub migrate_from : List Bytes → Option Order
+migrate_from words = if are_known [] words then option_map (λ both. migrate both.0 both.1) (both_names (operands words)) else None
+
 -- the order that words are, if they are one: the first word is the command
 abbrev pub command_from : List Bytes → Option Order
 command_from [] = None
@@ -211,7 +226,8 @@ command_from (name ∷ words) =
     else (if bytes_eq name (codes "list") then list_from words
     else (if bytes_eq name (codes "sample") then sample_from words
     else (if bytes_eq name (codes "audit") then audit_from words
-    else None)))))))))
+    else (if bytes_eq name (codes "migrate") then migrate_from words
+    else None))))))))))
 
 -- ---- what is wanted where no option says it
 
@@ -243,3 +259,4 @@ IsInRange (derive file) = Unit {0}
 IsInRange (exec image steps last) = Unit {0}
 IsInRange (list file) = Unit {0}
 IsInRange (audit image) = Unit {0}
+IsInRange (migrate from to) = Unit {0}

@@ -3,9 +3,11 @@
 ghost use Rattle.std.specs.Prelude.{◌≡◌, ◌≤◌, map, string_bytes, IfSome};
 ghost use Rattle.std.specs.Option.{option_map};
 ghost use Rattle.fy_words.specs.Order.{IsInRange, copy_wanted, trace_steps_wanted, stack_wanted};
-ghost use Rattle.fy_words.specs.Order.{stack_option, trace_option, steps_option, check_from, build_from, exec_from, run_from, list_from, sample_from, command_from, order_of, copy_option, copy_from, trace_steps_option, trace_from, derive_from, audit_from};
+ghost use Rattle.fy_words.specs.Order.{stack_option, trace_option, steps_option, check_from, build_from, exec_from, run_from, list_from, sample_from, command_from, order_of, copy_option, copy_from, trace_steps_option, trace_from, derive_from, audit_from, migrate_from};
 
-use crate::words::{are_known, both_operands, name_option, number_in, number_option, only_operand};
+use crate::words::{
+    are_known, both_names, both_operands, name_option, number_in, number_option, only_operand,
+};
 
 /// What the words ask for. An option that isn't among the words is `None`.
 #[derive(Clone, Copy)]
@@ -61,6 +63,11 @@ pub enum Command<'a> {
     /// Judges an image without its source.
     Audit {
         image: &'a str,
+    },
+    /// Keeps an image in the newest version.
+    Migrate {
+        from: &'a str,
+        to: &'a str,
     },
 }
 
@@ -264,6 +271,18 @@ fn audit_of(words: &[String]) -> Option<Command<'_>>
     Some(Command::Audit { image })
 }
 
+// `migrate IN OUT`
+fn migrate_of(words: &[String]) -> Option<Command<'_>>
+    ensures order { option_map order_of result ≡ migrate_from (map string_bytes words.now) }
+    ensures stack { IfSome result (λ command. IsInRange (order_of command)) }
+{
+    if !are_known(&[], words) {
+        return None;
+    }
+    let (from, to) = both_names(words)?;
+    Some(Command::Migrate { from, to })
+}
+
 /// The command that the words are, or `None` exactly where they are none: the first word names it,
 /// a word that begins with `--` is an option, and every other word is an operand. Options stand
 /// anywhere behind the first word, each at most once. It takes no memory.
@@ -285,6 +304,7 @@ pub fn command_of(words: &[String]) -> Option<Command<'_>>
         "list" => list_of(words),
         "sample" => sample_of(words),
         "audit" => audit_of(words),
+        "migrate" => migrate_of(words),
         _ => None,
     }
 }

@@ -2,7 +2,7 @@
 
 ghost use Rattle.std.specs.Prelude.{◌≡◌, ◌≤◌, ◌<◌, ℕ, ◌^◌, ◌-◌, ◌∷◌, ◌++◌, [], List, min, not, ◌||◌, IfSome, map, string_bytes};
 ghost use Rattle.std.specs.Option.{option_map, option_to_list};
-ghost use Rattle.fy_words.specs.Order.{is_option, operands, behind, values, has_key, are_known, name_of, number_in, only_operand, both_operands, at_most_once, number_from};
+ghost use Rattle.fy_words.specs.Order.{is_option, operands, behind, values, has_key, are_known, name_of, number_in, only_operand, both_operands, both_names, at_most_once, number_from};
 ghost use Rattle.fy_base.specs.Outside.{Bytes};
 ghost use Rattle.fy_words.specs.Words.{AreFound};
 
@@ -43,6 +43,18 @@ impl<'a> Found<'a> {
     {
         match self {
             Found::Twice(first, second) => Some((first, second)),
+            _ => None,
+        }
+    }
+
+    // The two texts, if they are two and each has a byte or more.
+    fn both_named(self) -> Option<(&'a str, &'a str)>
+        ensures { (texts : List Bytes) → AreFound self.entry texts → option_map (λ both. (both.0.now, both.1.now)) result ≡ both_names texts }
+    {
+        match self {
+            Found::Twice(first, second) if !first.is_empty() && !second.is_empty() => {
+                Some((first, second))
+            }
             _ => None,
         }
     }
@@ -150,6 +162,13 @@ pub(crate) fn both_operands(words: &[String]) -> Option<(&str, &str)>
     ensures { option_map (λ both. (both.0.now, both.1.now)) result ≡ both_operands (operands (map string_bytes words.now)) }
 {
     operands(words).both()
+}
+
+/// The two operands, if both are names.
+pub(crate) fn both_names(words: &[String]) -> Option<(&str, &str)>
+    ensures { option_map (λ both. (both.0.now, both.1.now)) result ≡ both_names (operands (map string_bytes words.now)) }
+{
+    operands(words).both_named()
 }
 
 /// The value of an option that is a name, or `None` where it isn't in form or stands twice.
