@@ -1,8 +1,8 @@
-//! Writes images to measure with: `OUT mixed FILE.img` is a loop of 100 million instructions, adds,
-//! loads, stores, branches and a multiplication; `OUT large FILE.img` ends at once and has the largest
-//! stack and the largest code. Four kinds are guarded and have the largest code, to be audited:
-//! `guarded` has typical pieces, `stack-checks` and `table-checks` check one register over and over and
-//! move it between, and `jumps` only jumps.
+//! Writes images to measure with, in version 2: `OUT mixed FILE.img` is a loop of 100 million
+//! instructions, adds, loads, stores, branches and a multiplication; `OUT large FILE.img` ends at once
+//! and has the largest stack and the largest code. Four kinds are guarded and have the largest code, to
+//! be audited: `guarded` has typical pieces, `stack-checks` and `table-checks` check one register over
+//! and over and move it between, and `jumps` only jumps.
 
 fn r(f7: u32, rs2: u32, rs1: u32, f3: u32, rd: u32, op: u32) -> u32 {
     f7 << 25 | rs2 << 20 | rs1 << 15 | f3 << 12 | rd << 7 | op
@@ -149,7 +149,7 @@ fn main() {
     let name = args.next().expect("a name of a file");
     let (stack_words, table_words, code) = match kind.as_str() {
         "mixed" => (131_072u32, 0u32, mixed()),
-        "large" => (16_777_216, 0, large()),
+        "large" => (67_108_864, 0, large()),
         "guarded" => (1_024, 1, filled(typical())),
         "stack-checks" => (1_024, 1, filled(moved(stack_check(5, 32)))),
         "table-checks" => (1_024, 1, filled(moved(table_check(5)))),
@@ -157,7 +157,7 @@ fn main() {
         _ => panic!("mixed, large, guarded, stack-checks, table-checks or jumps"),
     };
     let mut bytes = b"FORSYF64".to_vec();
-    for n in [1, stack_words, code.len() as u32, table_words, 0, 0].iter().chain(&code) {
+    for n in [2, stack_words, code.len() as u32, table_words, 0, 0].iter().chain(&code) {
         bytes.extend(n.to_le_bytes());
     }
     bytes.resize(bytes.len() + 8 * table_words as usize, 0);
