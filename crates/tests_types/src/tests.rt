@@ -2,6 +2,5 @@ mod copy;
 mod derive;
 mod made;
 mod phrase;
-mod programs;
 mod read;
 mod types;

@@ -14,19 +14,3 @@ pub fn boxed(alloc: Global, p: Phrase) -> Result<Box<Phrase>, OutOfMemory> {
 pub fn under(alloc: Global, definition: Phrase, body: Phrase) -> Result<Phrase, OutOfMemory> {
     Ok(Phrase::LetIn(0, boxed(alloc, definition)?, boxed(alloc, body)?, AT))
 }
-
-// A beginning, a piece so many times, and an end.
-pub fn repeated(
-    alloc: Global,
-    begin: &[u8],
-    piece: &[u8],
-    times: u32,
-    end: &[u8],
-) -> Result<Vec<u8>, OutOfMemory> {
-    let mut text = Vec::from_slice(alloc, begin)?;
-    for _ in 0..times {
-        text.extend_from_slice(piece)?;
-    }
-    text.extend_from_slice(end)?;
-    Ok(text)
-}
