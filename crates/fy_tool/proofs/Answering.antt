@@ -11,7 +11,7 @@ use Rattle.fy_world.specs.declared.world.Stop.{Stop}
 use Rattle.fy_world.specs.declared.world.Stop.TheVariants.{Fetch, Keep, Input, Output, Notes, Memory}
 use Rattle.fy_words.specs.Order.{Order}
 use Rattle.fy_world.specs.Runs.{Due}
-use Rattle.fy_world.specs.Did.{FilesPart, InputPart, Part}
+use Rattle.fy_world.specs.Did.{FilesPart, InputPart, IsUnread, Part}
 use Rattle.fy_tool.specs.Answers.{Serves, Concludes, last_line, IsLastLine, all_reads_of, all_keeps_of, Answers}
 use Rattle.fy_world.proofs.Contents.{gained_both}
 use Rattle.fy_world.proofs.Counting.{later_more, later_counted, caused_later, others_later}
@@ -25,6 +25,9 @@ part_output due b c d stop e p = subst (λ o. GainedPart b.output o due.output) 
 
 part_input : (due : Due) (b c d : Contents) (stop : Stop) → d ≡ record c { notes = d.notes } → Part due b c stop → InputPart due.running b.input d.input
 part_input due b c d stop e p = subst (λ i. InputPart due.running b.input i) (sym (ap (λ (x : Contents). x.input) e)) p.input
+
+part_unread : (due : Due) (b c d : Contents) (stop : Stop) → d ≡ record c { notes = d.notes } → Part due b c stop → stop ≡ Input → IsUnread due.running b.input d.input b.output d.output
+part_unread due b c d stop e p input = subst (λ (x : Contents). IsUnread due.running b.input x.input b.output x.output) (sym e) (p.unread input)
 
 -- and where memory was wanting, the files are as before
 lost_files : (due : Due) (b c d : Contents) → d ≡ record c { notes = d.notes } → Part due b c Memory → FilesPart due.kept Notes b.files d.files
@@ -65,7 +68,7 @@ answer_outside order b c d k k1 k2 stop status other w e =
           record {
             files = part_files w.due b c d stop e.rest p;
             input = part_input w.due b c d stop e.rest p;
-            asks = p.asks;
+            unread = part_unread w.due b c d stop e.rest p;
             output = part_output w.due b c d stop e.rest p;
             notes = record {
               first = p.notes.part;
@@ -116,7 +119,7 @@ answer_memory order b c d k k1 k2 status w e =
           record {
             files = lost_files w.due b c d e.rest p;
             input = part_input w.due b c d Memory e.rest p;
-            asks = λ clash. cc;
+            unread = λ clash. cc;
             output = part_output w.due b c d Memory e.rest p;
             notes = record {
               first = ended_lines (take whole.count w.due.notes) ++ lost.part;

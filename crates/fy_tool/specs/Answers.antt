@@ -12,7 +12,7 @@ use Rattle.fy_world.specs.World.{Contents, Counts, Later}
 use Rattle.fy_world.specs.Counted.{Caused, OthersStand, Counted}
 use Rattle.fy_world.specs.Note.{texts, ended_lines}
 use Rattle.fy_world.specs.Runs.{Due}
-use Rattle.fy_world.specs.Did.{Did, IsOwn, FilesPart, InputPart, Asks, after_all}
+use Rattle.fy_world.specs.Did.{Did, IsOwn, FilesPart, InputPart, IsUnread, after_all}
 use Rattle.fy_world.specs.declared.note.Note.TheVariants as note
 use Rattle.fy_world.specs.declared.world.Stop.{Stop}
 use Rattle.fy_world.specs.declared.world.Stop.TheVariants.{Fetch, Keep, Input, Output, Notes, Memory}
@@ -101,7 +101,7 @@ pub record NotesPart (due : Due) (stop : Stop) (before now : Option Bytes) (coun
 pub record IsOutside (due : Due) (before now : Contents) (counts counts' : Counts) (stop : Stop) : Type 0 where
   pub files : FilesPart due.kept stop before.files now.files
   pub input : InputPart due.running before.input now.input
-  pub asks : stop ≡ Input → Asks due.running
+  pub unread : stop ≡ Input → IsUnread due.running before.input now.input before.output now.output
   pub output : GainedPart before.output now.output due.output
   pub notes : NotesPart due stop before.notes now.notes counts counts'
 

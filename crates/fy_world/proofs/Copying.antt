@@ -1,5 +1,5 @@
 -- The run of a phrase by the copy rule over the objects of a call.
-use Rattle.std.proofs.Common.{◌≡◌, ◌≢◌, ℕ, ◌≤◌, zero, suc, ◌+◌, ◌-◌, Bool, true, false, sym, ap, ◌∙◌, refl, subst, arith, inl, inr, Some, None}
+use Rattle.std.proofs.Common.{◌≡◌, ◌≢◌, ℕ, ◌≤◌, zero, suc, ◌+◌, ◌-◌, ◌<◌, Bool, true, false, sym, ap, ◌∙◌, refl, subst, arith, inl, inr, Some, None}
 use Rattle.std.specs.Prelude.{◌⊎◌}
 use Rattle.std.specs.Option.{ForSome, option_map}
 use Rattle.std.specs.declared.option.Option.{Option}
@@ -9,9 +9,11 @@ use Rattle.fy_base.specs.declared.data.Ending.{Ending}
 use Rattle.fy_base.specs.declared.data.Ending.TheVariants as ends
 use Rattle.fy_phrase.specs.Tree.{Tree}
 use Rattle.fy_phrase.specs.Sizes.{fits}
-use Rattle.fy_phrase.specs.Copy.{CopyMove, goes, puts, takes, faults, sticks, Standing, going, ended, faulted, stuck, copy_step, copy_after, peak_load}
+use Rattle.fy_phrase.specs.Copy.{CopyMove, goes, puts, takes, faults, sticks, Standing, going, ended, faulted, stuck, copy_step, copy_after, peak_load, settled, ticked, start_run}
+use Rattle.fy_phrase.specs.Copy as rule
+use Rattle.fy_phrase.proofs.Runs.{after_suc}
 use Rattle.fy_copy.specs.Moves.{IsTooBig}
-use Rattle.fy_copy.specs.Ends.{IsGoingBelow, IsHeldBelow, EndsSo, HasPut, taken_after, RunsTo, DoesPart, IsCopyEnd}
+use Rattle.fy_copy.specs.Ends.{IsGoingBelow, IsHeldBelow, AsksAt, EndsSo, HasPut, taken_after, RunsTo, DoesPart, IsCopyEnd}
 use Rattle.fy_copy.specs.declared.run.CopyRun.{CopyRun}
 use Rattle.fy_copy.proofs.Reached.{outputs_grow, below_next, small_next, part_longer}
 use Rattle.fy_derive.specs.Safety.{IsNeverStuck}
@@ -19,7 +21,7 @@ use Rattle.fy_world.specs.World.{Contents}
 use Rattle.fy_world.specs.Note.{texts, ended_lines}
 use Rattle.fy_world.specs.Runs.{Copying, of_phrase, CopyEnd, ending_of_copy, IsCopyRun, copy_status, copy_notes, copied}
 use Rattle.fy_world.specs.Runs as copy_ends
-use Rattle.fy_world.specs.Did.{IsLeftBy, Asks}
+use Rattle.fy_world.specs.Did.{IsLeftBy, IsUnread}
 use Rattle.fy_world.specs.Working.{HasCopied}
 use Rattle.fy_world.specs.declared.world.Stop.{Stop}
 use Rattle.fy_world.specs.declared.world.Stop.TheVariants.{Input, Output, Notes, Memory}
@@ -111,8 +113,8 @@ gained_part before now output gained = subst (λ x. GainedPart before x output) 
 -- a part of what is due was done, where the run made n steps or more
 part_done : (p : Tree) (limit n : ℕ) (input : Bytes) (h c : Contents) (stop : Stop) → IsNeverStuck p → n ≤ limit → IsGoingBelow p input n → IsHeldBelow p input n → ForSome h.input (λ left. input ≡ left)
     → IsLeftBy (of_phrase (copying_by p limit input)) h.input c.input → GainedPart h.output c.output (copy_after p input n).output → c ≡ record h { input = c.input; output = c.output }
-    → (stop ≡ Input → Asks (Some (of_phrase (copying_by p limit input)))) → HasCopied p limit h c (Err stop)
-part_done p limit n input h c stop safe le below held told taken output rest asks =
+    → (stop ≡ Input → IsUnread (Some (of_phrase (copying_by p limit input))) h.input c.input h.output c.output) → HasCopied p limit h c (Err stop)
+part_done p limit n input h c stop safe le below held told taken output rest unread =
     let copying = copying_by p limit input in
     let w = whole copying n safe le below held in
     let files = ap (λ x. x.files) rest in
@@ -130,7 +132,7 @@ part_done p limit n input h c stop safe le below held told taken output rest ask
         notes = subst (λ x. GainedPart h.notes x (ended_lines (copied copying w.m w.end).notes)) (sym notes) (nothing h.notes _);
         unchanged = λ _. files;
         whole = λ _. record { count = 0; gained = notes ∙ sym (appended-nil h.notes) };
-        asks = asks;
+        unread = unread;
       };
     }
 
@@ -141,6 +143,16 @@ copied_unfinished p limit h c stop safe memory part rest =
     part_done p limit part.made part.fed h c stop safe part.within part.going part.held part.told (record { steps = part.made; within = part.within; rest = part.rest }) (gained_part h.output c.output _ part.output) rest
     (λ input. absurd (let clash : Memory ≡ Input = sym memory ∙ input in cc))
 
+-- a step that reads puts nothing
+read_puts_none : (p : Tree) (input : Bytes) (n : ℕ) → AsksAt p input n → (copy_after p input n).output ≡ (copy_after p input (n - 1)).output
+read_puts_none p input n at =
+    let some = at.some in
+    let before = copy_after p input (n - 1) in
+    let last : n ≡ suc (n - 1) = omega arith in
+    let going = at.below (n - 1) (omega arith) in
+    let more : copy_after p input n ≡ settled (copy_step before.state) before = ap (λ k. copy_after p input k) last ∙ after_suc (n - 1) (start_run p input) ∙ ap (λ s. ticked s before) going in
+    ap (λ (r : rule.CopyRun). r.output) more ∙ ap (λ m. (settled m before).output) at.asks
+
 -- a read failed
 pub copied_unread : (p : Tree) (limit : ℕ) (h c : Contents) (done : CopyRun) → IsNeverStuck p → done.end ≡ ends.InputFault → done.steps ≤ limit → Ran p limit done h c → c ≡ record h { input = c.input; output = c.output }
     → HasCopied p limit h c (Err Input)
@@ -148,7 +160,13 @@ copied_unread p limit h c done safe is le r rest =
     let asks = subst (λ e. EndsSo e p r.fed done.steps limit) is r.end in
     let output = subst (λ e. HasPut e h.output c.output (copy_after p r.fed done.steps).output) is r.output in
     part_done p limit done.steps r.fed h c Input safe le asks.below r.held r.told (left_by p limit h c done le r) (gained_part h.output c.output _ output) rest
-    (λ _. (done.steps, le, asks))
+    (λ _. record {
+      steps = done.steps;
+      within = le;
+      reads = (asks, r.held);
+      rest = r.rest ∙ ap (λ e. option_map (λ _. (copy_after p r.fed (taken_after e done.steps)).input) h.input) is;
+      output = output ∙ ap (λ bytes. appended h.output bytes) (read_puts_none p r.fed done.steps asks);
+    })
 
 -- a put failed
 pub copied_unwritten : (p : Tree) (limit : ℕ) (h c : Contents) (done : CopyRun) → IsNeverStuck p → done.end ≡ ends.OutputFault → done.steps ≤ limit → Ran p limit done h c → c ≡ record h { input = c.input; output = c.output }
@@ -250,6 +268,6 @@ copied_untold p limit h c d done stop safe is no_input no_output le r rest other
         notes = subst (λ n. GainedPart n d.notes (ended_lines due.notes)) notes (subst (λ ls. GainedPart c.notes d.notes (ended_lines (texts ls))) e.notes_are (part e.own.by e.own.is));
         unchanged = λ _. files;
         whole = λ memory. absurd (let clash : Notes ≡ Memory = sym stop_is ∙ memory in cc);
-        asks = λ asked. absurd (let clash : Notes ≡ Input = sym stop_is ∙ asked in cc);
+        unread = λ input. absurd (let clash : Notes ≡ Input = sym stop_is ∙ input in cc);
       };
     }

@@ -1,5 +1,5 @@
 -- The run of a machine over the objects of a call.
-use Rattle.std.proofs.Common.{◌≡◌, ◌≢◌, ℕ, ◌≤◌, List, ◌++◌, sym, ap, ◌∙◌, refl, subst, arith, Some, None}
+use Rattle.std.proofs.Common.{◌≡◌, ◌≢◌, ℕ, ◌-◌, ◌+◌, ◌<◌, ◌≤◌, List, ◌++◌, sym, ap, ◌∙◌, refl, subst, arith, Some, None}
 use Rattle.std.specs.Option.{ForSome, option_map}
 use Rattle.std.specs.declared.option.Option.{Option}
 use Rattle.std.specs.declared.result.Result.{Result}
@@ -10,15 +10,16 @@ use Rattle.fy_base.specs.declared.data.Ending.TheVariants as ends
 use Rattle.fy_build.specs.Shown as run_ends
 use Rattle.fy_build.specs.Shown.{RunEnd, ending_of_run}
 use Rattle.rv_insn.specs.Program.{Program}
-use Rattle.rv_insn.specs.Step.{Core}
+use Rattle.rv_insn.specs.Step.{Core, instruction_step}
+use Rattle.rv_insn.specs.Run.{settled, tick_from}
 use Rattle.rv_machine.specs.Run.{World, going_world, run}
-use Rattle.rv_machine.specs.Ends.{RunsTo, EndsSo, HasPut, IsMachineEnd, taken_after}
+use Rattle.rv_machine.specs.Ends.{RunsTo, EndsSo, AsksAt, HasPut, IsMachineEnd, taken_after}
 use Rattle.rv_machine.specs.declared.run.MachineRun.{MachineRun}
-use Rattle.rv_machine.proofs.Runs.{run_none}
+use Rattle.rv_machine.proofs.Runs.{run_none, run_more}
 use Rattle.fy_world.specs.World.{Contents}
 use Rattle.fy_world.specs.Note.{texts, ended_lines}
 use Rattle.fy_world.specs.Runs.{Running, of_machine, IsRun, run_status, end_notes, traced, ran}
-use Rattle.fy_world.specs.Did.{IsLeftBy, Asks, WholeLines}
+use Rattle.fy_world.specs.Did.{IsLeftBy, IsUnread, WholeLines}
 use Rattle.fy_world.specs.Working.{ToldPart, HasRun}
 use Rattle.fy_world.specs.declared.world.Stop.{Stop}
 use Rattle.fy_world.specs.declared.world.Stop.TheVariants.{Input, Notes, Memory}
@@ -50,8 +51,31 @@ running_by program core limit input = record { program = program; first = going_
 abbrev pub Ran : Program → Core → ℕ → MachineRun → Core → Contents → Contents → Type 0
 Ran program core limit done after h c = RunsTo program core limit done after h.input c.input h.output c.output
 
-asks_by : (program : Program) (first : World) (n limit : ℕ) (end : Ending) → n ≤ limit → EndsSo end program first n limit → end ≡ ends.InputFault → Asks (Some (of_machine (record { program = program; first = first; limit = limit })))
-asks_by program first n limit end le so is = (n, le, subst (λ e. EndsSo e program first n limit) is so)
+-- an instruction that reads puts nothing
+read_puts_none : (program : Program) (first : World) (n : ℕ) → AsksAt program first n → (run program n first).output ≡ (run program (n - 1) first).output
+read_puts_none program first n at =
+    let some = at.some in
+    let world = run program (n - 1) first in
+    let last : n ≡ (n - 1) + 1 = omega arith in
+    let going = at.below (n - 1) (omega arith) in
+    let more : run program n first ≡ settled (instruction_step program world.core).event (instruction_step program world.core).core world =
+    ap (λ k. run program k first) last ∙ run_more program (n - 1) first ∙ ap (λ e. tick_from e program world) going in
+    ap (λ (w : World). w.output) more ∙ ap (λ e. (settled e (instruction_step program world.core).core world).output) at.asks
+
+-- a run that a failed read stopped
+unread_by : (program : Program) (first : World) (n limit : ℕ) (end : Ending) (left left_now before now : Option Bytes) → n ≤ limit → EndsSo end program first n limit
+    → left_now ≡ option_map (λ _. (run program (taken_after end n) first).input) left → HasPut end before now (run program n first).output → end ≡ ends.InputFault
+    → IsUnread (Some (of_machine (record { program = program; first = first; limit = limit }))) left left_now before now
+unread_by program first n limit end left left_now before now le so rest put is =
+    let at = subst (λ e. EndsSo e program first n limit) is so in
+    let gained = subst (λ e. HasPut e before now (run program n first).output) is put in
+    record {
+      steps = n;
+      within = le;
+      reads = at;
+      rest = rest ∙ ap (λ e. option_map (λ _. (run program (taken_after e n) first).input) left) is;
+      output = gained ∙ ap (λ bytes. appended before bytes) (read_puts_none program first n at);
+    }
 
 -- a run that a fault of the outside ended: a part of what is due was done
 pub run_faulted : (program : Program) (core : Core) (limit : ℕ) (trace : Option ℕ) (h c : Contents) (stop : Stop) (done : MachineRun) (after : Core) → (stop ≡ Input → done.end ≡ ends.InputFault) → stop ≢ Memory
@@ -76,7 +100,7 @@ run_faulted program core limit trace h c stop done after input_only other le r r
         notes = subst (λ n. GainedPart h.notes n (ended_lines (ran running trace None whole.n whole.end).notes)) (sym notes) (nothing h.notes _);
         unchanged = λ _. files;
         whole = λ memory. absurd (other memory);
-        asks = λ input. asks_by program running.first done.steps limit done.end le r.end (input_only input);
+        unread = λ input. unread_by program running.first done.steps limit done.end h.input c.input h.output c.output le r.end r.rest r.output (input_only input);
       };
     }
 
@@ -176,7 +200,7 @@ run_told_part program core limit trace h c d done after lines stop machine no_in
         notes = subst (λ n. GainedPart n d.notes (ended_lines due.notes)) notes part.part;
         unchanged = λ _. files;
         whole = λ memory. subst (λ n. WholeLines due.notes n d.notes) notes (part.whole memory);
-        asks = λ input. absurd (no_stop input);
+        unread = λ input. absurd (no_stop input);
       };
     }
 

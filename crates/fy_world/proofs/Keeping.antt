@@ -18,7 +18,7 @@ use Rattle.fy_world.specs.World.{Contents}
 use Rattle.fy_world.specs.Note.{ended_lines}
 use Rattle.fy_build.specs.Headline.{AreBytes}
 use Rattle.fy_world.specs.Runs.{of_machine, Due, Running, ran}
-use Rattle.fy_world.specs.Did.{files_after, after_all, InputPart, Did}
+use Rattle.fy_world.specs.Did.{files_after, after_all, InputPart, IsUnread, Did}
 use Rattle.fy_world.specs.Working.{IsUnbegun, WasKept, Keeps, HasRun, HasKeptAndRun, KeepsAndRuns}
 use Rattle.fy_world.specs.declared.world.Stop.{Stop}
 use Rattle.fy_world.specs.declared.world.Stop.TheVariants.{Keep, Input, Notes, Memory}
@@ -73,7 +73,7 @@ not_kept image name bytes h c stop spelled rest keep unknown =
         notes = subst (λ n. GainedPart h.notes n []) (sym (ap (λ (x : Contents). x.notes) rest)) (nothing h.notes []);
         unchanged = λ memory. absurd (other memory);
         whole = λ memory. absurd (other memory);
-        asks = λ input. absurd (no_input input);
+        unread = λ input. absurd (no_input input);
       };
     }
 
@@ -122,7 +122,7 @@ kept_none image program limit name h c stop of was other no_input =
             notes = subst (λ n. GainedPart h.notes n (ended_lines due.notes)) (sym same_notes) (nothing h.notes (ended_lines due.notes));
             unchanged = λ memory. absurd (other memory);
             whole = λ memory. absurd (other memory);
-            asks = λ asks. absurd (no_input asks);
+            unread = λ input. absurd (no_input input);
           };
         };
       };
@@ -142,7 +142,7 @@ did_kept running name bytes n end h c d (Err stop) ready kept p =
       notes = subst (λ n. GainedPart n d.notes (ended_lines due.notes)) (ap (λ (x : Contents). x.notes) kept) p.notes;
       unchanged = λ memory. absurd (not_memory memory);
       whole = λ memory. absurd (not_memory memory);
-      asks = p.asks;
+      unread = λ input. subst (λ (x : Contents). IsUnread (Some (of_machine running)) x.input d.input x.output d.output) kept (p.unread input);
     }
 
 -- the image was kept, and then it ran

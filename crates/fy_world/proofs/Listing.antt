@@ -77,7 +77,7 @@ part_listed program b d stop rest no_input part = record {
   notes = subst (λ n. GainedPart b.notes n []) (sym (ap (λ (x : Contents). x.notes) rest)) (nothing b.notes []);
   unchanged = λ _. ap (λ (x : Contents). x.files) rest;
   whole = λ _. record { count = 0; gained = ap (λ (x : Contents). x.notes) rest ∙ sym (appended-nil b.notes) };
-  asks = λ input. absurd (no_input input);
+  unread = λ input. absurd (no_input input);
 }
 
 pub listed_short : (program : Program) (k : ℕ) (b c : Contents) (stop : Stop) → stop ≡ Memory → ListedTo program k b c → Did (listed program) b c (Err stop)

@@ -25,7 +25,7 @@ part_none c stop other = record {
   notes = nothing c.notes [];
   unchanged = λ _. refl;
   whole = λ _. record { count = 0; gained = sym (appended-nil c.notes) };
-  asks = λ input. absurd (other input);
+  unread = λ input. absurd (other input);
 }
 
 -- all but the notes was done
@@ -52,5 +52,5 @@ written_part b c bytes stop rest part stop_is = record {
   notes = subst (λ n. GainedPart b.notes n []) (sym (ap (λ (x : Contents). x.notes) rest)) (nothing b.notes []);
   unchanged = λ _. ap (λ (x : Contents). x.files) rest;
   whole = λ memory. let clash : Output ≡ Memory = sym stop_is ∙ memory in absurd cc;
-  asks = λ input. let clash : Output ≡ Input = sym stop_is ∙ input in absurd cc;
+  unread = λ input. let clash : Output ≡ Input = sym stop_is ∙ input in absurd cc;
 }

@@ -18,7 +18,7 @@ use Rattle.fy_world.specs.World.{Contents}
 use Rattle.fy_world.specs.Note.{texts, ended_lines}
 use Rattle.fy_build.specs.Headline.{AreBytes}
 use Rattle.fy_world.specs.Runs.{Running, of_machine, run_status, end_notes, ran, sampled}
-use Rattle.fy_world.specs.Did.{files_after, after_all, InputPart, Did}
+use Rattle.fy_world.specs.Did.{files_after, after_all, InputPart, IsUnread, Did}
 use Rattle.fy_world.specs.Working.{WasKept, Keeps, HasRun, HasSampled, HasKeptAndSampled, KeepsAndSamples, SumsUp}
 use Rattle.fy_world.specs.declared.world.Stop.{Stop}
 use Rattle.fy_world.specs.declared.world.Stop.TheVariants.{Input, Output, Notes, Memory}
@@ -67,7 +67,7 @@ sampled_stopped program core limit kept h c stop r =
         notes = p.notes;
         unchanged = p.unchanged;
         whole = p.whole;
-        asks = p.asks;
+        unread = p.unread;
       };
     }
 
@@ -117,7 +117,7 @@ sampled_done program core limit h c d done after (Err stop) machine no_input no_
         notes = subst (λ n. GainedPart n d.notes lines) (ap (λ (x : Contents). x.notes) rest) s.notes;
         unchanged = λ _. files;
         whole = λ memory. absurd (s.not_memory memory);
-        asks = λ input. absurd (s.not_input input);
+        unread = λ input. absurd (s.not_input input);
       };
     }
 
@@ -173,7 +173,7 @@ did_kept running name bytes n end h c d (Err stop) ready kept p =
       notes = subst (λ n. GainedPart n d.notes (ended_lines due.notes)) (ap (λ (x : Contents). x.notes) kept) p.notes;
       unchanged = λ memory. absurd (not_memory memory);
       whole = λ memory. absurd (not_memory memory);
-      asks = p.asks;
+      unread = λ input. subst (λ (x : Contents). IsUnread (Some (of_machine running)) x.input d.input x.output d.output) kept (p.unread input);
     }
 
 kept_and_sampled : (image : Image) (program : Program) (core : Core) (limit : ℕ) (name : Bytes) (h c d : Contents) (status : ℕ) (result : Result ℕ Stop) → IsProgramOf image program → core ≡ start_of image → WasKept image name h c (Ok status)

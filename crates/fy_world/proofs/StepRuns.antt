@@ -4,7 +4,7 @@ use Rattle.std.proofs.lemmas.List.{append-nil}
 use Rattle.std.proofs.Math.Seq.{take-append_seam}
 use Rattle.std.proofs.lemmas.Bool.{cases_lt}
 use Rattle.std.specs.Prelude.{◌⊎◌}
-use Rattle.std.specs.Option.{option_to_list}
+use Rattle.std.specs.Option.{option_map, option_to_list}
 use Rattle.std.specs.declared.option.Option.{Option}
 use Rattle.std.specs.declared.result.Result.TheVariants.{Ok, Err}
 use Rattle.fy_base.specs.Outside.{Bytes, appended, Gained, GainedPart}
@@ -12,7 +12,7 @@ use Rattle.fy_base.specs.declared.data.Ending.{Ending}
 use Rattle.fy_base.specs.declared.data.Ending.TheVariants as ends
 use Rattle.pe_code.specs.declared.code.PeCode.{PeCode}
 use Rattle.pe_machine.specs.States.{PeState}
-use Rattle.pe_machine.specs.Step.{pe_step}
+use Rattle.pe_machine.specs.Step.{takes, pe_step}
 use Rattle.pe_machine.specs.Run.{Standing, going, ended, faulted, stuck, gone, pe_after, load_after}
 use Rattle.pe_machine.specs.Seen.{Seen, address_of}
 use Rattle.pe_machine.specs.Ends.{IsGoingBelow, IsWithin, EndsSo}
@@ -23,11 +23,12 @@ use Rattle.fy_world.specs.Steps as step_ends
 use Rattle.fy_world.specs.Runs.{stepped}
 use Rattle.fy_world.specs.Did.{WholeLines}
 use Rattle.fy_world.specs.Working.{ToldPart}
-use Rattle.fy_world.specs.Stepping.{IsNeverLost, IsStepEnd, IsLastEnd, HasEnded, HasStopped, HasStepped, Turned, TurnStopped, begun, noted, outer_of, step_line}
+use Rattle.fy_world.specs.Stepping.{IsNeverLost, IsStepEnd, IsLastEnd, HasEnded, HasStopped, HasStepped, Turned, TurnStopped, begun, noted, outer_of, step_line, text_put}
 use Rattle.fy_world.specs.declared.note.Note.{Note}
 use Rattle.fy_world.specs.declared.world.Stop.{Stop}
 use Rattle.fy_world.specs.declared.world.Stop.TheVariants.{Input, Notes, Memory}
 use Rattle.fy_world.proofs.Contents.{appended-appended, appended-nil, all_gained, gained_both}
+use Rattle.fy_world.proofs.Keeping.{none_gained}
 use Rattle.fy_world.proofs.Lines.{ended-append}
 use Rattle.fy_world.proofs.Tracing.{told_part_more}
 use Rattle.fy_world.proofs.Stepwise.{Reached, RunsOn, lines_with, lines_at, reached_start, reached_next, runs_end, runs_out, stops_in, part_put, asks_in, outputs_grow, lines_grow, part_longer, below_next, inside_next}
@@ -143,6 +144,10 @@ told_part lines all text first held now stop are so_far part whole =
     let P : List Bytes → Type 0 = λ ls. ToldPart ls first now stop in
     subst P (sym are) (record { part = part_behind lines text first held now so_far part; whole = λ memory. whole_lines lines text first held now so_far (whole memory) })
 
+-- a step that reads puts nothing
+read_puts_none : (code : PeCode) (s : PeState) (now next : Option Bytes) → GainedPart now next (text_put (pe_step code s)) → (go : Option ℕ → PeState) → pe_step code s ≡ takes go → next ≡ now
+read_puts_none code s now next part go asks = none_gained now next (subst (λ m. GainedPart now next (text_put m)) asks part)
+
 pub told_stop : (stop : Stop) (code : PeCode) (names : List Bytes) (n limit : ℕ) (s : Seen) (first : Contents) (over : Bool) (now next : Contents) → n < limit → Told code names n s first over now → TurnStopped code names s now next stop
     → HasStopped code names limit first next stop
 told_stop stop code names n limit s first over now next lt told stopped =
@@ -160,6 +165,7 @@ told_stop stop code names n limit s first over now next lt told stopped =
       output = part_put code names s.state told.lines n first.input now.input first.output now.output next.output stops p.output;
       told = told_part told.lines _ (step_text code names (address_of s.state.focus)) first.notes now.notes next.notes stop stops.lines_are told.notes p.notes p.whole;
       asks = λ input. let a = stopped.asks input in asks_in code names s.state told.lines n first.input now.input first.output now.output stops a.0 a.1;
+      unput = λ input. let a = stopped.asks input in read_puts_none code s.state now.output next.output p.output a.0 a.1 ∙ stops.output;
     }
 
 -- ---- how a run ends
@@ -229,6 +235,7 @@ pub stepped_part : (code : PeCode) (names : List Bytes) (limit : ℕ) (b c : Con
 stepped_part code names limit b c stop safe h =
     let stepping = stepping_by code names limit h.input in
     let few : h.n + 1 ≤ limit = let lt = h.few in omega arith in
+    let before_it : h.n ≡ (h.n + 1) - 1 = omega arith in
     let w = whole stepping (h.n + 1) safe few h.going h.inside in
     let told = due_part stepping (h.n + 1) w.m w.end b.notes c.notes stop w.more h.told in
     record {
@@ -244,7 +251,13 @@ stepped_part code names limit b c stop safe h =
         notes = told.part;
         unchanged = λ _. h.files;
         whole = told.whole;
-        asks = λ input. (h.n + 1, few, h.asks input);
+        unread = λ input. record {
+          steps = h.n + 1;
+          within = few;
+          reads = (h.asks input, h.inside);
+          rest = h.rest ∙ ap (λ k. option_map (λ _. (pe_after code h.input k).input) b.input) before_it;
+          output = h.unput input ∙ ap (λ k. appended b.output (pe_after code h.input k).output) before_it;
+        };
       };
     }
 
@@ -317,6 +330,6 @@ stepped_untold code names limit b c d end found stop safe h others told found_is
         };
         unchanged = λ _. files;
         whole = λ memory. absurd (let clash : Notes ≡ Memory = sym stop_is ∙ memory in cc);
-        asks = λ asked. absurd (let clash : Notes ≡ Input = sym stop_is ∙ asked in cc);
+        unread = λ input. absurd (let clash : Notes ≡ Input = sym stop_is ∙ input in cc);
       };
     }

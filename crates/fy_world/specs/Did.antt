@@ -1,5 +1,5 @@
 -- How all that is due is done, or a part of it.
-use Rattle.std.specs.Prelude.{◌≡◌, ◌≢◌, ℕ, ◌≤◌, List, ◌⊎◌, take, Some, None, MatchResult}
+use Rattle.std.specs.Prelude.{◌≡◌, ◌≢◌, ℕ, ◌-◌, ◌≤◌, List, ◌⊎◌, take, Some, None, MatchResult}
 use Rattle.std.specs.Option.{option_map}
 use Rattle.std.specs.declared.option.Option.{Option}
 use Rattle.std.specs.declared.result.Result.{Result}
@@ -9,11 +9,14 @@ use Rattle.fy_phrase.specs.Copy.{copy_after}
 use Rattle.rv_machine.specs.Ends.{AsksAt}
 use Rattle.rv_machine.specs.Run.{run}
 use Rattle.fy_copy.specs.Ends as copy
+use Rattle.fy_copy.specs.Ends.{IsHeldBelow}
 use Rattle.pe_machine.specs.Ends as entered
+use Rattle.pe_machine.specs.Ends.{IsWithin}
 use Rattle.pe_machine.specs.Run.{pe_after}
 use Rattle.fy_world.specs.World.{Contents}
 use Rattle.fy_world.specs.Note.{ended_lines}
 use Rattle.fy_world.specs.Runs.{Due, Runs, of_machine, of_phrase, of_code}
+use Rattle.fy_world.specs.Steps.{step_words}
 use Rattle.fy_world.specs.declared.world.Stop.{Stop}
 use Rattle.fy_world.specs.declared.world.Stop.TheVariants.{Keep, Input, Memory}
 
@@ -68,19 +71,37 @@ abbrev pub InputPart : Option Runs → Option Bytes → Option Bytes → Type 0
 InputPart None before now = now ≡ before
 InputPart (Some running) before now = IsLeftBy running before now
 
--- a run comes to an instruction, or to a step, within its limit, that reads a byte
-abbrev pub Asks : Option Runs → Type 0
-Asks None = ⊥
-Asks (Some (of_machine running)) = (n : ℕ) × (n ≤ running.limit) × AsksAt running.program running.first n
-Asks (Some (of_phrase copying)) = (n : ℕ) × (n ≤ copying.limit) × copy.AsksAt copying.phrase copying.input n
-Asks (Some (of_code stepping)) = (n : ℕ) × (n ≤ stepping.limit) × entered.AsksAt stepping.code stepping.input n
+-- what a run has put after so many of them
+abbrev pub output_after : Runs → ℕ → Bytes
+output_after (of_machine running) n = (run running.program n running.first).output
+output_after (of_phrase copying) n = (copy_after copying.phrase copying.input n).output
+output_after (of_code stepping) n = (pe_after stepping.code stepping.input n).output
+
+-- a run comes to its instruction, or its step, number n, which reads a byte; none up to it passed the limit on held phrases, or the words of the stack
+abbrev pub ReadsAt : Runs → ℕ → Type 0
+ReadsAt (of_machine running) n = AsksAt running.program running.first n
+ReadsAt (of_phrase copying) n = copy.AsksAt copying.phrase copying.input n × IsHeldBelow copying.phrase copying.input n
+ReadsAt (of_code stepping) n = entered.AsksAt stepping.code stepping.input n × IsWithin stepping.code stepping.input step_words n
+
+-- a run was stopped at an instruction, or a step, within its limit, that reads a byte: those before it were made, and no more
+pub record StopsAtRead (running : Runs) (left left_now before now : Option Bytes) : Type 0 where
+  pub steps : ℕ
+  pub within : steps ≤ limit_of running
+  pub reads : ReadsAt running steps
+  pub rest : left_now ≡ option_map (λ _. rest_after running (steps - 1)) left
+  pub output : Gained before now (output_after running (steps - 1))
+
+-- where the input failed, there was a run, and it was stopped so
+abbrev pub IsUnread : Option Runs → Option Bytes → Option Bytes → Option Bytes → Option Bytes → Type 0
+IsUnread None left left_now before now = ⊥
+IsUnread (Some running) left left_now before now = StopsAtRead running left left_now before now
 
 -- whole lines of the due notes
 pub record WholeLines (notes : List Bytes) (before now : Option Bytes) : Type 0 where
   pub count : ℕ
   pub gained : Gained before now (ended_lines (take count notes))
 
--- where memory was wanting, the files are as before, and the lines of notes are whole; where the input failed, a run asked for a byte
+-- where memory was wanting, the files are as before, and the lines of notes are whole; where the input failed, a run was stopped where it reads
 pub record Part (due : Due) (before now : Contents) (stop : Stop) : Type 0 where
   pub files : FilesPart due.kept stop before.files now.files
   pub input : InputPart due.running before.input now.input
@@ -88,7 +109,7 @@ pub record Part (due : Due) (before now : Contents) (stop : Stop) : Type 0 where
   pub notes : GainedPart before.notes now.notes (ended_lines due.notes)
   pub unchanged : stop ≡ Memory → now.files ≡ before.files
   pub whole : stop ≡ Memory → WholeLines due.notes before.notes now.notes
-  pub asks : stop ≡ Input → Asks due.running
+  pub unread : stop ≡ Input → IsUnread due.running before.input now.input before.output now.output
 
 -- ---- a command's work
 

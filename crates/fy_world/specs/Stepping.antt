@@ -133,7 +133,7 @@ pub record HasEnded (code : PeCode) (names : List Bytes) (limit : ℕ) (before n
   pub output : now.output ≡ appended before.output (pe_after code input n).output
   pub notes : now.notes ≡ appended before.notes (ended_lines (step_lines code names input n))
 
--- the step behind n others was stopped; what was taken is what those took
+-- the step behind n others was stopped; what was taken is what those took, and where its read failed, what was put is what those put
 pub record HasStopped (code : PeCode) (names : List Bytes) (limit : ℕ) (before now : Contents) (stop : Stop) : Type 0 where
   pub input : Bytes
   pub fed : ForSome before.input (λ left. input ≡ left)
@@ -146,6 +146,7 @@ pub record HasStopped (code : PeCode) (names : List Bytes) (limit : ℕ) (before
   pub output : GainedPart before.output now.output (pe_after code input (n + 1)).output
   pub told : ToldPart (step_lines code names input (n + 1)) before.notes now.notes stop
   pub asks : stop ≡ Input → AsksAt code input (n + 1)
+  pub unput : stop ≡ Input → Gained before.output now.output (pe_after code input n).output
 
 -- code ran on an input that explains it, and what is due for its run was done, or a part
 pub record HasStepped (code : PeCode) (names : List Bytes) (limit : ℕ) (before now : Contents) (result : Result ℕ Stop) : Type 0 where
