@@ -1,5 +1,6 @@
 mod assembly;
 mod code;
+mod elf;
 mod image;
 mod insn;
 mod machine;

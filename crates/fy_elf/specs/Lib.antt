@@ -1,0 +1,4 @@
+pub mod Elf
+pub mod Refusals
+pub mod Memory
+pub mod Reading
