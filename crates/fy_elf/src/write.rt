@@ -132,7 +132,8 @@ pub fn write_elf(alloc: Global, image: &Image) -> Result<Vec<u8>, OutOfMemory>
         stack_words: image.stack_words,
         places: image.places.len() as u32,
     };
-    let mut bytes = Vec::new(alloc);
+    let size = 312 + 4 * image.code.len() + 8 * image.table.len() + 8 * image.places.len();
+    let mut bytes = Vec::with_capacity(alloc, size)?;
     put_headers(&mut bytes, &sizes)?;
     put_words(&mut bytes, image.code.as_slice())?;
     bytes.extend_from_slice(padding(sizes.code_words))?;

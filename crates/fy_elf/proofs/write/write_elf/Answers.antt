@@ -22,7 +22,7 @@ returns c =
         places = let P : List Place → Type 0 = λ l. All PlaceFits l in subst P ps c.in_ok-put_places.ensures.fit;
       };
       spelled = written_is c.args.image.now _ _ _ _ _ _ _ _ (record {
-        none = c.new-bytes.ensures.items;
+        none = c.in_ok-bytes.ensures.items;
         head = c.in_ok-put_headers.ensures;
         code = c.in_ok-put_words.ensures.put ∙ ap (λ l. c.put_headers.new.bytes.items ++ flat_map word l) ws;
         pad = c.in_ok-extend_from_slice.ensures.items ∙ ap (λ b. c.put_words.new.bytes.items ++ b) c.padding.ensures;
