@@ -3,6 +3,7 @@ pub mod Checking
 pub mod Serving
 pub mod TextCommands
 pub mod ImageCommands
+pub mod ElfCommands
 pub mod Derived
 pub mod Pigeons
 pub mod Completing

@@ -17,6 +17,10 @@ use Rattle.fy_image.specs.Refusals.{refusal_of}
 use Rattle.fy_image.specs.declared.error.ImageError.{ImageError}
 use Rattle.fy_image.specs.declared.image.Image.{Image}
 use Rattle.fy_image.specs.declared.version.Version.TheVariants.{Two}
+use Rattle.fy_elf.specs.Elf.{IsElfBytes}
+use Rattle.fy_elf.specs.Memory.{LoadsAsStart}
+use Rattle.fy_elf.specs.Refusals as elf
+use Rattle.fy_elf.specs.declared.error.ElfError.{ElfError}
 use Rattle.rv_guard.specs.Guarded.{IsGuarded, IsUnguardedAt}
 use Rattle.rv_insn.specs.Program.{Program}
 use Rattle.rv_machine.specs.Start.{IsProgramOf}
@@ -27,7 +31,7 @@ use Rattle.fy_sample.specs.Sample.{sample_text}
 use Rattle.fy_words.specs.Order.{Order, stack_wanted, steps_wanted, copy_wanted, trace_steps_wanted}
 use Rattle.fy_words.specs.Order as orders
 use Rattle.fy_world.specs.Runs.{Due, told, written, IsRun, ran, sampled, running_of, CopyEnd, IsCopyRun, copied, stepped, stepping_of}
-use Rattle.fy_world.specs.Note.{ended_lines, refusal_note}
+use Rattle.fy_world.specs.Note.{ended_lines, refusal_note, elf_note}
 use Rattle.fy_world.specs.Shown.{listing}
 use Rattle.fy_world.specs.Steps.{StepEnd, IsSteppedRun}
 use Rattle.fy_world.specs.declared.note.Note.{Note}
@@ -55,8 +59,10 @@ named_by (orders.list file) = None
 named_by (orders.sample number size) = None
 named_by (orders.audit image) = None
 named_by (orders.migrate from to) = None
+named_by (orders.elf from to) = None
+named_by (orders.unelf from to) = None
 
--- the text that an order takes; `exec`, `audit` and `migrate` take an image
+-- the text that an order takes; `exec`, `audit`, `migrate` and `elf` take an image, and `unelf` an ELF file
 abbrev pub text_of : Order → Sources → Option Bytes
 text_of (orders.check file) sources = sources.file
 text_of (orders.derive file) sources = sources.file
@@ -69,12 +75,16 @@ text_of (orders.sample number size) sources = Some (sample_text number size)
 text_of (orders.exec image steps last) sources = None
 text_of (orders.audit image) sources = None
 text_of (orders.migrate from to) sources = None
+text_of (orders.elf from to) sources = None
+text_of (orders.unelf from to) sources = None
 
 -- the bytes of the image that an order takes
 abbrev pub image_of : Order → Sources → Option Bytes
 image_of (orders.exec image steps last) sources = sources.file
 image_of (orders.audit image) sources = sources.file
 image_of (orders.migrate from to) sources = sources.file
+image_of (orders.elf from to) sources = sources.file
+image_of (orders.unelf from to) sources = None
 image_of (orders.check file) sources = None
 image_of (orders.derive file) sources = None
 image_of (orders.build file image stack named) sources = None
@@ -97,6 +107,8 @@ file_of (orders.list file) = Some file
 file_of (orders.sample number size) = None
 file_of (orders.audit image) = Some image
 file_of (orders.migrate from to) = Some from
+file_of (orders.elf from to) = Some from
+file_of (orders.unelf from to) = Some from
 
 -- the files that an order reads
 abbrev pub reads_of : Order → List Bytes
@@ -112,6 +124,8 @@ keeps_of (orders.build file image stack named) = image ∷ []
 keeps_of (orders.run file steps stack named image) = kept_as file image ∷ []
 keeps_of (orders.sample number size) = codes "sample.img" ∷ []
 keeps_of (orders.migrate from to) = to ∷ []
+keeps_of (orders.elf from to) = to ∷ []
+keeps_of (orders.unelf from to) = to ∷ []
 keeps_of (orders.check file) = []
 keeps_of (orders.derive file) = []
 keeps_of (orders.exec image steps last) = []
@@ -134,6 +148,8 @@ IsReadyFirst (orders.run file steps stack named image) = Unit {0}
 IsReadyFirst (orders.sample number size) = Unit {0}
 IsReadyFirst (orders.audit image) = Unit {0}
 IsReadyFirst (orders.migrate from to) = Unit {0}
+IsReadyFirst (orders.elf from to) = Unit {0}
+IsReadyFirst (orders.unelf from to) = Unit {0}
 
 -- an order that runs an image
 abbrev pub RunsImage : Order → Type 0
@@ -148,6 +164,8 @@ RunsImage (orders.trace file steps) = ⊥
 RunsImage (orders.list file) = ⊥
 RunsImage (orders.audit image) = ⊥
 RunsImage (orders.migrate from to) = ⊥
+RunsImage (orders.elf from to) = ⊥
+RunsImage (orders.unelf from to) = ⊥
 
 -- ---- images
 
@@ -245,6 +263,15 @@ pub data IsDue (sources : Sources) (input : Bytes) : Option Order → Due → Ty
   -- `migrate` keeps the bytes in version 2 of the image whose bytes the file holds; these are no other image's
   migrates : (from to old : Bytes) (image : Image) (new : Bytes) → sources.file ≡ Some old → IsImageBytes image old → IsSpelled Two image new
       → IsDue sources input (Some (orders.migrate from to)) (kept to new)
+  -- `elf` keeps the ELF file of the image whose bytes the file holds; a loader makes of it what the image's machine starts with
+  elves : (from to old : Bytes) (image : Image) (new : Bytes) → sources.file ≡ Some old → IsImageBytes image old → IsElfBytes image new → LoadsAsStart image new
+      → IsDue sources input (Some (orders.elf from to)) (kept to new)
+  -- `unelf` keeps the bytes in version 2 of the image whose ELF file the file holds
+  unelves : (from to old : Bytes) (image : Image) (new : Bytes) → sources.file ≡ Some old → IsElfBytes image old → LoadsAsStart image old → IsSpelled Two image new
+      → IsDue sources input (Some (orders.unelf from to)) (kept to new)
+  -- bytes that are no image's ELF file
+  no_elf : (from to bytes : Bytes) (error : ElfError) (why : Note) → sources.file ≡ Some bytes → elf.refusal_of bytes ≡ Some error → elf_note error ≡ Some why
+      → IsDue sources input (Some (orders.unelf from to)) (told 6 (why ∷ []))
 
 -- ---- what is told of the files
 

@@ -30,11 +30,15 @@ use Rattle.fy_image.specs.Form.{IsImageBytes}
 use Rattle.fy_image.specs.Refusals.{refusal_of}
 use Rattle.fy_image.specs.declared.error.ImageError.{ImageError}
 use Rattle.fy_image.specs.declared.image.Image.{Image}
+use Rattle.fy_elf.specs.Elf.{IsElfBytes}
+use Rattle.fy_elf.specs.Memory.{LoadsAsStart}
+use Rattle.fy_elf.specs.Refusals as elf
+use Rattle.fy_elf.specs.declared.error.ElfError.{ElfError}
 use Rattle.fy_build.specs.Building.{HasTableWords}
 use Rattle.fy_build.specs.Headline.{RunsAsCopyRule}
 use Rattle.fy_sample.specs.Sample.{sample_text}
 use Rattle.fy_world.specs.World.{Contents}
-use Rattle.fy_world.specs.Note.{read_note, refusal_note}
+use Rattle.fy_world.specs.Note.{read_note, refusal_note, elf_note}
 use Rattle.fy_world.specs.Stepping.{HasStepped}
 use Rattle.fy_world.specs.Did.{Did}
 use Rattle.fy_world.specs.Working.{IsUnbegun, Keeps, KeepsAndRuns, KeepsAndSamples, listed}
@@ -141,6 +145,15 @@ ReadAs bytes read = MatchResult read (λ image. IsImageBytes image bytes) (λ wh
 
 abbrev pub ReadsImage : Bytes → Option Folder → Result (Result Image Note) Stop → Type 0
 ReadsImage name files result = IfOk result (λ read. (bytes : Bytes) × Tells files name (Some bytes) × ReadAs bytes read)
+
+-- bytes that were read as an image's ELF file, or why they are none
+abbrev pub ReadAsElf : Bytes → Result Image Note → Type 0
+ReadAsElf bytes read =
+    MatchResult read (λ image. IsElfBytes image bytes × LoadsAsStart image bytes)
+    (λ why. (error : ElfError) × (elf.refusal_of bytes ≡ Some error) × (elf_note error ≡ Some why))
+
+abbrev pub ReadsElf : Bytes → Option Folder → Result (Result Image Note) Stop → Type 0
+ReadsElf name files result = IfOk result (λ read. (bytes : Bytes) × Tells files name (Some bytes) × ReadAsElf bytes read)
 
 -- the image of a program, with so many stack words
 pub record IsImageFor (program : Program) (stack : ℕ) (image : Image) : Type 0 where

@@ -11,8 +11,8 @@ use fy_image::{Image, read_image};
 use fy_world::{Note, Stop, World, execute, refusal_note, refuse};
 use std::alloc::Global;
 
-// The most bytes that an image has.
-const IMAGE_LIMIT: usize = 33_554_432;
+/// The most bytes that an image has, as an ELF file too.
+pub(crate) const IMAGE_LIMIT: usize = 33_554_432;
 
 /// The image in a file, or why its bytes are none.
 pub(crate) fn image_in<W: World>(

@@ -6,6 +6,7 @@ mod build;
 mod check;
 mod copy;
 mod derive;
+mod elf;
 mod exec;
 mod given;
 mod laws;

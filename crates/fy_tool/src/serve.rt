@@ -9,6 +9,7 @@ use crate::build::build_file;
 use crate::check::check_file;
 use crate::copy::copy_file;
 use crate::derive::derive_file;
+use crate::elf::{elf_file, unelf_file};
 use crate::exec::exec_file;
 use crate::list::list_file;
 use crate::migrate::migrate_file;
@@ -52,5 +53,7 @@ pub(crate) fn serve<W: World>(alloc: Global, command: Command, world: &mut W) ->
         Command::Sample { number, size } => run_sample(alloc, number, size, world),
         Command::Audit { image } => audit_file(alloc, image, world),
         Command::Migrate { from, to } => migrate_file(alloc, from, to, world),
+        Command::Elf { from, to } => elf_file(alloc, from, to, world),
+        Command::Unelf { from, to } => unelf_file(alloc, from, to, world),
     }
 }

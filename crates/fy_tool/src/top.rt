@@ -63,7 +63,7 @@ fn answer<W: World>(alloc: Global, command: Option<Command>, world: &mut W) -> u
 /// | 3 | the stack was exhausted |
 /// | 4 | all the instructions or steps that were allowed are spent, or the next focus of the copy rule is too large to hold |
 /// | 5 | the words are no command |
-/// | 6 | the bytes are no image's |
+/// | 6 | the bytes are no image's, or no image's ELF file |
 /// | 7 | a count of faults rose |
 /// | 8 | the derivation that is named is refused |
 /// | 9 | memory was wanting |

@@ -22,6 +22,8 @@ pub data Order : Type 0 where
   sample : (number size : ℕ) → Order
   audit : (image : Bytes) → Order
   migrate : (from to : Bytes) → Order
+  elf : (from to : Bytes) → Order
+  unelf : (from to : Bytes) → Order
 
 -- the order that a command stands for
 abbrev pub order_of : Command → Order
@@ -36,6 +38,8 @@ order_of (command.List file) = list file.now
 order_of (command.Sample number size) = sample number size
 order_of (command.Audit image) = audit image.now
 order_of (command.Migrate from to) = migrate from.now to.now
+order_of (command.Elf from to) = elf from.now to.now
+order_of (command.Unelf from to) = unelf from.now to.now
 
 -- ---- options and operands
 
@@ -212,6 +216,14 @@ audit_from words = if are_known [] words then option_map audit (only_operand (op
 abbrev pub migrate_from : List Bytes → Option Order
 migrate_from words = if are_known [] words then option_map (λ both. migrate both.0 both.1) (both_names (operands words)) else None
 
+-- `elf IN OUT`
+abbrev pub elf_from : List Bytes → Option Order
+elf_from words = if are_known [] words then option_map (λ both. elf both.0 both.1) (both_names (operands words)) else None
+
+-- `unelf IN OUT`
+abbrev pub unelf_from : List Bytes → Option Order
+unelf_from words = if are_known [] words then option_map (λ both. unelf both.0 both.1) (both_names (operands words)) else None
+
 -- the order that words are, if they are one: the first word is the command
 abbrev pub command_from : List Bytes → Option Order
 command_from [] = None
@@ -227,7 +239,9 @@ command_from (name ∷ words) =
     else (if bytes_eq name (codes "sample") then sample_from words
     else (if bytes_eq name (codes "audit") then audit_from words
     else (if bytes_eq name (codes "migrate") then migrate_from words
-    else None))))))))))
+    else (if bytes_eq name (codes "elf") then elf_from words
+    else (if bytes_eq name (codes "unelf") then unelf_from words
+    else None))))))))))))
 
 -- ---- what is wanted where no option says it
 
@@ -260,3 +274,5 @@ IsInRange (exec image steps last) = Unit {0}
 IsInRange (list file) = Unit {0}
 IsInRange (audit image) = Unit {0}
 IsInRange (migrate from to) = Unit {0}
+IsInRange (elf from to) = Unit {0}
+IsInRange (unelf from to) = Unit {0}

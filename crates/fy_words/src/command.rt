@@ -3,7 +3,7 @@
 ghost use Rattle.std.specs.Prelude.{◌≡◌, ◌≤◌, map, string_bytes, IfSome};
 ghost use Rattle.std.specs.Option.{option_map};
 ghost use Rattle.fy_words.specs.Order.{IsInRange, copy_wanted, trace_steps_wanted, stack_wanted};
-ghost use Rattle.fy_words.specs.Order.{stack_option, trace_option, steps_option, check_from, build_from, exec_from, run_from, list_from, sample_from, command_from, order_of, copy_option, copy_from, trace_steps_option, trace_from, derive_from, audit_from, migrate_from};
+ghost use Rattle.fy_words.specs.Order.{stack_option, trace_option, steps_option, check_from, build_from, exec_from, run_from, list_from, sample_from, command_from, order_of, copy_option, copy_from, trace_steps_option, trace_from, derive_from, audit_from, migrate_from, elf_from, unelf_from};
 
 use crate::words::{
     are_known, both_names, both_operands, name_option, number_in, number_option, only_operand,
@@ -66,6 +66,16 @@ pub enum Command<'a> {
     },
     /// Keeps an image in the newest version.
     Migrate {
+        from: &'a str,
+        to: &'a str,
+    },
+    /// Keeps an image as an ELF file.
+    Elf {
+        from: &'a str,
+        to: &'a str,
+    },
+    /// Keeps the image of an ELF file.
+    Unelf {
         from: &'a str,
         to: &'a str,
     },
@@ -283,6 +293,30 @@ fn migrate_of(words: &[String]) -> Option<Command<'_>>
     Some(Command::Migrate { from, to })
 }
 
+// `elf IN OUT`
+fn elf_of(words: &[String]) -> Option<Command<'_>>
+    ensures order { option_map order_of result ≡ elf_from (map string_bytes words.now) }
+    ensures stack { IfSome result (λ command. IsInRange (order_of command)) }
+{
+    if !are_known(&[], words) {
+        return None;
+    }
+    let (from, to) = both_names(words)?;
+    Some(Command::Elf { from, to })
+}
+
+// `unelf IN OUT`
+fn unelf_of(words: &[String]) -> Option<Command<'_>>
+    ensures order { option_map order_of result ≡ unelf_from (map string_bytes words.now) }
+    ensures stack { IfSome result (λ command. IsInRange (order_of command)) }
+{
+    if !are_known(&[], words) {
+        return None;
+    }
+    let (from, to) = both_names(words)?;
+    Some(Command::Unelf { from, to })
+}
+
 /// The command that the words are, or `None` exactly where they are none: the first word names it,
 /// a word that begins with `--` is an option, and every other word is an operand. Options stand
 /// anywhere behind the first word, each at most once. It takes no memory.
@@ -305,6 +339,8 @@ pub fn command_of(words: &[String]) -> Option<Command<'_>>
         "sample" => sample_of(words),
         "audit" => audit_of(words),
         "migrate" => migrate_of(words),
+        "elf" => elf_of(words),
+        "unelf" => unelf_of(words),
         _ => None,
     }
 }

@@ -19,7 +19,7 @@ use Rattle.fy_world.specs.Note.{ended_lines}
 use Rattle.fy_build.specs.Headline.{AreBytes}
 use Rattle.fy_world.specs.Runs.{of_machine, Due, Running, ran}
 use Rattle.fy_world.specs.Did.{files_after, after_all, InputPart, IsUnread, Did}
-use Rattle.fy_world.specs.Working.{IsUnbegun, WasKept, Keeps, HasRun, HasKeptAndRun, KeepsAndRuns}
+use Rattle.fy_world.specs.Working.{IsUnbegun, WasKept, KeepsSuch, Keeps, HasRun, HasKeptAndRun, KeepsAndRuns}
 use Rattle.fy_world.specs.declared.world.Stop.{Stop}
 use Rattle.fy_world.specs.declared.world.Stop.TheVariants.{Keep, Input, Notes, Memory}
 use Rattle.fy_world.proofs.Contents.{appended-nil, nothing}
@@ -44,8 +44,8 @@ err_is : (a b : Stop) → failed a ≡ failed b → a ≡ b
 err_is a b e = ap stop_of e
 
 -- all was kept
-pub was_kept : (image : Image) (name bytes : Bytes) (h c : Contents) (status : ℕ) → IsSpelled Two image bytes → c ≡ record h { files = files_after h.files (Some (name, bytes)) } → status ≡ 0 → WasKept image name h c (Ok status)
-was_kept image name bytes h c status spelled kept none_is = record {
+pub was_kept : (IsSuch : Bytes → Type 0) (name bytes : Bytes) (h c : Contents) (status : ℕ) → IsSuch bytes → c ≡ record h { files = files_after h.files (Some (name, bytes)) } → status ≡ 0 → WasKept IsSuch name h c (Ok status)
+was_kept IsSuch name bytes h c status spelled kept none_is = record {
   bytes = bytes;
   spelled = spelled;
   ready = λ e. cc;
@@ -57,8 +57,8 @@ was_kept image name bytes h c status spelled kept none_is = record {
 }
 
 -- the named file is unknown
-pub not_kept : (image : Image) (name bytes : Bytes) (h c : Contents) (stop : Stop) → IsSpelled Two image bytes → c ≡ record h { files = c.files } → stop ≡ Keep → OthersStay h.files c.files name → WasKept image name h c (Err stop)
-not_kept image name bytes h c stop spelled rest keep unknown =
+pub not_kept : (IsSuch : Bytes → Type 0) (name bytes : Bytes) (h c : Contents) (stop : Stop) → IsSuch bytes → c ≡ record h { files = c.files } → stop ≡ Keep → OthersStay h.files c.files name → WasKept IsSuch name h c (Err stop)
+not_kept IsSuch name bytes h c stop spelled rest keep unknown =
     let other : stop ≢ Memory = λ memory. let clash : Keep ≡ Memory = sym keep ∙ memory in cc in
     let no_input : stop ≢ Input = λ input. let clash : Keep ≡ Input = sym keep ∙ input in cc in
     record {
@@ -92,7 +92,7 @@ pub none_gained : (before now : Option Bytes) → GainedPart before now [] → n
 none_gained before now g = g.gained ∙ ap (λ part. appended before part) (empty_part g.part g.begins.rest g.begins.is) ∙ appended-nil before
 
 -- the image wasn't kept, so that nothing ran
-pub kept_none : (image : Image) (program : Program) (limit : ℕ) (name : Bytes) (h c : Contents) (stop : Stop) → IsProgramOf image program → WasKept image name h c (Err stop) → stop ≢ Memory → stop ≢ Input
+pub kept_none : (image : Image) (program : Program) (limit : ℕ) (name : Bytes) (h c : Contents) (stop : Stop) → IsProgramOf image program → WasKept (IsSpelled Two image) name h c (Err stop) → stop ≢ Memory → stop ≢ Input
     → HasKeptAndRun image limit name h c (Err stop)
 kept_none image program limit name h c stop of was other no_input =
     let input = some_input h.input in
@@ -146,7 +146,7 @@ did_kept running name bytes n end h c d (Err stop) ready kept p =
     }
 
 -- the image was kept, and then it ran
-pub kept_and_run : (image : Image) (program : Program) (core : Core) (limit : ℕ) (name : Bytes) (h c d : Contents) (status : ℕ) (result : Result ℕ Stop) → IsProgramOf image program → core ≡ start_of image → WasKept image name h c (Ok status)
+pub kept_and_run : (image : Image) (program : Program) (core : Core) (limit : ℕ) (name : Bytes) (h c d : Contents) (status : ℕ) (result : Result ℕ Stop) → IsProgramOf image program → core ≡ start_of image → WasKept (IsSpelled Two image) name h c (Ok status)
     → HasRun program core limit None None c d result → result ≢ Err Memory → HasKeptAndRun image limit name h d result
 kept_and_run image program core limit name h c d status result of start was run ready =
     let kept : c ≡ record h { files = files_after h.files (Some (name, was.bytes)) } =
@@ -173,10 +173,15 @@ kept_and_run image program core limit name h c d status result of start was run 
 
 -- ---- what a call that keeps an image answers
 
-pub keeps_failed : (image : Image) (name bytes : Bytes) (h c : Contents) (stop : Stop) → IsSpelled Two image bytes → c ≡ record h { files = c.files } → (stop ≡ Memory → c.files ≡ h.files) → (stop ≡ Keep → OthersStay h.files c.files name)
-    → (stop ≡ Keep) ⊎ (stop ≡ Memory) → Keeps image name h c (Err stop)
-keeps_failed image name bytes h c stop spelled rest same unknown (inl keep) = inr (not_kept image name bytes h c stop spelled rest keep (unknown keep))
-keeps_failed image name bytes h c stop spelled rest same unknown (inr memory) = inl (unbegun h c stop memory (rest ∙ ap (λ f. record h { files = f }) (same memory)))
+pub keeps_failed : (IsSuch : Bytes → Type 0) (name bytes : Bytes) (h c : Contents) (stop : Stop) → IsSuch bytes → c ≡ record h { files = c.files } → (stop ≡ Memory → c.files ≡ h.files) → (stop ≡ Keep → OthersStay h.files c.files name)
+    → (stop ≡ Keep) ⊎ (stop ≡ Memory) → KeepsSuch IsSuch name h c (Err stop)
+keeps_failed IsSuch name bytes h c stop spelled rest same unknown (inl keep) = inr (not_kept IsSuch name bytes h c stop spelled rest keep (unknown keep))
+keeps_failed IsSuch name bytes h c stop spelled rest same unknown (inr memory) = inl (unbegun h c stop memory (rest ∙ ap (λ f. record h { files = f }) (same memory)))
+
+-- what these bytes are
+pub kept_such : (bytes : Bytes) (IsSuch : Bytes → Type 0) (name : Bytes) (h c : Contents) (result : Result ℕ Stop) → IsSuch bytes → KeepsSuch (λ held. held ≡ bytes) name h c result → KeepsSuch IsSuch name h c result
+kept_such bytes IsSuch name h c result such (inl unbegun) = inl unbegun
+kept_such bytes IsSuch name h c result such (inr was) = inr (record { bytes = was.bytes; spelled = subst IsSuch (sym was.spelled) such; ready = was.ready; closed = was.closed; did = was.did })
 
 pub ran_kept : (image : Image) (program : Program) (core : Core) (limit : ℕ) (name : Bytes) (h c d : Contents) (status : ℕ) (result : Result ℕ Stop) → IsProgramOf image program → core ≡ start_of image → Keeps image name h c (Ok status)
     → HasRun program core limit None None c d result → result ≢ Err Memory → KeepsAndRuns image limit name h d result

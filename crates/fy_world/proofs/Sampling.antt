@@ -7,7 +7,9 @@ use Rattle.std.specs.declared.result.Result.TheVariants.{Ok, Err}
 use Rattle.fy_base.specs.Outside.{Bytes, appended, Gained, GainedPart}
 use Rattle.fy_base.specs.declared.data.Ending.TheVariants as ends
 use Rattle.fy_build.specs.Shown.{RunEnd, ending_of_run}
+use Rattle.fy_image.specs.Form.{IsSpelled}
 use Rattle.fy_image.specs.declared.image.Image.{Image}
+use Rattle.fy_image.specs.declared.version.Version.TheVariants.{Two}
 use Rattle.fy_sample.specs.Sample.{summary}
 use Rattle.rv_insn.specs.Program.{Program}
 use Rattle.rv_insn.specs.Step.{Core}
@@ -176,7 +178,7 @@ did_kept running name bytes n end h c d (Err stop) ready kept p =
       unread = λ input. subst (λ (x : Contents). IsUnread (Some (of_machine running)) x.input d.input x.output d.output) kept (p.unread input);
     }
 
-kept_and_sampled : (image : Image) (program : Program) (core : Core) (limit : ℕ) (name : Bytes) (h c d : Contents) (status : ℕ) (result : Result ℕ Stop) → IsProgramOf image program → core ≡ start_of image → WasKept image name h c (Ok status)
+kept_and_sampled : (image : Image) (program : Program) (core : Core) (limit : ℕ) (name : Bytes) (h c d : Contents) (status : ℕ) (result : Result ℕ Stop) → IsProgramOf image program → core ≡ start_of image → WasKept (IsSpelled Two image) name h c (Ok status)
     → HasSampled program core limit None c d result → result ≢ Err Memory → HasKeptAndSampled image limit name h d result
 kept_and_sampled image program core limit name h c d status result of start was run ready =
     let kept : c ≡ record h { files = files_after h.files (Some (name, was.bytes)) } =

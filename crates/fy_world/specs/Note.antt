@@ -5,6 +5,8 @@ use Rattle.std.specs.declared.option.Option.{Option}
 use Rattle.fy_base.specs.Outside.{Bytes}
 use Rattle.fy_image.specs.declared.error.ImageError.{ImageError}
 use Rattle.fy_image.specs.declared.error.ImageError.TheVariants as image
+use Rattle.fy_elf.specs.declared.error.ElfError.{ElfError}
+use Rattle.fy_elf.specs.declared.error.ElfError.TheVariants as elf
 use Rattle.fy_read.specs.declared.error.ReadError.{ReadError}
 use Rattle.fy_read.specs.declared.error.ReadError.TheVariants as read
 use Rattle.fy_base.specs.declared.data.Place.{Place}
@@ -15,7 +17,7 @@ use Rattle.fy_base.specs.declared.data.TrapKind.TheVariants.{Illegal, FetchAlign
 use Rattle.fy_world.specs.declared.refusal.Refusal.{Refusal}
 use Rattle.fy_world.specs.declared.refusal.Refusal.TheVariants.{Length, Byte, Unclosed, Number, Tokens, Syntax, Deep, Name, TypeName, Double, Letrec, Merge, Alternatives, TypeSize, CoreDepth, CoreSize, Visits, NoType, LeastSize, Shapes, Entries, Tables}
 use Rattle.fy_world.specs.declared.note.Note.{Note}
-use Rattle.fy_world.specs.declared.note.Note.TheVariants.{Fault, StackExhausted, StepsSpent, CopyLimit, Trapped, Refused, DerivationText, DerivationSize, DerivationDeep, DerivationLength, DerivationNode, Usage, OutsideFiles, OutsideInput, OutsideOutput, Memory, Instructions, Copied, ImageMagic, ImageVersion, ImageTruncated, ImageTrailing, ImageField, ImageLength, Audit}
+use Rattle.fy_world.specs.declared.note.Note.TheVariants.{Fault, StackExhausted, StepsSpent, CopyLimit, Trapped, Refused, DerivationText, DerivationSize, DerivationDeep, DerivationLength, DerivationNode, Usage, OutsideFiles, OutsideInput, OutsideOutput, Memory, Instructions, Copied, ImageMagic, ImageVersion, ImageTruncated, ImageTrailing, ImageField, ImageLength, ImageElf, Audit}
 
 -- a place, as it is printed: line, colon, column
 abbrev pub place_text : Place → Bytes
@@ -112,6 +114,7 @@ note_text ImageTruncated = codes "image truncated"
 note_text (ImageTrailing count) = codes "image trailing " ++ decimal count
 note_text (ImageField field) = codes "image field " ++ decimal field
 note_text ImageLength = codes "image length"
+note_text (ImageElf offset) = codes "image elf " ++ decimal offset
 note_text (Audit word) = codes "audit word " ++ decimal word
 note_text (Instructions count) = codes "instructions " ++ decimal count
 note_text (Copied steps peak) = codes "steps " ++ decimal steps ++ codes " peak " ++ decimal peak
@@ -134,6 +137,14 @@ refusal_note (image.Trailing count) = Some (ImageTrailing count)
 refusal_note (image.BadField field) = Some (ImageField field)
 refusal_note image.TooLarge = Some ImageLength
 refusal_note image.OutOfMemory = None
+
+-- the note of an ELF file that is refused
+abbrev pub elf_note : ElfError → Option Note
+elf_note (elf.Bad offset) = Some (ImageElf offset)
+elf_note elf.Truncated = Some ImageTruncated
+elf_note (elf.Trailing count) = Some (ImageTrailing count)
+elf_note elf.TooLarge = Some ImageLength
+elf_note elf.OutOfMemory = None
 
 -- the note of a derivation's text that is refused
 abbrev pub read_note : ReadError → Option Note

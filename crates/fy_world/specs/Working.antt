@@ -7,6 +7,8 @@ use Rattle.fy_base.specs.Outside.{Bytes, GainedPart, appended}
 use Rattle.fy_build.specs.Shown.{RunEnd}
 use Rattle.fy_image.specs.Form.{IsSpelled}
 use Rattle.fy_image.specs.declared.version.Version.TheVariants.{Two}
+use Rattle.fy_elf.specs.Elf.{IsElfBytes}
+use Rattle.fy_elf.specs.Memory.{LoadsAsStart}
 use Rattle.fy_image.specs.declared.image.Image.{Image}
 use Rattle.fy_phrase.specs.Tree.{Tree}
 use Rattle.rv_insn.specs.Program.{Program, AreRead}
@@ -44,16 +46,28 @@ pub record AreFetched (program : Program) (words : List Fetched) : Type 0 where
   pub read : AreRead program.words program.instructions
   pub each : All (λ fetched. word_at program fetched.pc ≡ Some fetched.word) words
 
--- an image's bytes, in version 2, were kept under a name, or a part of that was done
-pub record WasKept (image : Image) (name : Bytes) (before now : Contents) (result : Result ℕ Stop) : Type 0 where
+-- such bytes were kept under a name, or a part of that was done
+pub record WasKept (IsSuch : Bytes → Type 0) (name : Bytes) (before now : Contents) (result : Result ℕ Stop) : Type 0 where
   pub bytes : Bytes
-  pub spelled : IsSpelled Two image bytes
+  pub spelled : IsSuch bytes
   pub ready : result ≢ Err Memory
   pub closed : result ≢ Err Input
   pub did : Did (record { status = 0; output = []; notes = []; kept = Some (name, bytes); rest = None; running = None }) before now result
 
+abbrev pub KeepsSuch : (Bytes → Type 0) → Bytes → Contents → Contents → Result ℕ Stop → Type 0
+KeepsSuch IsSuch name before now result = IsUnbegun before now result ⊎ WasKept IsSuch name before now result
+
+-- the same of an image's bytes in version 2
 abbrev pub Keeps : Image → Bytes → Contents → Contents → Result ℕ Stop → Type 0
-Keeps image name before now result = IsUnbegun before now result ⊎ WasKept image name before now result
+Keeps image name before now result = KeepsSuch (IsSpelled Two image) name before now result
+
+-- the ELF file of an image, of which a loader makes what the image's machine starts with
+pub record IsLoaded (image : Image) (bytes : Bytes) : Type 0 where
+  pub elf : IsElfBytes image bytes
+  pub loads : LoadsAsStart image bytes
+
+abbrev pub KeepsElf : Image → Bytes → Contents → Contents → Result ℕ Stop → Type 0
+KeepsElf image name before now result = KeepsSuch (IsLoaded image) name before now result
 
 -- a machine ran on an input that explains it, and what is due for its run was done, or a part
 pub record HasRun (program : Program) (core : Core) (limit : ℕ) (trace : Option ℕ) (kept : Option (Bytes × Bytes)) (before now : Contents) (result : Result ℕ Stop) : Type 0 where

@@ -7,12 +7,13 @@ ghost use Rattle.rv_insn.specs.declared.events.Status.TheVariants.{Running};
 ghost use Rattle.rv_machine.specs.Start.{IsProgramOf, start_of};
 ghost use Rattle.fy_world.specs.Counted.{Counted};
 ghost use Rattle.fy_world.specs.Did.{Did, IsOwn};
-ghost use Rattle.fy_world.specs.Working.{Executes, Keeps, KeepsAndRuns, KeepsAndSamples, listed};
+ghost use Rattle.fy_world.specs.Working.{Executes, Keeps, KeepsAndRuns, KeepsAndSamples, KeepsElf, KeepsSuch, listed};
 
 use crate::runs::{run_machine, run_sampled, run_traced};
 use crate::shown::line_of;
 use crate::world::{Stop, World};
 use fy_base::OutOfMemory;
+use fy_elf::write_elf;
 use fy_image::{Image, write_image};
 use rv_machine::{Fetched, Machine};
 use std::alloc::Global;
@@ -60,6 +61,19 @@ pub fn execute<W: World>(
     }
 }
 
+// Keeps bytes under a name.
+fn keep_bytes<W: World>(alloc: Global, bytes: &[u8], name: &str, world: &mut W) -> Result<u8, Stop>
+    ensures keeps { KeepsSuch (λ held. held ≡ bytes.now) name.now (W.holds world.old) (W.holds world.new) result }
+    ensures own { IfOk result IsOwn }
+    ensures counted { Counted [] (name.now ∷ []) (W.counts world.old) (W.counts world.new) result }
+    ensures same { W.names world.new ≡ W.names world.old }
+{
+    match world.keep(alloc, name, bytes) {
+        Ok(()) => Ok(0),
+        Err(stop) => Err(stop),
+    }
+}
+
 /// Keeps the bytes of an image under a name, in version 2.
 pub fn keep_image<W: World>(
     alloc: Global,
@@ -73,13 +87,28 @@ pub fn keep_image<W: World>(
     ensures counted { Counted [] (name.now ∷ []) (W.counts world.old) (W.counts world.new) result }
     ensures same { W.names world.new ≡ W.names world.old }
 {
-    let bytes = match write_image(alloc, image) {
-        Ok(bytes) => bytes,
-        Err(OutOfMemory) => return Err(Stop::Memory),
-    };
-    match world.keep(alloc, name, bytes.as_slice()) {
-        Ok(()) => Ok(0),
-        Err(stop) => Err(stop),
+    match write_image(alloc, image) {
+        Ok(bytes) => keep_bytes(alloc, bytes.as_slice(), name, world),
+        Err(OutOfMemory) => Err(Stop::Memory),
+    }
+}
+
+/// Keeps the ELF file of an image under a name.
+pub fn keep_elf<W: World>(
+    alloc: Global,
+    image: &Image,
+    name: &str,
+    world: &mut W,
+) -> Result<u8, Stop>
+    requires { IsImage image.now }
+    ensures keeps { KeepsElf image.now name.now (W.holds world.old) (W.holds world.new) result }
+    ensures own { IfOk result IsOwn }
+    ensures counted { Counted [] (name.now ∷ []) (W.counts world.old) (W.counts world.new) result }
+    ensures same { W.names world.new ≡ W.names world.old }
+{
+    match write_elf(alloc, image) {
+        Ok(bytes) => keep_bytes(alloc, bytes.as_slice(), name, world),
+        Err(OutOfMemory) => Err(Stop::Memory),
     }
 }
 

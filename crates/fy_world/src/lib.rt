@@ -11,8 +11,8 @@ mod telling;
 mod trace;
 mod world;
 
-pub use images::{execute, keep_and_run, keep_and_sample, keep_image, list_image};
-pub use note::{Note, read_note, refusal_note};
+pub use images::{execute, keep_and_run, keep_and_sample, keep_elf, keep_image, list_image};
+pub use note::{Note, elf_note, read_note, refusal_note};
 pub use refusal::Refusal;
 pub use runs::run_copied;
 pub use steps::run_stepped;

@@ -2,11 +2,12 @@
 
 ghost use Rattle.std.specs.Prelude.{◌≡◌, ◌≤◌, ◌+◌, [], ◌∷◌, ◌++◌, codes, length};
 ghost use Rattle.std.specs.Fmt.{decimal};
-ghost use Rattle.fy_world.specs.Note.{note_text, place_text, maybe_place_text, fault_name, trap_name, refusal_note, read_note};
+ghost use Rattle.fy_world.specs.Note.{note_text, place_text, maybe_place_text, fault_name, trap_name, refusal_note, elf_note, read_note};
 
 use crate::refusal::Refusal;
 use arrayvec::ArrayString;
 use fy_base::{FaultKind, Place, TrapKind};
+use fy_elf::ElfError;
 use fy_image::ImageError;
 use fy_read::ReadError;
 
@@ -59,6 +60,8 @@ pub enum Note {
     ImageField(u8),
     /// There are more bytes than an image has.
     ImageLength,
+    /// The ELF file's field at this offset isn't as in one of an image.
+    ImageElf(u64),
     /// The image isn't guarded at the word with this number.
     Audit(u32),
 }
@@ -169,6 +172,7 @@ pub fn line_of(note: Note) -> Line
         Note::ImageTrailing(_) => begun("image trailing "),
         Note::ImageField(_) => begun("image field "),
         Note::ImageLength => begun("image length"),
+        Note::ImageElf(_) => begun("image elf "),
         Note::Audit(_) => begun("audit word "),
     };
     match note {
@@ -177,6 +181,7 @@ pub fn line_of(note: Note) -> Line
         Note::Instructions(count) | Note::ImageTrailing(count) | Note::DerivationText(count) => {
             push_number(&mut line, count)
         }
+        Note::ImageElf(offset) => push_number(&mut line, offset),
         Note::Copied { steps, peak } => push_run(&mut line, steps, peak),
         Note::ImageVersion(version) => push_number(&mut line, version.into()),
         Note::ImageField(field) => push_number(&mut line, field.into()),
@@ -199,6 +204,19 @@ pub fn refusal_note(error: ImageError) -> Option<Note>
         ImageError::BadField(field) => Some(Note::ImageField(field)),
         ImageError::TooLarge => Some(Note::ImageLength),
         ImageError::OutOfMemory => None,
+    }
+}
+
+/// The note of an ELF file that is refused, or `None` where memory was wanting.
+pub fn elf_note(error: ElfError) -> Option<Note>
+    ensures { result ≡ elf_note error }
+{
+    match error {
+        ElfError::Bad(offset) => Some(Note::ImageElf(offset)),
+        ElfError::Truncated => Some(Note::ImageTruncated),
+        ElfError::Trailing(count) => Some(Note::ImageTrailing(count)),
+        ElfError::TooLarge => Some(Note::ImageLength),
+        ElfError::OutOfMemory => None,
     }
 }
 
