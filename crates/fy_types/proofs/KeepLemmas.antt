@@ -120,7 +120,7 @@ large-path P p large = added-left IsTooLarge P p (λ e. held e large) (large-rig
     held e (inl many) = inl (omega (arith, contains-nodes P p e))
     held e (inr deep) = inr (omega (arith, contains-nesting P p e))
 
-commons_with-append : (p : PlainPath) (Q R : PlainPaths) →
+pub commons_with-append : (p : PlainPath) (Q R : PlainPaths) →
     commons_with p (append Q R) ≡ append (commons_with p Q) (commons_with p R)
 commons_with-append p no_paths R = refl
 commons_with-append p (and_path q Q) R =

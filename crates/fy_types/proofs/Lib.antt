@@ -16,3 +16,5 @@ pub mod NameLemmas
 pub mod NestLemmas
 pub mod FieldLemmas
 pub mod PrintLemmas
+pub mod KeyLemmas
+pub mod JoinLemmas

@@ -15,3 +15,5 @@ pub mod Nested
 pub mod Words
 pub mod Print
 pub mod Fields
+pub mod Numbers
+pub mod Keys

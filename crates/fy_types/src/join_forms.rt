@@ -7,15 +7,19 @@ ghost use Rattle.fy_types.specs.Limits.{IsWithinLimits, IsTooLarge};
 ghost use Rattle.fy_types.specs.Sized.{IsSized};
 ghost use Rattle.fy_types.specs.Bounds.{common_end as end_of_both, common, commons_with, join_of, IsLeastUpperBound};
 ghost use Rattle.fy_types.specs.Keeping.{all_added, is_some, are_alike};
+ghost use Rattle.fy_types.specs.Keys.{lent, IsSeen};
 ghost use Rattle.fy_types.specs.Merging.{merged, elem_domain, IsMerged};
 
 use crate::error::TypeError;
+use crate::index::{candidates, groups_of, key_of};
+use crate::kept::{Places, keep};
 use crate::meet_forms::meet_form;
 use crate::paths::{ElemList, Path, PathElem, Paths};
 use crate::sized::{MOST_NODES, Sized};
 use crate::subtype::is_end_below;
 use crate::types::Atom;
 use std::alloc::Global;
+use std::collections::BTreeMap;
 
 /// The common paths of each path of the first form and each path of the second, in order, each
 /// once, at its first place. This stands for a least upper bound of the two types.
@@ -46,34 +50,54 @@ fn join_form(alloc: Global, a: &Paths, b: &Paths) -> Result<Sized, TypeError>
     ensures large { IsErrOf result TypeError.TypeTooLarge →
         IsTooLarge (join_of (plain_paths a.now) (plain_paths b.now)) }
 {
+    let groups = groups_of(alloc, b.as_slice())?;
+    let none = Vec::new(alloc);
+    let mut places = BTreeMap::new(alloc);
     let mut form = Sized::none(alloc);
     for path in a.as_slice() {
-        form = keep_commons(alloc, form, path, b)?;
+        let list = candidates(&groups, key_of(path), &none);
+        form = keep_commons(alloc, form, &mut places, path, list)?;
     }
     Ok(form)
 }
 
-fn keep_commons(alloc: Global, kept: Sized, path: &Path, list: &Paths) -> Result<Sized, TypeError>
-    requires { IsSized kept (plain_paths kept.paths) }
+fn keep_commons(
+    alloc: Global,
+    kept: Sized,
+    places: &mut Places,
+    path: &Path,
+    list: &[&Path],
+) -> Result<Sized, TypeError>
+    requires sized { IsSized kept (plain_paths kept.paths) }
+    requires seen { IsSeen places.old (plain_paths kept.paths) }
     ensures ok { IfOk result
         (λ s. IsSized s (all_added (plain_paths kept.paths)
-        (commons_with (plain_path path.now) (plain_paths list.now)))) }
+        (commons_with (plain_path path.now) (lent list.now)))) }
+    ensures seen { IfOk result (λ s. IsSeen places.new (plain_paths s.paths)) }
     ensures large { IsErrOf result TypeError.TypeTooLarge →
         IsTooLarge (all_added (plain_paths kept.paths)
-        (commons_with (plain_path path.now) (plain_paths list.now))) }
+        (commons_with (plain_path path.now) (lent list.now))) }
 {
     let mut form = kept;
-    for other in list.as_slice() {
-        form = keep_common(alloc, form, path, other)?;
+    for other in list {
+        form = keep_common(alloc, form, places, path, other)?;
     }
     Ok(form)
 }
 
-fn keep_common(alloc: Global, kept: Sized, p: &Path, q: &Path) -> Result<Sized, TypeError>
-    requires { IsSized kept (plain_paths kept.paths) }
+fn keep_common(
+    alloc: Global,
+    kept: Sized,
+    places: &mut Places,
+    p: &Path,
+    q: &Path,
+) -> Result<Sized, TypeError>
+    requires sized { IsSized kept (plain_paths kept.paths) }
+    requires seen { IsSeen places.old (plain_paths kept.paths) }
     ensures ok { IfOk result
         (λ s. IsSized s (all_added (plain_paths kept.paths)
         (common (plain_path p.now) (plain_path q.now)))) }
+    ensures seen { IfOk result (λ s. IsSeen places.new (plain_paths s.paths)) }
     ensures large { IsErrOf result TypeError.TypeTooLarge →
         IsTooLarge (all_added (plain_paths kept.paths)
         (common (plain_path p.now) (plain_path q.now))) }
@@ -82,7 +106,7 @@ fn keep_common(alloc: Global, kept: Sized, p: &Path, q: &Path) -> Result<Sized, 
         return Ok(kept);
     }
     let path = common_path(alloc, p, q)?;
-    kept.keep(alloc, &path)
+    keep(alloc, kept, places, &path)
 }
 
 fn has_common(p: &Path, q: &Path) -> bool

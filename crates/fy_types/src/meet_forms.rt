@@ -7,9 +7,11 @@ ghost use Rattle.fy_types.specs.Sized.{IsSized};
 ghost use Rattle.fy_types.specs.Bounds.{meet_of, IsGreatestLowerBound};
 
 use crate::error::TypeError;
+use crate::kept::keep_all;
 use crate::paths::Paths;
 use crate::sized::Sized;
 use std::alloc::Global;
+use std::collections::BTreeMap;
 
 /// The paths of the first form and then those of the second, each once, at its first place. This
 /// stands for a greatest lower bound of the two types.
@@ -38,7 +40,7 @@ pub(crate) fn meet_form(alloc: Global, a: &Paths, b: &Paths) -> Result<Sized, Ty
     ensures large { IsErrOf result TypeError.TypeTooLarge →
         IsTooLarge (meet_of (plain_paths a.now) (plain_paths b.now)) }
 {
-    let none = Sized::none(alloc);
-    let first = none.keep_all(alloc, a)?;
-    first.keep_all(alloc, b)
+    let mut places = BTreeMap::new(alloc);
+    let first = keep_all(alloc, Sized::none(alloc), &mut places, a)?;
+    keep_all(alloc, first, &mut places, b)
 }

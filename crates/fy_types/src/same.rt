@@ -18,8 +18,9 @@ pub(crate) fn has_path(list: &Paths, path: &Path) -> bool
     false
 }
 
+/// Whether the lists have the same paths in the same order.
 #[cycle(same)]
-fn are_same_paths(a: &Paths, b: &Paths) -> bool
+pub(crate) fn are_same_paths(a: &Paths, b: &Paths) -> bool
     ensures { IsTrue result ↔ (plain_paths a.now ≡ plain_paths b.now) }
 {
     let ps = a.as_slice();
@@ -35,8 +36,9 @@ fn are_same_paths(a: &Paths, b: &Paths) -> bool
     true
 }
 
+/// Whether the paths are the same.
 #[cycle(same)]
-fn is_same_path(p: &Path, q: &Path) -> bool
+pub(crate) fn is_same_path(p: &Path, q: &Path) -> bool
     ensures { IsTrue result ↔ (plain_path p.now ≡ plain_path q.now) }
 {
     let xs = p.elems.as_slice();

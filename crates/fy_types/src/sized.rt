@@ -1,17 +1,17 @@
 //! Path forms that are made with their sizes, so that none grows past the limits.
 
-ghost use Rattle.std.specs.Prelude.{◌≡◌, ◌<◌, ◌+◌, IfOk, IsErrOf};
+ghost use Rattle.std.specs.Prelude.{◌≡◌, ◌<◌, ◌+◌, false, IfOk, IsErrOf};
 ghost use Rattle.fy_types.specs.Paths.{PlainPath, no_paths, and_path, called, picked, append};
 ghost use Rattle.fy_types.specs.Reading.{plain_path, plain_paths};
 ghost use Rattle.fy_types.specs.Limits.{IsTooLarge};
 ghost use Rattle.fy_types.specs.Sized.{IsSized};
-ghost use Rattle.fy_types.specs.Keeping.{added, all_added};
+ghost use Rattle.fy_types.specs.Keeping.{added};
+ghost use Rattle.fy_types.specs.Once.{contains};
 
 use crate::Name;
 use crate::copy::{copy_path, copy_paths};
 use crate::error::TypeError;
 use crate::paths::{ElemList, Path, PathElem, Paths};
-use crate::same::has_path;
 use crate::size::size_of_path;
 use crate::types::Atom;
 use fy_base::OutOfMemory;
@@ -106,17 +106,15 @@ impl Sized {
         })
     }
 
-    /// These paths and then the path, unless it is among them.
-    pub(crate) fn keep(self, alloc: Global, path: &Path) -> Result<Sized, TypeError>
-        requires { IsSized self (plain_paths self.paths) }
+    /// These paths and then the path, which isn't among them.
+    pub(crate) fn keep_new(self, alloc: Global, path: &Path) -> Result<Sized, TypeError>
+        requires sized { IsSized self (plain_paths self.paths) }
+        requires new { contains (plain_paths self.paths) (plain_path path.now) ≡ false }
         ensures ok { IfOk result
             (λ s. IsSized s (added (plain_paths self.paths) (plain_path path.now))) }
         ensures large { IsErrOf result TypeError.TypeTooLarge →
             IsTooLarge (added (plain_paths self.paths) (plain_path path.now)) }
     {
-        if has_path(&self.paths, path) {
-            return Ok(self);
-        }
         let size = size_of_path(path);
         let nodes = self.nodes.saturating_add(size.nodes);
         let nesting = self.nesting.max(size.nesting);
@@ -129,21 +127,6 @@ impl Sized {
             nodes,
             nesting,
         })
-    }
-
-    /// These paths and then those of the list that aren't among them, each once.
-    pub(crate) fn keep_all(self, alloc: Global, list: &Paths) -> Result<Sized, TypeError>
-        requires { IsSized self (plain_paths self.paths) }
-        ensures ok { IfOk result
-            (λ s. IsSized s (all_added (plain_paths self.paths) (plain_paths list.now))) }
-        ensures large { IsErrOf result TypeError.TypeTooLarge →
-            IsTooLarge (all_added (plain_paths self.paths) (plain_paths list.now)) }
-    {
-        let mut form = self;
-        for path in list.as_slice() {
-            form = form.keep(alloc, path)?;
-        }
-        Ok(form)
     }
 
     /// These paths and then the others.

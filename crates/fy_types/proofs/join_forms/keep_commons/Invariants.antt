@@ -1,11 +1,13 @@
-use Rattle.std.proofs.Common.{map, take}
-use Rattle.fy_types.specs.Reading.{plain_path, plain_paths, paths_from}
+use Rattle.std.proofs.Common.{take}
+use Rattle.fy_types.specs.Reading.{plain_path, plain_paths}
 use Rattle.fy_types.specs.Sized.{IsSized}
 use Rattle.fy_types.specs.Bounds.{commons_with}
+use Rattle.fy_types.specs.Keys.{IsSeen, lent}
 use Rattle.fy_types.specs.Keeping.{all_added}
 use Rattle.fy_types.proofs.join_forms.keep_commons.Given as goal
 
 abbrev pub invariant-loop-other : goal.invariant-loop-other
-invariant-loop-other l =
-    IsSized l.form
-    (all_added (plain_paths l.fn.kept.paths) (commons_with (plain_path l.path) (paths_from (map plain_path (take l.other-index l.other-items)))))
+invariant-loop-other l = record {
+  sized : IsSized l.form (all_added (plain_paths l.fn.kept.paths) (commons_with (plain_path l.path) (lent (take l.other-index l.list))));
+  seen : IsSeen l.places (plain_paths l.form.paths);
+}
