@@ -1,6 +1,7 @@
 //! What a path form has behind its first demands.
 
 ghost use Rattle.std.specs.Prelude.{◌≡◌, IfOk};
+ghost use Rattle.fy_types.specs.Keys.{indexed, IsWhole};
 ghost use Rattle.fy_types.specs.Paths.{PlainPath, end};
 ghost use Rattle.fy_types.specs.Reading.{front, plain_elem, plain_path, plain_paths};
 ghost use Rattle.fy_derive.specs.Kinds.{begins as begins_of};
@@ -17,7 +18,7 @@ ghost use Rattle.fy_least.specs.Demands.{behind, takes_argument as takes_argumen
 
 use fy_base::OutOfMemory;
 use fy_derive::{Demand, is_acceptor};
-use fy_types::{Atom, ElemList, Name, Path, PathElem, Paths, copy_paths, is_end_below, is_subtype};
+use fy_types::{Atom, ElemList, Name, Path, PathElem, PathIndex, Paths, copy_paths, is_end_below};
 use std::alloc::Global;
 
 /// The form of one path without demands.
@@ -45,10 +46,10 @@ pub(crate) fn has(paths: &Paths, atom: Atom) -> bool
 }
 
 /// Whether the first form's type is a subtype of the second's.
-pub(crate) fn is_form_below(a: &Paths, b: &Paths) -> bool
-    ensures { result ≡ paths_below (plain_paths a.now) (plain_paths b.now) }
+pub(crate) fn is_form_below(alloc: Global, a: &Paths, b: &Paths) -> Result<bool, OutOfMemory>
+    ensures { IfOk result (λ r. r ≡ paths_below (plain_paths a.now) (plain_paths b.now)) }
 {
-    is_subtype(a, b)
+    fy_types::is_form_below(alloc, a, b)
 }
 
 fn ends_in(path: &Path, atom: Atom) -> bool
@@ -67,9 +68,27 @@ pub(crate) fn rests_of_call(
     ensures { IfOk result
         (λ made. plain_paths made ≡ rests_of_call_of (plain_paths argument.now) (plain_paths paths.now)) }
 {
+    if paths.len() > 1 {
+        return rests_by_index(alloc, argument, paths);
+    }
     let mut rests = Paths::new(alloc);
     for path in paths.as_slice() {
-        if takes_argument(path, argument) {
+        if takes_argument(alloc, path, argument)? {
+            rests.push(copy_from(alloc, path, 1)?)?;
+        }
+    }
+    Ok(rests)
+}
+
+// The same, where an index of the argument is made once for all the paths.
+fn rests_by_index(alloc: Global, argument: &Paths, paths: &Paths) -> Result<Paths, OutOfMemory>
+    ensures { IfOk result
+        (λ made. plain_paths made ≡ rests_of_call_of (plain_paths argument.now) (plain_paths paths.now)) }
+{
+    let index = PathIndex::of(alloc, argument)?;
+    let mut rests = Paths::new(alloc);
+    for path in paths.as_slice() {
+        if takes_indexed(alloc, path, &index)? {
             rests.push(copy_from(alloc, path, 1)?)?;
         }
     }
@@ -102,16 +121,30 @@ pub(crate) fn others(alloc: Global, demand: Demand, paths: &Paths) -> Result<Pat
     Ok(kept)
 }
 
-fn takes_argument(path: &Path, argument: &Paths) -> bool
-    ensures { result ≡ takes_argument_of (plain_paths argument.now) (plain_path path.now) }
+fn takes_argument(alloc: Global, path: &Path, argument: &Paths) -> Result<bool, OutOfMemory>
+    ensures { IfOk result (λ r. r ≡ takes_argument_of (plain_paths argument.now) (plain_path path.now)) }
 {
     let elems = path.elems.as_slice();
     if elems.len() == 0 {
-        return false;
+        return Ok(false);
     }
     match &elems[0] {
-        PathElem::Call(domain) => is_form_below(argument, domain),
-        PathElem::Field(_) => false,
+        PathElem::Call(domain) => is_form_below(alloc, argument, domain),
+        PathElem::Field(_) => Ok(false),
+    }
+}
+
+fn takes_indexed(alloc: Global, path: &Path, index: &PathIndex<'_>) -> Result<bool, OutOfMemory>
+    requires { IsWhole index.now }
+    ensures { IfOk result (λ r. r ≡ takes_argument_of (indexed index.now) (plain_path path.now)) }
+{
+    let elems = path.elems.as_slice();
+    if elems.len() == 0 {
+        return Ok(false);
+    }
+    match &elems[0] {
+        PathElem::Call(domain) => index.is_below(alloc, domain),
+        PathElem::Field(_) => Ok(false),
     }
 }
 

@@ -251,7 +251,7 @@ pub(crate) fn recursion(
         IsRefused (if_passed (is_recursive body (plain_paths form.now)) (once_of (plain_paths form.now))) (body.total) }
 {
     let blame = body.blame_or(at);
-    if !is_form_below(&body.paths, form) {
+    if !is_form_below(alloc, &body.paths, form)? {
         return Ok(Found::none(alloc, blame, body.total));
     }
     let premise = to_type(alloc, copy_ty(alloc, ty)?, body.derivation)?;

@@ -7,7 +7,7 @@ use Rattle.fy_types.proofs.Steps.{drop_item, drop_end}
 use Rattle.fy_derive.specs.Least.{rests_of_call}
 use Rattle.fy_least.proofs.DemandLemmas.{kept-one, rest-taken, rest-left}
 use Rattle.fy_least.proofs.demands.rests_of_call.Goals as goal
-use Rattle.fy_least.proofs.demands.rests_of_call.Goals.{then-takes_argument+in_ok-copy_from+in_ok-push, else-takes_argument}
+use Rattle.fy_least.proofs.demands.rests_of_call.Goals.{then-branch+in_ok-copy_from+in_ok-push, else-branch}
 
 pub loop-path-preserved : goal.loop-path-preserved
 loop-path-preserved c =
@@ -16,17 +16,17 @@ loop-path-preserved c =
     let old = paths_from (map plain_path (paths_in c.loop-path.rests)) in
     let split = ap (λ ps. append old (rests_of_call (plain_paths c.args.argument.now) (paths_from ps)))
     (drop_item plain_path items c.loop-path.path-index c.path-item.result c.loop-path-test.true c.path-item.is) in
-    elim c.if-takes_argument.branch [
-      | then-takes_argument+in_ok-copy_from+in_ok-push w ↦
+    elim c.if-branch.branch [
+      | then-branch+in_ok-copy_from+in_ok-push w ↦
           ap (λ xs. append (paths_from (map plain_path xs)) more) (ap paths_in w.rests-is ∙ w.in_ok-push.ensures.ok)
           ∙ (kept-one (paths_in c.loop-path.rests) w.in_ok-copy_from.field-0 _ more w.in_ok-copy_from.ensures
           ∙ (ap (λ P. append old (append P more)) (sym (rest-taken (plain_paths c.args.argument.now) (plain_path c.path-item.result)
-          (sym w.if-takes_argument.true ∙ c.takes_argument.ensures)))
+          (sym w.if-branch.true ∙ c.in_ok-takes_argument.ensures)))
           ∙ (sym split ∙ c.loop-path.invariant)))
-      | else-takes_argument w ↦
+      | else-branch w ↦
           ap (λ xs. append (paths_from (map plain_path xs)) more) (ap paths_in w.rests-is)
           ∙ (ap (λ P. append old (append P more)) (sym (rest-left (plain_paths c.args.argument.now) (plain_path c.path-item.result)
-          (sym w.if-takes_argument.false ∙ c.takes_argument.ensures)))
+          (sym w.if-branch.false ∙ c.in_ok-takes_argument.ensures)))
           ∙ (sym split ∙ c.loop-path.invariant))
     ]
 
