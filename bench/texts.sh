@@ -40,9 +40,13 @@ nested=$(repeated '(' 255)skip$(repeated ')' 255)
 { printf '\\x: int'; repeated ' & int' 4094; printf '. skip'; } | measure 'a type of 4,096 nodes'
 { printf 'lettype t0 == int in '; for i in $(seq 60); do printf 'lettype t%s == t%s & t%s in ' "$i" $((i - 1)) $((i - 1)); done; printf skip; } | measure 'a type doubled 60 times'
 { repeated '(\\x: int | bool. ' 13; printf '(skip; skip)'; repeated ') 1' 13; } | measure '13 calls, 49,000 visits'
+# A piece for each of the numbers from a first to a last one, by a format that takes the number.
+each() {
+    for i in $(seq "$2" "$3" "$4"); do [ "$i" = "$2" ] || printf ' & '; printf "$1" "$i"; done
+}
 # Types of so many fields, each with a name of its own.
 fields() {
-    for i in $(seq "$1"); do [ "$i" = 1 ] || printf ' & '; printf '(a%s: int)' "$i"; done
+    each '(a%s: int)' 1 1 "$1"
 }
 for size in 10 100 1000 2000; do
     calls=$((4000000 / (4 * size + 200)))
@@ -50,3 +54,6 @@ for size in 10 100 1000 2000; do
     { printf 'lettype t == '; fields "$size"; printf ' in let p == \\f: t -> comm. \\x: t. (f x'; repeated '; f x' $((calls - 1)); printf ') in skip'; } | measure "$calls calls on $size fields"
 done
 { printf 'lettype t == '; fields 2000; printf ' in let p == \\x: t. (x.a2000'; repeated ', b == x.a1' 500; printf ') in skip'; } | measure '501 fields of 2,000 are taken'
+{ printf 'lettype t == '; fields 2000; printf ' in lettype s == '; each '(a%s: int)' 2000 -1 1; printf ' in let p == \\f: s -> comm. \\x: t. (f x'; repeated '; f x' 486; printf ') in skip'; } | measure '487 calls on 2000 fields turned round'
+{ printf 'lettype t == '; fields 2000; printf ' in let p == \\x: t. (x.a2000'; repeated ', b == (if true then x else x).a1' 260; printf ') in skip'; } | measure '260 conditionals of 2,000 fields'
+{ printf 'lettype t == '; fields 1000; printf ' in let p == \\f: '; each '((a%s: int) -> comm)' 1 1 1000; printf '. \\x: t. (f x'; repeated '; f x' 640; printf ') in skip'; } | measure '641 calls of 1,000 alternatives'
