@@ -9,3 +9,5 @@ pub mod IdentifierLemmas
 pub mod StepLemmas
 pub mod SameLemmas
 pub mod UniqueLemmas
+pub mod OverLemmas
+pub mod AgainLemmas

@@ -4,6 +4,7 @@ ghost use Rattle.std.specs.Prelude.{◌≡◌, ◌≢◌, List};
 ghost use Rattle.fy_base.specs.Outside.{Bytes};
 ghost use Rattle.fy_lexer.specs.declared.error.LexError.{LexError};
 ghost use Rattle.fy_lexer.specs.declared.token.Token.{Token};
+ghost use Rattle.fy_lexer.specs.Again.{LaterNamesChangeNothing, RestsAreReadAgain};
 ghost use Rattle.fy_lexer.specs.Identifiers.{IdentifiersAreNamed};
 ghost use Rattle.fy_lexer.specs.Tokens.{AreWithin, IsFaultOf, IsTokensOf};
 
@@ -24,4 +25,16 @@ pub fn tokens_are_unique()
 /// each identifier among its tokens has its number among these. It does nothing: its contract is the law.
 pub fn identifiers_are_named()
     ensures { IdentifiersAreNamed }
+{}
+
+/// What the rest of a text is read as doesn't change where a closing parenthesis stands behind it: from any place, behind any
+/// tokens and with any list that has all its names come tokens of the same kinds. It does nothing: its contract is the law.
+pub fn rests_are_read_again()
+    ensures { RestsAreReadAgain }
+{}
+
+/// With a list that has all the names that a text leaves, the text has the same tokens, and leaves that list as it is.
+/// It does nothing: its contract is the law.
+pub fn later_names_change_nothing()
+    ensures { LaterNamesChangeNothing }
 {}
