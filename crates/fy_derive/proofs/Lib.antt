@@ -28,3 +28,5 @@ pub mod ContextSafety
 pub mod StepSafety
 pub mod RunSafety
 pub mod SafetyRows
+pub mod PlacedLemmas
+pub mod PlacedSizes

@@ -33,7 +33,7 @@ PremisesTyped G [] As (B ∷ Bs) = ⊥
 PremisesTyped G (P ∷ Ps) As [] = ⊥
 PremisesTyped G (P ∷ Ps) As (B ∷ Bs) = HasType (under P.0 As G) P.1 B × PremisesTyped G Ps (As ++ B ∷ []) Bs
 
-some_same : {X : Type 0} {x y : X} → Some x ≡ Some y → x ≡ y
+pub some_same : {X : Type 0} {x y : X} → Some x ≡ Some y → x ≡ y
 some_same e = cc
 
 provided-some : (b : Bool) (A C : PlainType) → provided b A ≡ Some C → (b ≡ true) × (A ≡ C)
@@ -219,36 +219,36 @@ conclusion-sound G (read p at) (A ∷ B ∷ Bs) C t e = absurd t.1
 conclusion-sound G (mark m at) Bs C t e = absurd cc
 
 -- what judging went on with
-judge-inner : (j : Judged) (f : PlainType → Judged) (A : PlainType) → then_judge j f ≡ concludes A → (B : PlainType) × (j ≡ concludes B) × (f B ≡ concludes A)
+pub judge-inner : (j : Judged) (f : PlainType → Judged) (A : PlainType) → then_judge j f ≡ concludes A → (B : PlainType) × (j ≡ concludes B) × (f B ≡ concludes A)
 judge-inner (concludes B) f A e = (B, refl, e)
 judge-inner (stops k) f A e = absurd cc
 
-others-inner : (j : Judged) (f : PlainType → AllJudged) (As : List PlainType) → then_others j f ≡ all_conclude As →
+pub others-inner : (j : Judged) (f : PlainType → AllJudged) (As : List PlainType) → then_others j f ≡ all_conclude As →
     (B : PlainType) × (j ≡ concludes B) × (f B ≡ all_conclude As)
 others-inner (concludes B) f As e = (B, refl, e)
 others-inner (stops k) f As e = absurd cc
 
-node-inner : (n : ℕ) (o : Option PlainType) (A : PlainType) → at_node n o ≡ concludes A → o ≡ Some A
+pub node-inner : (n : ℕ) (o : Option PlainType) (A : PlainType) → at_node n o ≡ concludes A → o ≡ Some A
 node-inner n None A e = absurd cc
 node-inner n (Some B) A e = cc
 
-premises-inner : (n : ℕ) (j : AllJudged) (f : List PlainType → Option PlainType) (A : PlainType) → from_premises n j f ≡ concludes A →
+pub premises-inner : (n : ℕ) (j : AllJudged) (f : List PlainType → Option PlainType) (A : PlainType) → from_premises n j f ≡ concludes A →
     (Bs : List PlainType) × (j ≡ all_conclude Bs) × (f Bs ≡ Some A)
 premises-inner n (all_conclude Bs) f A e = (Bs, refl, node-inner n (f Bs) A e)
 premises-inner n (one_stops k) f A e = absurd cc
 
-form-inner : {X : Type 0} (n : ℕ) (o : Option X) (f : X → Judged) (A : PlainType) → if_form n o f ≡ concludes A → (x : X) × (o ≡ Some x) × (f x ≡ concludes A)
+pub form-inner : {X : Type 0} (n : ℕ) (o : Option X) (f : X → Judged) (A : PlainType) → if_form n o f ≡ concludes A → (x : X) × (o ≡ Some x) × (f x ≡ concludes A)
 form-inner n None f A e = absurd cc
 form-inner n (Some x) f A e = (x, refl, e)
 
-count-inner : (n k : ℕ) (Ps : List Premise) (j : Judged) (A : PlainType) → if_count n k Ps j ≡ concludes A → (k ≡ length Ps) × (j ≡ concludes A)
+pub count-inner : (n k : ℕ) (Ps : List Premise) (j : Judged) (A : PlainType) → if_count n k Ps j ≡ concludes A → (k ≡ length Ps) × (j ≡ concludes A)
 count-inner n k Ps j A e = by (eqb k (length Ps)) refl e
   where
     by : (b : Bool) → eqb k (length Ps) ≡ b → cond b j (stops n) ≡ concludes A → (k ≡ length Ps) × (j ≡ concludes A)
     by true s e = (eqb-true k (length Ps) s, e)
     by false s e = absurd cc
 
-meet-inner : (b : Bool) (j : Judged) (n : ℕ) (A : PlainType) → cond b j (stops n) ≡ concludes A → (b ≡ true) × (j ≡ concludes A)
+pub meet-inner : (b : Bool) (j : Judged) (n : ℕ) (A : PlainType) → cond b j (stops n) ≡ concludes A → (b ≡ true) × (j ≡ concludes A)
 meet-inner true j n A e = (refl, e)
 meet-inner false j n A e = absurd cc
 

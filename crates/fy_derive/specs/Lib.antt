@@ -20,3 +20,4 @@ pub mod Least
 pub mod Print
 pub mod Limits
 pub mod Printable
+pub mod Placed

@@ -13,6 +13,7 @@ mod laws;
 mod members;
 mod node;
 mod parts;
+mod placed;
 mod premise;
 mod print;
 mod reading;
@@ -31,5 +32,6 @@ pub use kind::{Demand, demand_of};
 pub use laws::{
     judged_programs_are_never_stuck, judging_is_typing, typed_programs_are_never_stuck,
 };
+pub use placed::derivations_are_kept;
 pub use print::print_derivation;
 pub use sizes::{nesting_of, nodes_of};

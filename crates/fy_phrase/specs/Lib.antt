@@ -8,3 +8,4 @@ pub mod Bounds
 pub mod CoreLimits
 pub mod PhraseNames
 pub mod WellMade
+pub mod Alike
