@@ -1,20 +1,38 @@
 -- Tokens in other places spell the same tree but for places, before any rest.
-use Rattle.std.proofs.Common.{◌≡◌, ◌<◌, ℕ, suc, Bool, true, false, List, [], ◌∷◌, ◌++◌, length, map, refl, ap, ◌∙◌, arith}
+use Rattle.std.proofs.Common.{◌≡◌, ◌≢◌, ◌<◌, ℕ, suc, ◌+◌, Bool, true, false, List, [], ◌∷◌, ◌++◌, length, refl, sym, ap, subst, ◌∙◌, arith, append-nil, length-append}
 use Rattle.std.proofs.lemmas.Bool.{eqb-true, eq-eqb}
 use Rattle.std.specs.Prelude.{if◌then◌else◌, ◌==◌}
 use Rattle.fy_base.specs.declared.data.Place.{Place}
+use Rattle.fy_base.specs.declared.data.BinOp.{BinOp}
+use Rattle.fy_base.specs.declared.data.BinOp.TheVariants as op
+use Rattle.fy_base.specs.declared.data.UnOp.{UnOp}
+use Rattle.fy_base.specs.declared.data.UnOp.TheVariants as unary
 use Rattle.fy_lexer.specs.declared.token.Token.{Token}
+use Rattle.fy_lexer.specs.declared.token.TokenKind.{TokenKind}
+use Rattle.fy_lexer.specs.declared.token.TokenKind.TheVariants as kind
 use Rattle.fy_lexer.specs.declared.token.Symbol.{Symbol}
+use Rattle.fy_lexer.specs.Again.{kinds, HaveNoEnd}
 use Rattle.fy_syntax.specs.declared.surface.Prefixed.{Prefixed}
 use Rattle.fy_syntax.specs.Trees.{TypeTree, TypeTrees, DeclTree, Tree, Trees, Defs, Links}
-use Rattle.fy_syntax.specs.Signs.{token, front, Level, TypeLevel}
+use Rattle.fy_syntax.specs.Signs.{token, front, Level, TypeLevel, operator_sign, prefix_sign}
 use Rattle.fy_syntax.specs.Spells.{Fields, Dots, Prefixes, SpellsType, MoreTypes, MoreDecls, SpellsBefore, MoreTrees, MoreDefs, MoreLinks, MoreArguments, meet_of, field_of, merge_of, sequence_of, chain_of, prefixed_of, apply_of, select_of}
 use Rattle.fy_syntax.specs.Places.{no_place, type_without_places, types_without_places, decls_without_places, operators_without_places, without_places, trees_without_places, defs_without_places, links_without_places}
+use Rattle.fy_syntax.specs.Again.{IsSpelledAgain, PhrasesAreSpelledAgain}
 
--- the tokens in other places, each by the number of those behind it, and then a rest
+-- at the end of a text the rest, else more
+abbrev pub past_end : TokenKind → List Token → List Token → List Token
+past_end kind.End rest more = rest
+past_end (kind.Ident n) rest more = more
+past_end (kind.Number n) rest more = more
+past_end (kind.Letter n) rest more = more
+past_end (kind.Str n) rest more = more
+past_end (kind.Word n) rest more = more
+past_end (kind.Sym n) rest more = more
+
+-- the tokens in other places, each by the number of those behind it, and then a rest in place of what begins with the end
 abbrev pub placed : (ℕ → Place) → List Token → List Token → List Token
 placed g rest [] = rest
-placed g rest (t ∷ ts) = token t.kind (g (length ts)) ∷ placed g rest ts
+placed g rest (t ∷ ts) = past_end t.kind rest (token t.kind (g (length ts)) ∷ placed g rest ts)
 
 -- the same tree but for places
 pub record MovedType (l : TypeLevel) (a : TypeTree) (ts r : List Token) : Type 0 where
@@ -121,13 +139,34 @@ dots_moved : (g : ℕ → Place) (z : List Token) {fields : List ℕ} {ts r : Li
 dots_moved g z Dots.no_dots = Dots.no_dots
 dots_moved g z (Dots.and_dot x) = Dots.and_dot (dots_moved g z x)
 
+operator-kept : (o : BinOp) (z m : List Token) → past_end (operator_sign o) z m ≡ m
+operator-kept op.Add z m = refl
+operator-kept op.Sub z m = refl
+operator-kept op.Mul z m = refl
+operator-kept op.Div z m = refl
+operator-kept op.Rem z m = refl
+operator-kept op.Eq z m = refl
+operator-kept op.Ne z m = refl
+operator-kept op.Lt z m = refl
+operator-kept op.Le z m = refl
+operator-kept op.Gt z m = refl
+operator-kept op.Ge z m = refl
+operator-kept op.And z m = refl
+operator-kept op.Or z m = refl
+
+prefix-kept : (o : UnOp) (z m : List Token) → past_end (prefix_sign o) z m ≡ m
+prefix-kept unary.Neg z m = refl
+prefix-kept unary.Not z m = refl
+prefix-kept unary.Ord z m = refl
+prefix-kept unary.Chr z m = refl
+
 prefixes_moved : (g : ℕ → Place) (z : List Token) {operators : List Prefixed} {ts r : List Token} → Prefixes operators ts r → MovedPrefixes operators (placed g z ts) (placed g z r)
 prefixes_moved g z Prefixes.no_prefixes = record { operators_too = []; spells = Prefixes.no_prefixes; same = refl }
-prefixes_moved g z (Prefixes.and_prefix {op = op} {ts = ts} x) =
+prefixes_moved g z (Prefixes.and_prefix {op = op} {ts = ts} {r = r} x) =
     let m = prefixes_moved g z x in
     record {
       operators_too = record { op = op; at = g (length ts) } ∷ m.operators_too;
-      spells = Prefixes.and_prefix m.spells;
+      spells = subst (λ l. Prefixes (record { op = op; at = g (length ts) } ∷ m.operators_too) l (placed g z r)) (sym (prefix-kept op z _)) (Prefixes.and_prefix m.spells);
       same = ap (λ l. record { op = op; at = no_place } ∷ l) m.same;
     }
 
@@ -203,9 +242,13 @@ mutual
   tree_moved g z (SpellsBefore.both {t = t} {more = more} {ts = ts} x y) =
       let a = tree_moved g z x in let b = links_moved g z y in
       record { tree = chain_of a.tree b.links (front (placed g z ts)); spells = SpellsBefore.both a.spells b.spells; same = chain_same a.tree t b.links more _ _ a.same b.same }
-  tree_moved g z (SpellsBefore.related o x y) =
+  tree_moved g z (SpellsBefore.related {op = op} {ts = ts} {m = m} {p = p} o x y) =
       let a = tree_moved g z x in let b = tree_moved g z y in
-      record { tree = _; spells = SpellsBefore.related o a.spells b.spells; same = cc (a.same, b.same) }
+      record {
+        tree = _;
+        spells = SpellsBefore.related o (subst (λ l. SpellsBefore Level.sum a.tree (placed g z ts) l) (operator-kept op z (token (operator_sign op) (g (length m)) ∷ placed g z m)) a.spells) b.spells;
+        same = cc (a.same, b.same);
+      }
   tree_moved g z (SpellsBefore.no_relation x) = let a = tree_moved g z x in record { tree = a.tree; spells = SpellsBefore.no_relation a.spells; same = a.same }
   tree_moved g z (SpellsBefore.sum {t = t} {more = more} {ts = ts} x y) =
       let a = tree_moved g z x in let b = links_moved g z y in
@@ -247,9 +290,14 @@ mutual
 
   links_moved : (g : ℕ → Place) (z : List Token) {c l : Level} {more : Links} {ts r : List Token} → MoreLinks c l more ts r → MovedLinks c l more (placed g z ts) (placed g z r)
   links_moved g z MoreLinks.no_links = record { links = Links.no_links; spells = MoreLinks.no_links; same = refl }
-  links_moved g z (MoreLinks.and_link o x y) =
+  links_moved g z (MoreLinks.and_link {c = c} {l = l} {op = op} {t = t} {ts = ts} {r = r} o x y) =
       let a = tree_moved g z x in let b = links_moved g z y in
-      record { links = _; spells = MoreLinks.and_link o a.spells b.spells; same = cc (a.same, b.same) }
+      record {
+        links = Links.and_link op (g (length ts)) a.tree b.links;
+        spells = subst (λ k. MoreLinks c l (Links.and_link op (g (length ts)) a.tree b.links) k (placed g z r)) (sym (operator-kept op z (token (operator_sign op) (g (length ts)) ∷ placed g z ts)))
+            (MoreLinks.and_link o a.spells b.spells);
+        same = cc (a.same, b.same);
+      }
 
   arguments_moved : (g : ℕ → Place) (z : List Token) {more : Trees} {ts r : List Token} → MoreArguments more ts r → MovedArguments more (placed g z ts) (placed g z r)
   arguments_moved g z MoreArguments.no_arguments = record { trees = Trees.no_trees; spells = MoreArguments.no_arguments; same = refl }
@@ -257,20 +305,27 @@ mutual
       let a = tree_moved g z x in let b = arguments_moved g z y in
       record { trees = Trees.and_tree a.tree b.trees; spells = MoreArguments.and_argument a.spells b.spells; same = cc (a.same, b.same) }
 
--- the places of given tokens, by the number of those behind each
-abbrev pub places_of : List Token → ℕ → Place
-places_of [] n = no_place
-places_of (t ∷ ts) n = if n == length ts then t.place else places_of ts n
+-- ---- tokens of the same kinds
 
-placed_same : (g h : ℕ → Place) (z ts : List Token) → ((n : ℕ) → n < length ts → g n ≡ h n) → placed g z ts ≡ placed h z ts
-placed_same g h z [] e = refl
-placed_same g h z (t ∷ ts) e = ap (λ p. token t.kind p ∷ placed g z ts) (e (length ts) (omega arith)) ∙ ap (λ l. token t.kind (h (length ts)) ∷ l) (placed_same g h z ts (λ n i. e n (omega arith)))
+-- the places of given tokens, by the number of those behind each, with so many more behind all
+abbrev pub places_of : ℕ → List Token → ℕ → Place
+places_of more [] n = no_place
+places_of more (t ∷ ts) n = if n == length ts + more then t.place else places_of more ts n
 
-kinds_length : (ts us : List Token) → map (λ (t : Token). t.kind) ts ≡ map (λ (t : Token). t.kind) us → length ts ≡ length us
+stays : (k : TokenKind) (z m : List Token) → k ≢ kind.End → past_end k z m ≡ m
+stays kind.End z m e = absurd (e refl)
+stays (kind.Ident n) z m e = refl
+stays (kind.Number n) z m e = refl
+stays (kind.Letter n) z m e = refl
+stays (kind.Str n) z m e = refl
+stays (kind.Word n) z m e = refl
+stays (kind.Sym n) z m e = refl
+
+kinds_length : (ts us : List Token) → kinds ts ≡ kinds us → length ts ≡ length us
 kinds_length [] [] e = refl
 kinds_length [] (u ∷ us) e = absurd cc
 kinds_length (t ∷ ts) [] e = absurd cc
-kinds_length (t ∷ ts) (u ∷ us) e = let f : map (λ (t : Token). t.kind) ts ≡ map (λ (t : Token). t.kind) us = cc in ap suc (kinds_length ts us f)
+kinds_length (t ∷ ts) (u ∷ us) e = let f : kinds ts ≡ kinds us = cc in ap suc (kinds_length ts us f)
 
 not_last : (n m : ℕ) → n < m → (n == m) ≡ false
 not_last n m h = go (n == m) refl
@@ -279,17 +334,49 @@ not_last n m h = go (n == m) refl
     go true e = absurd (let f = eqb-true n m e in omega (arith, f))
     go false e = refl
 
--- tokens of the same kinds are the others, placed
-pub placed_as : (z ts us : List Token) → map (λ (t : Token). t.kind) ts ≡ map (λ (t : Token). t.kind) us → placed (places_of us) z ts ≡ us ++ z
-placed_as z [] [] e = refl
-placed_as z [] (u ∷ us) e = absurd cc
-placed_as z (t ∷ ts) [] e = absurd cc
-placed_as z (t ∷ ts) (u ∷ us) e =
-    let f : map (λ (t : Token). t.kind) ts ≡ map (λ (t : Token). t.kind) us = cc in
+placed_same : (g h : ℕ → Place) (z r ts : List Token) → HaveNoEnd ts → placed g z r ≡ placed h z r → ((n : ℕ) → n < length ts + length r → g n ≡ h n) →
+    placed g z (ts ++ r) ≡ placed h z (ts ++ r)
+placed_same g h z r [] inside same e = same
+placed_same g h z r (t ∷ ts) inside same e =
+    let l = length-append ts r in
+    let n = length (ts ++ r) in
+    stays t.kind z (token t.kind (g n) ∷ placed g z (ts ++ r)) inside.0
+    ∙ ap (λ p. token t.kind p ∷ placed g z (ts ++ r)) (e n (omega (arith, l)))
+    ∙ ap (λ m. token t.kind (h n) ∷ m) (placed_same g h z r ts inside.1 same (λ i j. e i (omega (arith, j))))
+    ∙ sym (stays t.kind z (token t.kind (h n) ∷ placed h z (ts ++ r)) inside.0)
+
+-- tokens of the same kinds are the others placed, where what is behind these becomes the rest wherever it stands
+pub placed_as : (z r ts us : List Token) → HaveNoEnd ts → kinds ts ≡ kinds us → ((g : ℕ → Place) → placed g z r ≡ z) → placed (places_of (length r) us) z (ts ++ r) ≡ us ++ z
+placed_as z r [] [] inside e same = same (places_of (length r) [])
+placed_as z r [] (u ∷ us) inside e same = absurd cc
+placed_as z r (t ∷ ts) [] inside e same = absurd cc
+placed_as z r (t ∷ ts) (u ∷ us) inside e same =
+    let f : kinds ts ≡ kinds us = cc in
     let k : t.kind ≡ u.kind = cc in
     let l = kinds_length ts us f in
-    let first : places_of (u ∷ us) (length ts) ≡ u.place = ap (λ b. if b then u.place else places_of us (length ts)) (eq-eqb (length ts) (length us) l) in
-    let later = placed_same (places_of (u ∷ us)) (places_of us) z ts (λ n i. ap (λ b. if b then u.place else places_of us n) (not_last n (length us) (omega (arith, l)))) in
-    ap (λ p. token t.kind p ∷ placed (places_of (u ∷ us)) z ts) first
-    ∙ ap (λ l. token t.kind u.place ∷ l) (later ∙ placed_as z ts us f)
-    ∙ ap (λ k. token k u.place ∷ us ++ z) k
+    let a = length-append ts r in
+    let n = length (ts ++ r) in
+    let at = places_of (length r) (u ∷ us) in
+    let others = places_of (length r) us in
+    let i : n ≡ length us + length r = omega (arith, l, a) in
+    let first : at n ≡ u.place = ap (λ b. if b then u.place else others n) (eq-eqb n (length us + length r) i) in
+    let later = placed_same at others z r ts inside.1 (same at ∙ sym (same others))
+    (λ n j. ap (λ b. if b then u.place else others n) (not_last n (length us + length r) (omega (arith, l, j)))) in
+    stays t.kind z (token t.kind (at n) ∷ placed at z (ts ++ r)) inside.0
+    ∙ ap (λ p. token t.kind p ∷ placed at z (ts ++ r)) first
+    ∙ ap (λ m. token t.kind u.place ∷ m) (later ∙ placed_as z r ts us inside.1 f same)
+    ∙ ap (λ q. token q u.place ∷ us ++ z) k
+
+-- with nothing behind them
+pub placed_whole : (z ts us : List Token) → HaveNoEnd ts → kinds ts ≡ kinds us → placed (places_of 0 us) z ts ≡ us ++ z
+placed_whole z ts us inside e = subst (λ l. placed (places_of 0 us) z l ≡ us ++ z) (append-nil ts) (placed_as z [] ts us inside e (λ g. refl))
+
+pub phrases_spelled_again : PhrasesAreSpelledAgain
+phrases_spelled_again tree at ts us rest inside e x =
+    let end : List Token = token kind.End at ∷ [] in
+    let moved = tree_moved (places_of 1 us) rest x in
+    record {
+      other = moved.tree;
+      spelled = subst (λ l. SpellsBefore Level.phrase moved.tree l rest) (placed_as rest end ts us inside e (λ g. refl)) moved.spells;
+      same = moved.same;
+    }

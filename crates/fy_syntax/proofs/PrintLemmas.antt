@@ -17,8 +17,8 @@ use Rattle.fy_syntax.proofs.Fronts.{shorter}
 use Rattle.fy_syntax.proofs.KindTexts.{kind_text}
 use Rattle.fy_syntax.proofs.RangeLemmas.{tree_range}
 use Rattle.fy_syntax.proofs.WrittenLemmas.{tokens_text, tree_written}
-use Rattle.fy_syntax.proofs.PlaceLemmas.{places_of, placed_as, tree_moved}
-use Rattle.fy_syntax.proofs.LexedLemmas.{texts, lexed, all_spelled, pieces_of}
+use Rattle.fy_syntax.proofs.PlaceLemmas.{places_of, placed_whole, tree_moved}
+use Rattle.fy_syntax.proofs.LexedLemmas.{texts, lexed, all_spelled, spelled_inside, pieces_of}
 
 led_text : (names : List Bytes) (ts : List Token) → 32 ∷ tokens_text names ts ≡ led (texts names ts) ++ 32 ∷ []
 led_text names [] = refl
@@ -51,7 +51,7 @@ text_of_tokens names tree text (t ∷ ts) x p i r whole last e f =
     front_same text (joined (texts names (t ∷ ts))) last 32 (sym f ∙ e ∙ whole_text names tree t ts x) in
     let read = lexed names t ts spelled known in
     let end : Token = record { kind = kind.End; place = read.place } in
-    let moved = tree_moved (places_of read.us) (end ∷ []) x in
+    let moved = tree_moved (places_of 0 read.us) (end ∷ []) x in
     record {
       pieces = texts names (t ∷ ts);
       is = is;
@@ -65,7 +65,7 @@ text_of_tokens names tree text (t ∷ ts) x p i r whole last e f =
         read = refl;
       };
       other = moved.tree;
-      program = (read.place, subst (λ l. SpellsBefore Level.phrase moved.tree l (end ∷ [])) (placed_as (end ∷ []) (t ∷ ts) read.us read.same) moved.spells);
+      program = (read.place, subst (λ l. SpellsBefore Level.phrase moved.tree l (end ∷ [])) (placed_whole (end ∷ []) (t ∷ ts) read.us (spelled_inside names (t ∷ ts) spelled) read.same) moved.spells);
       same = moved.same;
     }
 

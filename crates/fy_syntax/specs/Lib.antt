@@ -9,4 +9,5 @@ pub mod Reader
 pub mod Print
 pub mod Ranges
 pub mod Places
+pub mod Again
 pub mod Printing

@@ -1,5 +1,6 @@
 //! Laws of the grammar.
 
+ghost use Rattle.fy_syntax.specs.Again.{PhrasesAreSpelledAgain};
 ghost use Rattle.fy_syntax.specs.NameLaws.{NamesAreOfTokens};
 ghost use Rattle.fy_syntax.specs.Spells.{IsUnambiguous};
 
@@ -12,4 +13,10 @@ pub fn grammar_is_unambiguous()
 /// holds of each name in the tree. It does nothing: its contract is the law.
 pub fn names_are_of_tokens()
     ensures { NamesAreOfTokens }
+{}
+
+/// The phrase of a program is spelled, but for places, by tokens of the same kinds, whatever stands behind
+/// them in place of the end. It does nothing: its contract is the law.
+pub fn phrases_are_spelled_again()
+    ensures { PhrasesAreSpelledAgain }
 {}
