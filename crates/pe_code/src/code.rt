@@ -24,6 +24,8 @@ pub enum PeInsn {
     Pass(u32, u32),
     /// Passes what the variable is bound to.
     PassVar(u32, u32),
+    /// Passes the datum.
+    PassData(Datum, u32),
     /// What a field is.
     Field(Name, u32),
     /// Selects a field of its part.
@@ -32,6 +34,8 @@ pub enum PeInsn {
     Let(u32, u32),
     /// Binds what the variable is bound to.
     LetVar(u32, u32),
+    /// Binds the datum.
+    LetData(Datum, u32),
     /// Binds the node, which is its own.
     Knot(u32, u32),
     /// A finished command.
@@ -63,6 +67,7 @@ impl PeInsn {
             PeInsn::Bind(body)
             | PeInsn::Let(_, body)
             | PeInsn::LetVar(_, body)
+            | PeInsn::LetData(_, body)
             | PeInsn::Knot(_, body)
             | PeInsn::New(_, body)
             | PeInsn::Escape(body)

@@ -34,10 +34,12 @@ fn put_insn(text: &mut Text, names: &Names, insn: &PeInsn) -> Result<(), OutOfMe
         PeInsn::Bind(body) => put_line(text, b"bind", &[*body]),
         PeInsn::Pass(node, x) => put_line(text, b"pass", &[*node, *x]),
         PeInsn::PassVar(variable, x) => put_line(text, b"passvar", &[*variable, *x]),
+        PeInsn::PassData(value, x) => put_data(text, b"passdata", *value, *x),
         PeInsn::Field(name, x) => put_worded(text, b"field", text_of(names, *name), &[*x]),
         PeInsn::Pick(name, x) => put_worded(text, b"pick", text_of(names, *name), &[*x]),
         PeInsn::Let(node, body) => put_line(text, b"let", &[*node, *body]),
         PeInsn::LetVar(variable, body) => put_line(text, b"letvar", &[*variable, *body]),
+        PeInsn::LetData(value, body) => put_data(text, b"letdata", *value, *body),
         PeInsn::Knot(node, body) => put_line(text, b"knot", &[*node, *body]),
         PeInsn::Done => put(text, b"done"),
         PeInsn::Seq(x, y) => put_line(text, b"seq", &[*x, *y]),
@@ -56,6 +58,22 @@ fn put_answer(text: &mut Text, value: Datum) -> Result<(), OutOfMemory>
     ensures { OnOk result (text.new ≡ text.old ++ (codes "answer " ++ datum_text value)) }
 {
     put(text, b"answer ")?;
+    put_datum(text, value)
+}
+
+// A keyword, the datum that is handed, and an address.
+fn put_data(text: &mut Text, keyword: &[u8], value: Datum, address: u32) -> Result<(), OutOfMemory>
+    ensures { OnOk result (text.new ≡ text.old ++ worded keyword.now (datum_text value) (address ∷ [])) }
+{
+    put(text, keyword)?;
+    put(text, b" ")?;
+    put_datum(text, value)?;
+    put_numbers(text, &[address])
+}
+
+fn put_datum(text: &mut Text, value: Datum) -> Result<(), OutOfMemory>
+    ensures { OnOk result (text.new ≡ text.old ++ datum_text value) }
+{
     match value {
         Datum::Int(number) => put(text, itoa::Buffer::new().format(number).as_bytes()),
         Datum::Bool(true) => put(text, b"true"),

@@ -96,6 +96,7 @@ fn has_sound_parts(code: &PeCode, depth: u32, insn: &PeInsn) -> bool
         PeInsn::Op1(_, x)
         | PeInsn::Pass(_, x)
         | PeInsn::PassVar(_, x)
+        | PeInsn::PassData(_, x)
         | PeInsn::Field(_, x)
         | PeInsn::Pick(_, x)
         | PeInsn::Loop(x)
@@ -113,6 +114,7 @@ fn has_sound_parts(code: &PeCode, depth: u32, insn: &PeInsn) -> bool
         | PeInsn::Bind(_)
         | PeInsn::Let(..)
         | PeInsn::LetVar(..)
+        | PeInsn::LetData(..)
         | PeInsn::Knot(..)
         | PeInsn::Done
         | PeInsn::Escape(_)

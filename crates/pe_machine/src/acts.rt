@@ -2,11 +2,11 @@
 
 ghost use Rattle.std.specs.Prelude.{◌≡◌, ℕ};
 ghost use Rattle.pe_code.specs.declared.code.PeCode.{PeCode};
-ghost use Rattle.pe_machine.specs.States.{PeState, source, to_thunk};
+ghost use Rattle.pe_machine.specs.States.{PeState, to_thunk};
 ghost use Rattle.pe_machine.specs.Step.{bound, executed, item_executed, pe_step, pushed};
 ghost use Rattle.pe_code.specs.Code.{item_at};
-ghost use Rattle.pe_machine.specs.Shown.{context_of, number_of, pointer_of};
-ghost use Rattle.pe_machine.specs.Names.{Frames, IsPlacedAct, IsPlacedContext, IsPlacedPointer, IsPlacedTurn};
+ghost use Rattle.pe_machine.specs.Shown.{context_of, number_of, pointer_of, thunk_of};
+ghost use Rattle.pe_machine.specs.Names.{Frames, IsPlacedAct, IsPlacedContext, IsPlacedPointer, IsPlacedThunk, IsPlacedTurn};
 ghost use Rattle.pe_machine.specs.Turns.{IsFair, act_move, frames_of, plan_move, state_of};
 
 use crate::answers::{complete, give_value, item_at, push};
@@ -39,12 +39,11 @@ fn go_in(context: Context, here: Pointer, address: u32) -> Act
     Act::Now(push(context, beside(here, address)))
 }
 
-// A node is bound in a frame, for a body.
-fn bind_node(depth: u32, node: u32, body: Pointer) -> Act
-    ensures moves { (code : PeCode) (s : PeState) → act_move code result s ≡ bound depth (to_thunk (source node (number_of body.frame))) body.address (number_of body.frame) s }
-    ensures placed { (frames : Frames) → IsPlacedPointer frames body → IsPlacedAct frames result }
+// A thunk is bound in a frame, for a body.
+fn bind(depth: u32, thunk: Thunk, body: Pointer) -> Act
+    ensures moves { (code : PeCode) (s : PeState) → act_move code result s ≡ bound depth (to_thunk (thunk_of thunk)) body.address (number_of body.frame) s }
+    ensures placed { (frames : Frames) → IsPlacedThunk frames thunk → IsPlacedPointer frames body → IsPlacedAct frames result }
 {
-    let thunk = Thunk::Source(node, body.frame);
     Act::Now(Turn::On(Change::Bind(depth, Binding::ToThunk(thunk), body)))
 }
 
@@ -63,11 +62,13 @@ fn act_of(insn: &PeInsn, depth: u32, at: Place, here: Pointer) -> Act
         PeInsn::Bind(y) => Act::Ask(Demand::Argument(depth, beside(here, *y))),
         PeInsn::Pass(node, y) => go_in(Context::Arg(Thunk::Source(*node, here.frame)), here, *y),
         PeInsn::PassVar(k, y) => Act::Pass(*k, beside(here, *y)),
+        PeInsn::PassData(v, y) => go_in(Context::Arg(Thunk::Literal(*v)), here, *y),
         PeInsn::Field(i, x) => Act::Ask(Demand::Selection(*i, beside(here, *x))),
         PeInsn::Pick(i, x) => go_in(Context::Pick(*i), here, *x),
-        PeInsn::Let(node, y) => bind_node(depth, *node, beside(here, *y)),
+        PeInsn::Let(node, y) => bind(depth, Thunk::Source(*node, here.frame), beside(here, *y)),
         PeInsn::LetVar(k, y) => Act::Let(depth, *k, beside(here, *y)),
-        PeInsn::Knot(node, y) => bind_node(depth, *node, beside(here, *y)),
+        PeInsn::LetData(v, y) => bind(depth, Thunk::Literal(*v), beside(here, *y)),
+        PeInsn::Knot(node, y) => bind(depth, Thunk::Source(*node, here.frame), beside(here, *y)),
         PeInsn::Done => Act::Now(complete()),
         PeInsn::Seq(x, y) => go_in(Context::Then(beside(here, *y)), here, *x),
         PeInsn::Assign(x, y) => go_in(Context::Assign(beside(here, *x)), here, *y),

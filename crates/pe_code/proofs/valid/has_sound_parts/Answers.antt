@@ -24,17 +24,20 @@ one_part c = elim c.in-Op1.is [
     | inl pass ↦ ap beside pass.1
     | inr b ↦ elim b [
       | inl pass_var ↦ ap beside pass_var.1
-      | inr d ↦ elim d [
-        | inl field ↦ ap beside field.1
-        | inr e ↦ elim e [
-          | inl pick ↦ ap beside pick.1
-          | inr f ↦ elim f [
-            | inl loop ↦ ap beside loop
-            | inr g ↦ elim g [
-              | inl new ↦ ap beside new.1
-              | inr h ↦ elim h [
-                | inl put ↦ ap beside put.1
-                | inr read ↦ ap beside read
+      | inr m ↦ elim m [
+        | inl pass_data ↦ ap beside pass_data.1
+        | inr d ↦ elim d [
+          | inl field ↦ ap beside field.1
+          | inr e ↦ elim e [
+            | inl pick ↦ ap beside pick.1
+            | inr f ↦ elim f [
+              | inl loop ↦ ap beside loop
+              | inr g ↦ elim g [
+                | inl new ↦ ap beside new.1
+                | inr h ↦ elim h [
+                  | inl put ↦ ap beside put.1
+                  | inr read ↦ ap beside read
+                ]
               ]
             ]
           ]

@@ -18,14 +18,20 @@ returns-in-Case-clause-placed c frames is = c.go_in-in-Case.ensures.placed frame
 pub returns-in-Pass-clause-placed : goal.returns-in-Pass-clause-placed
 returns-in-Pass-clause-placed c frames is = c.go_in-in-Pass.ensures.placed frames is is
 
+pub returns-in-PassData-clause-placed : goal.returns-in-PassData-clause-placed
+returns-in-PassData-clause-placed c frames is = c.go_in-in-PassData.ensures.placed frames tt is
+
 pub returns-in-Pick-clause-placed : goal.returns-in-Pick-clause-placed
 returns-in-Pick-clause-placed c frames is = c.go_in-in-Pick.ensures.placed frames tt is
 
 pub returns-in-Let-clause-placed : goal.returns-in-Let-clause-placed
-returns-in-Let-clause-placed c frames is = c.bind_node.ensures.placed frames (c.beside-in-Let.ensures.placed frames is)
+returns-in-Let-clause-placed c frames is = c.bind.ensures.placed frames is (c.beside-in-Let.ensures.placed frames is)
+
+pub returns-in-LetData-clause-placed : goal.returns-in-LetData-clause-placed
+returns-in-LetData-clause-placed c frames is = c.bind-in-LetData.ensures.placed frames tt (c.beside-in-LetData.ensures.placed frames is)
 
 pub returns-in-Knot-clause-placed : goal.returns-in-Knot-clause-placed
-returns-in-Knot-clause-placed c frames is = c.bind_node-in-Knot.ensures.placed frames (c.beside-in-Knot.ensures.placed frames is)
+returns-in-Knot-clause-placed c frames is = c.bind-in-Knot.ensures.placed frames is (c.beside-in-Knot.ensures.placed frames is)
 
 pub returns-in-Done-clause-placed : goal.returns-in-Done-clause-placed
 returns-in-Done-clause-placed c frames is = c.complete.ensures.placed frames
