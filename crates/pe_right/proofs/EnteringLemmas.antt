@@ -1,5 +1,5 @@
 -- A thunk is entered at a shape of its paths: code goes on, a datum is given, a cell gives its datum or takes another, and a jump goes to its context.
-use Rattle.std.proofs.Common.{ℕ, ◌≤◌, ◌≡◌, ◌⊎◌, Bool, cond, List, [], ◌∷◌, length, Option, Some, refl, sym, ap, ◌∙◌, subst, inl, inr, arith}
+use Rattle.std.proofs.Common.{ℕ, ◌+◌, ◌≤◌, ◌≡◌, ◌⊎◌, Bool, cond, List, [], ◌∷◌, length, Option, Some, refl, sym, ap, ◌∙◌, subst, inl, inr, arith}
 use Rattle.std.proofs.lemmas.Bool.{cases_Bool}
 use Rattle.fy_base.specs.declared.data.Place.{Place}
 use Rattle.fy_base.specs.declared.data.Datum.{Datum}
@@ -26,7 +26,9 @@ use Rattle.pe_right.proofs.Invariants.{Compiled, HoldsDatum, HasCell, marked, Th
 use Rattle.pe_right.proofs.Growing.{env-listed}
 use Rattle.pe_right.proofs.EntryLemmas.{entry-found, assignment-asked, value-asked}
 use Rattle.pe_right.proofs.ContextLemmas.{held-asked, contexts-taken, contexts-written, left_store, same_target, target_command, target_store, marked_behind}
-use Rattle.pe_right.proofs.Moves.{focus-step, rank-one, Moves, one_move, no_move}
+use Rattle.pe_right.proofs.ConstantLemmas.{constant-value}
+use Rattle.pe_right.proofs.Evaluating.{evaluated}
+use Rattle.pe_right.proofs.Moves.{Steps, focus-step, rank-one, MovesIn, goes_on, extra, one_move, no_move}
 
 holds-cell : (X : DataTy) (b : Binding) → HoldsDatum X b → IsCell b
 holds-cell X (to_thunk t) h = h
@@ -54,20 +56,20 @@ module _ (g : Compiled) where
   reads-under X n at P fs (k ∷ cs) [] c e t = absurd t
 
   cell-reads : (X : DataTy) (n : ℕ) (at : Place) (P : PlainPath) (s : PeState) (c : CopyState) → c.focus ≡ mark (marks.Cell n) at → P ≡ end (data_atom X) →
-      HasCell X n s.frames → Behind g s c P → Moves g 2 1 c (loaded (datum_of n s.frames) s)
+      HasCell X n s.frames → Behind g s c P → MovesIn g (extra g) 2 1 c (loaded (datum_of n s.frames) s)
   cell-reads X n at P s c f e h b =
       let x = cell-datum X n s.frames h in
       let step : copy_step c ≡ copy.goes (copy.focus_on (lit x.0 at) c) =
       focus-step c (mark (marks.Cell n) at) f ∙ reads-under X n at P s.frames s.contexts c.contexts c e b.0
       ∙ ap (λ (cells : List Cell). copy.loaded (value_of n cells) at c) b.1 ∙ ap (λ (o : Option Datum). copy.loaded o at c) x.3 in
-      subst (λ (o : Option Datum). Moves g 2 1 c (loaded o s)) (sym x.2) (one_move g step (omega arith) (P, (at, refl, e ∙ ap end (sym x.1)), b))
+      subst (λ (o : Option Datum). MovesIn g (extra g) 2 1 c (loaded o s)) (sym x.2) (one_move g step (omega arith) (P, (at, refl, e ∙ ap end (sym x.1)), b))
 
   -- ---- a cell is written
 
   assigns : (X : DataTy) (n : ℕ) (at : Place) (P Q : PlainPath) (k : PeContext) (x : CopyContext) (count : ℕ) (cs : List Held) (xs : List (Pushed CopyContext)) (s : PeState) (c : CopyState) →
       copy_step c ≡ copy.cell_meets n at x xs c → P ≡ end (acceptor_atom X) → HasCell X n s.frames → count ≤ length s.frames →
       marks_in s.frames ≡ marked k (marks_in (oldest count s.frames)) → ContextTakes g (oldest count s.frames) k x P Q → ContextsTake g (oldest count s.frames) cs xs Q →
-      c.store ≡ cells_in s.frames → Below s.next s.frames → c.next ≡ s.next → c.load ≡ s.load → Moves g 2 1 c (assignment_meets n k (record s { contexts = cs }))
+      c.store ≡ cells_in s.frames → Below s.next s.frames → c.next ≡ s.next → c.load ≡ s.load → MovesIn g (extra g) 2 1 c (assignment_meets n k (record s { contexts = cs }))
   assigns X n at P Q k x count cs xs s c step e h le m (acceptor {v = v} D f) t st lo nx ld =
       let same : D ≡ X = acceptor_atom-same D X (end-same refl e) in
       let typed : datum_atom v ≡ data_atom X = f ∙ ap (λ (Y : DataTy). data_atom Y) same in
@@ -75,7 +77,7 @@ module _ (g : Compiled) where
       let to : copy_step c ≡ copy.goes (record c { focus = skip at; contexts = xs; store = with_value n v c.store }) =
       step ∙ ap (λ (cells : List Cell). copy.assigned (value_of n cells) n v at (record c { contexts = xs })) st
       ∙ ap (λ (o : Option Datum). copy.assigned o n v at (record c { contexts = xs })) y.3 in
-      subst (λ (o : Option Datum). Moves g 2 1 c (assigned o n v (record s { contexts = cs }))) (sym y.2)
+      subst (λ (o : Option Datum). MovesIn g (extra g) 2 1 c (assigned o n v (record s { contexts = cs }))) (sym y.2)
       (one_move g to (omega arith) (
         end atoms.Comm,
         (at, refl, refl),
@@ -91,7 +93,7 @@ module _ (g : Compiled) where
 
   writes-under : (X : DataTy) (n : ℕ) (at : Place) (P : PlainPath) (cs : List Held) (xs : List (Pushed CopyContext)) (s : PeState) (c : CopyState) →
       copy_step c ≡ copy.cell_under n at xs c → P ≡ end (acceptor_atom X) → HasCell X n s.frames → ContextsTake g s.frames cs xs P →
-      c.store ≡ cells_in s.frames → Below s.next s.frames → c.next ≡ s.next → c.load ≡ s.load → Moves g 2 1 c (taken (assignment_meets n) cs s)
+      c.store ≡ cells_in s.frames → Below s.next s.frames → c.next ≡ s.next → c.load ≡ s.load → MovesIn g (extra g) 2 1 c (taken (assignment_meets n) cs s)
   writes-under X n at P [] [] s c step e h t st lo nx ld = let f = sym (assignment_asked X e) ∙ run_asked t.0 in absurd cc
   writes-under X n at P (k ∷ cs) (x ∷ xs) s c step e h t st lo nx ld =
       assigns X n at P t.3.0 k.context x.context k.frames cs xs s c step e h t.1 t.2 t.3.1 t.3.2 st lo nx ld
@@ -100,12 +102,12 @@ module _ (g : Compiled) where
 
   -- a cell is written where an assignment is asked for, and read elsewhere
   cell-followed : (X : DataTy) (m n : ℕ) (at : Place) (P : PlainPath) (s : PeState) (c : CopyState) → shape_at g.table n ≡ Some (erase P) → c.focus ≡ mark (marks.Cell m) at →
-      HasCell X m s.frames → (P ≡ end (data_atom X)) ⊎ (P ≡ end (acceptor_atom X)) → Behind g s c P → Moves g 2 1 c (cell_entered (is_assignment g.code.assignment n) m s)
+      HasCell X m s.frames → (P ≡ end (data_atom X)) ⊎ (P ≡ end (acceptor_atom X)) → Behind g s c P → MovesIn g (extra g) 2 1 c (cell_entered (is_assignment g.code.assignment n) m s)
   cell-followed X m n at P s c sh f h (inl e) b =
-      subst (λ (a : Bool). Moves g 2 1 c (cell_entered a m s)) (sym (value-asked g n (sh ∙ ap (λ (R : PlainPath). Some (erase R)) e ∙ ap Some (data-erase X))))
+      subst (λ (a : Bool). MovesIn g (extra g) 2 1 c (cell_entered a m s)) (sym (value-asked g n (sh ∙ ap (λ (R : PlainPath). Some (erase R)) e ∙ ap Some (data-erase X))))
       (cell-reads X m at P s c f e h b)
   cell-followed X m n at P s c sh f h (inr e) b =
-      subst (λ (a : Bool). Moves g 2 1 c (cell_entered a m s)) (sym (assignment-asked g n (sh ∙ ap (λ (R : PlainPath). Some (erase R)) e ∙ ap Some (acceptor-erase X))))
+      subst (λ (a : Bool). MovesIn g (extra g) 2 1 c (cell_entered a m s)) (sym (assignment-asked g n (sh ∙ ap (λ (R : PlainPath). Some (erase R)) e ∙ ap Some (acceptor-erase X))))
       (writes-under X m at P s.contexts c.contexts s c (focus-step c (mark (marks.Cell m) at) f) e h b.0 b.1 b.2 b.3 b.4)
 
   -- ---- jumps
@@ -159,23 +161,27 @@ module _ (g : Compiled) where
   jump-followed n at fs P [] (x ∷ xs) s c same m t st lo nx = absurd t
   jump-followed n at fs P (k ∷ cs) [] s c same m t st lo nx = absurd t
 
-  jump-moves : (n : ℕ) (at : Place) (s : PeState) (c : CopyState) → c.focus ≡ mark (marks.Jump n) at → Jumps n at s.contexts s c.contexts c → Moves g 2 1 c (jumped n s.contexts s)
+  jump-moves : (n : ℕ) (at : Place) (s : PeState) (c : CopyState) → c.focus ≡ mark (marks.Jump n) at → Jumps n at s.contexts s c.contexts c → MovesIn g (extra g) 2 1 c (jumped n s.contexts s)
   jump-moves n at s c f j =
-      subst (λ (m : PeMove). Moves g 2 1 c m) (sym j.2) (one_move g (focus-step c (mark (marks.Jump n) at) f ∙ j.3) (omega arith) j.4)
+      subst (λ (m : PeMove). MovesIn g (extra g) 2 1 c m) (sym j.2) (one_move g (focus-step c (mark (marks.Jump n) at) f ∙ j.3) (omega arith) j.4)
 
   -- ---- a thunk
 
   pub entered-followed : (t : Thunk) (q : Tree) (D : PlainPaths) (n : ℕ) (P : PlainPath) (s : PeState) (c : CopyState) → shape_at g.table n ≡ Some (erase P) → HasBelow D P →
-      ThunkAnswers g s.frames t q D → c.focus ≡ q → Behind g s c P → Moves g 2 1 c (entered g.code n t s)
+      ThunkAnswers g s.frames t q D → c.focus ≡ q → Behind g s c P → MovesIn g (extra g) 2 1 c (entered g.code n t s)
   entered-followed (source k r) q D n P s c sh some th f b =
       let a = th.6 P some in
       let x = entry-found g k n (erase P) (has-pair (HasPairOf g.table) th.0 th.2 k P a) sh in
-      subst (λ (y : Bool). Moves g 2 1 c (if_listed y (at_entry (entry_of g.code k n) r s))) (sym (env-listed g s.frames r th.1 th.2 th.5))
-      (subst (λ (o : Option ℕ). Moves g 2 1 c (at_entry o r s)) (sym x.1)
+      subst (λ (y : Bool). MovesIn g (extra g) 2 1 c (if_listed y (at_entry (entry_of g.code k n) r s))) (sym (env-listed g s.frames r th.1 th.2 th.5))
+      (subst (λ (o : Option ℕ). MovesIn g (extra g) 2 1 c (at_entry o r s)) (sym x.1)
       (no_move g 1 (omega arith) (omega arith) (P, ((k, th.0, th.1, th.2, th.3, a, (n, sh, x.1), th.5, f ∙ th.7), rank-one th.0 th.4), b)))
-  entered-followed (datum v) q D n P s c sh some th f b = no_move g 0 (omega arith) (omega arith) (P, (th.0, f ∙ th.1, th.2 P some), b)
+  entered-followed (datum v) q D n P s c sh some th f b =
+      let x = evaluated q v (constant-value q v th.0) c in
+      let steps = subst (λ (d : CopyState). Steps x.0 d (copy.focus_on (lit v x.1) c)) (ap (λ (t : Tree). copy.focus_on t c) (sym f)) x.3 in
+      let l : x.0 ≤ 1 + extra g = (let h = th.1 in omega (arith, h, x.2)) in
+      goes_on 0 steps l (λ none. omega arith) (omega arith) (P, (x.1, refl, th.2 P some), b)
   entered-followed (cell_of m) q D n P s c sh some th f b = cell-followed th.1 m n th.0 P s c sh (f ∙ th.2) th.3 (cell-paths th.1 P (th.4 P some)) b
   entered-followed (jump_of m) q D n P s c sh some th f b =
-      subst (λ (y : Bool). Moves g 2 1 c (if_listed y (jumped m s.contexts s))) (sym (HasFrame-listed (λ b. IsEscape b) m s.frames th.2))
+      subst (λ (y : Bool). MovesIn g (extra g) 2 1 c (if_listed y (jumped m s.contexts s))) (sym (HasFrame-listed (λ b. IsEscape b) m s.frames th.2))
       (jump-moves m th.0 s c (f ∙ th.1)
       (jump-followed m th.0 s.frames P s.contexts c.contexts s c (λ k le. refl) (HasFrame-escape m s.frames th.2) b.0 b.1 b.2 b.3))

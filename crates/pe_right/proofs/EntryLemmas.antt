@@ -1,5 +1,6 @@
 -- What the code has for a node: its entries, and the instruction of its form.
 use Rattle.std.proofs.Common.{ℕ, ◌+◌, ◌≡◌, Bool, true, false, nat_eq, List, Option, Some, None, refl, sym, ap, ◌∙◌, ◌⊎◌, inl, inr, eq-eqb, eqb-true}
+use Rattle.fy_base.specs.declared.data.Datum.{Datum}
 use Rattle.fy_phrase.specs.declared.shapes.ShapeTable.{ShapeTable}
 use Rattle.fy_phrase.specs.declared.shapes.Pair.{Pair}
 use Rattle.fy_phrase.specs.Tree.{Tree, var, lit, unary, binary, cond as conditional, case, lam, app, field, sel, merge, let_in, rec, skip, seq, assign, while_do, forever, new, escape, accept, put, read, mark}
@@ -11,12 +12,12 @@ use Rattle.pe_code.specs.declared.code.PeInsn.TheVariants as insn
 use Rattle.pe_code.specs.declared.code.PeCode.{PeCode}
 use Rattle.pe_code.specs.Code.{entry_of}
 use Rattle.pe_machine.specs.Step.{is_assignment}
-use Rattle.pe_right.specs.Right.{is_variable, Enters, EachEnters, IsInsnOf, of_var, of_lit, of_unary, of_binary, of_cond, of_case, of_lam, of_app, of_app_variable, of_field, of_sel, of_let, of_let_variable, of_rec, of_skip, of_seq, of_assign, of_while, of_forever, of_new, of_escape, of_accept, of_put, of_read}
+use Rattle.pe_right.specs.Right.{is_variable, Enters, EachEnters, IsInsnOf, of_var, of_lit, of_unary, of_binary, of_cond, of_case, of_lam, of_app, of_app_variable, of_app_datum, of_field, of_sel, of_let, of_let_variable, of_let_datum, of_rec, of_skip, of_seq, of_assign, of_while, of_forever, of_new, of_escape, of_accept, of_put, of_read}
 use Rattle.pe_right.proofs.Invariants.{Compiled}
 
 -- ---- the instruction of a form
 
-module _ (table : ShapeTable) (code : PeCode) where
+module _ (handed : Tree → Option Datum) (table : ShapeTable) (code : PeCode) where
   -- what the instruction of the form that is node k and is demanded at the shape is
   abbrev pub InsnIs : ℕ → Tree → PlainShape → PeInsn → Type 0
   InsnIs k (var j at) s i = (n : ℕ) × (shape_at table n ≡ Some s) × (i ≡ insn.UseVar j n)
@@ -32,13 +33,13 @@ module _ (table : ShapeTable) (code : PeCode) where
   InsnIs k (lam d As b at) s i = (y : ℕ) × (t : PlainShape) × (s ≡ a_call t) × Enters table code (k + 1) t y × (i ≡ insn.Bind y)
   InsnIs k (app p q at) s i =
       (y : ℕ) × Enters table code (k + 1) (a_call s) y
-      × (((is_variable q ≡ None) × (i ≡ insn.Pass (k + 1 + nodes p) y)) ⊎ ((j : ℕ) × (is_variable q ≡ Some j) × (i ≡ insn.PassVar j y)))
+      × (((is_variable q ≡ None) × (i ≡ insn.Pass (k + 1 + nodes p) y)) ⊎ (((j : ℕ) × (is_variable q ≡ Some j) × (i ≡ insn.PassVar j y)) ⊎ ((v : Datum) × (handed q ≡ Some v) × (i ≡ insn.PassData v y))))
   InsnIs k (field f p at) s i = (x : ℕ) × (t : PlainShape) × (s ≡ a_field f t) × Enters table code (k + 1) t x × (i ≡ insn.Field f x)
   InsnIs k (sel p f at) s i = (x : ℕ) × Enters table code (k + 1) (a_field f s) x × (i ≡ insn.Pick f x)
   InsnIs k (merge p q at) s i = ⊥
   InsnIs k (let_in d p b at) s i =
       (y : ℕ) × Enters table code (k + 1 + nodes p) s y
-      × (((is_variable p ≡ None) × (i ≡ insn.Let (k + 1) y)) ⊎ ((j : ℕ) × (is_variable p ≡ Some j) × (i ≡ insn.LetVar j y)))
+      × (((is_variable p ≡ None) × (i ≡ insn.Let (k + 1) y)) ⊎ (((j : ℕ) × (is_variable p ≡ Some j) × (i ≡ insn.LetVar j y)) ⊎ ((v : Datum) × (handed p ≡ Some v) × (i ≡ insn.LetData v y))))
   InsnIs k (rec d T b at) s i = (y : ℕ) × Enters table code (k + 1) s y × (i ≡ insn.Knot k y)
   InsnIs k (skip at) s i = i ≡ insn.Done
   InsnIs k (seq p q at) s i =
@@ -56,7 +57,7 @@ module _ (table : ShapeTable) (code : PeCode) where
   InsnIs k (read p at) s i = (x : ℕ) × Enters table code (k + 1) (at_end an_assignment) x × (i ≡ insn.Read x)
   InsnIs k (mark m at) s i = ⊥
 
-  pub insn-is : {k : ℕ} {q : Tree} {s : PlainShape} {i : PeInsn} → IsInsnOf table code k q s i → InsnIs k q s i
+  pub insn-is : {k : ℕ} {q : Tree} {s : PlainShape} {i : PeInsn} → IsInsnOf handed table code k q s i → InsnIs k q s i
   insn-is (of_var {n = n} e) = (n, e, refl)
   insn-is of_lit = refl
   insn-is (of_unary {x = x} a) = (x, a, refl)
@@ -64,12 +65,14 @@ module _ (table : ShapeTable) (code : PeCode) where
   insn-is (of_cond {x = x} {y = y} {z = z} a b c) = (x, y, z, a, b, c, refl)
   insn-is (of_case {x = x} {ys = ys} a each) = (x, ys, a, each, refl)
   insn-is (of_lam {y = y} {s = s} a) = (y, s, refl, a, refl)
-  insn-is (of_app {y = y} e a) = (y, a, inl (e, refl))
-  insn-is (of_app_variable {j = j} {y = y} e a) = (y, a, inr (j, e, refl))
+  insn-is (of_app {y = y} e h a) = (y, a, inl (e, refl))
+  insn-is (of_app_variable {j = j} {y = y} e a) = (y, a, inr (inl (j, e, refl)))
+  insn-is (of_app_datum {y = y} {v = v} h a) = (y, a, inr (inr (v, h, refl)))
   insn-is (of_field {x = x} {s = s} a) = (x, s, refl, a, refl)
   insn-is (of_sel {x = x} a) = (x, a, refl)
-  insn-is (of_let {y = y} e a) = (y, a, inl (e, refl))
-  insn-is (of_let_variable {j = j} {y = y} e a) = (y, a, inr (j, e, refl))
+  insn-is (of_let {y = y} e h a) = (y, a, inl (e, refl))
+  insn-is (of_let_variable {j = j} {y = y} e a) = (y, a, inr (inl (j, e, refl)))
+  insn-is (of_let_datum {y = y} {v = v} h a) = (y, a, inr (inr (v, h, refl)))
   insn-is (of_rec {y = y} a) = (y, a, refl)
   insn-is of_skip = refl
   insn-is (of_seq {x = x} {y = y} a b) = (x, y, a, b, refl)

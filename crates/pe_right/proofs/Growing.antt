@@ -12,6 +12,7 @@ use Rattle.fy_derive.proofs.PathTyping.{paths_at}
 use Rattle.pe_code.specs.Code.{picked_from}
 use Rattle.pe_machine.specs.States.{Pointer, Thunk, source, datum, cell_of, jump_of, Binding, to_thunk, to_cell, to_escape, Frame, PeContext, oldest, is_named, is_listed, from_frame, frame_outside, with_datum, with_cell, handed_on}
 use Rattle.pe_right.specs.Closing.{phrase_at}
+use Rattle.pe_right.proofs.ConstantLemmas.{constant-value, value-shut}
 use Rattle.pe_right.proofs.ClosingLemmas.{Shut, AllShut, shut-closed_by}
 use Rattle.pe_right.proofs.FrameLemmas.{Below, along_cut, HasFrame-newer, IsEscape, IsEscape-with_datum, with_cell-newer, with_cell-here}
 use Rattle.pe_right.proofs.Invariants.{Compiled, Above, HoldsDatum, HasCell, HasEscape, FramesAnswer, ThunkAnswers, BindingAnswers, CodeAnswers, BodyAnswers, EachCodeAnswers, ContextTakes, unary_operand, left_operand, right_operand, condition, index, procedure, selected, first_command, assigned_value, acceptor, loop_test, loop_body, endless_body, first_value, cell_body, put_datum, escape_body}
@@ -156,7 +157,7 @@ module _ (g : Compiled) where
   thunk-shut : (fs : List Frame) → ((r : Option ℕ) (qs : List Tree) (G : List PlainPaths) → FramesAnswer g fs r qs G → AllShut qs) →
       (t : Thunk) (q : Tree) (D : PlainPaths) → ThunkAnswers g fs t q D → Shut q
   thunk-shut fs ih (source k r) q D h = subst Shut (sym h.7) (shut-closed_by h.0 h.1 (ih r h.1 h.2 h.5))
-  thunk-shut fs ih (datum v) q D h = subst Shut (sym h.1) (λ n r. refl)
+  thunk-shut fs ih (datum v) q D h = value-shut q v (constant-value q v h.0)
   thunk-shut fs ih (cell_of n) q D h = subst Shut (sym h.2) (λ n r. refl)
   thunk-shut fs ih (jump_of n) q D h = subst Shut (sym h.1) (λ n r. refl)
 
@@ -220,6 +221,6 @@ module _ (g : Compiled) where
   -- paths that are each above one
   pub thunk-above : (fs : List Frame) (t : Thunk) (q : Tree) (D E : PlainPaths) → Above E (λ P. HasBelow D P) → ThunkAnswers g fs t q D → ThunkAnswers g fs t q E
   thunk-above fs (source k r) q D E up h = (h.0, h.1, h.2, h.3, h.4, h.5, λ P some. h.6 P (up P some), h.7)
-  thunk-above fs (datum v) q D E up h = (h.0, h.1, λ P some. h.2 P (up P some))
+  thunk-above fs (datum v) q D E up h = (h.0, h.1, (λ P some. h.2 P (up P some)), h.3)
   thunk-above fs (cell_of n) q D E up h = (h.0, h.1, h.2, h.3, λ P some. h.4 P (up P some))
   thunk-above fs (jump_of n) q D E up h = (h.0, h.1, h.2, λ P some. h.3 P (up P some))

@@ -1,6 +1,7 @@
 -- An instruction is executed: what the code stands for takes as many steps as merges lie above the form, and one more.
 use Rattle.std.proofs.Common.{ℕ, suc, ◌+◌, ◌<◌, ◌≤◌, ◌≡◌, ◌⊎◌, List, ◌∷◌, length, Option, Some, None, refl, sym, ap, ◌∙◌, subst, inl, inr, arith}
 use Rattle.fy_base.specs.declared.data.Place.{Place}
+use Rattle.fy_base.specs.declared.data.Datum.{Datum}
 use Rattle.fy_types.specs.declared.types.Atom.TheVariants as atoms
 use Rattle.fy_types.specs.Paths.{PlainPath, PlainPaths, end, call, pick, paths}
 use Rattle.fy_types.specs.PathOrder.{HasBelow, here, there}
@@ -20,7 +21,7 @@ use Rattle.pe_code.specs.declared.code.PeInsn.{PeInsn}
 use Rattle.pe_code.specs.declared.code.PeInsn.TheVariants as insn
 use Rattle.pe_code.specs.declared.code.PeItem.{PeItem}
 use Rattle.pe_code.specs.Code.{item_at, picked_from}
-use Rattle.pe_machine.specs.States.{Pointer, source, to_thunk, to_escape, Frame, PeContext, PeState, frame_outside, handed_on}
+use Rattle.pe_machine.specs.States.{Pointer, source, datum, to_thunk, to_escape, Frame, PeContext, PeState, frame_outside, handed_on}
 use Rattle.pe_machine.specs.Step.{push, pushed, bound, bind_meets, field_meets, accept_meets, with_variable, entered, executed, item_executed}
 use Rattle.pe_right.specs.Closing.{phrase_at, closed_by, all_closed_by}
 use Rattle.pe_right.specs.Right.{IsItemOf, IsRightAt, with_depth, IsNodeAmongUnder, itself, in_first, in_later, is_variable, Enters, EachEnters, no_parts, and_part}
@@ -29,11 +30,13 @@ use Rattle.pe_right.proofs.ClosingLemmas.{closed_with-more, closed_by-var, kind-
 use Rattle.pe_right.proofs.FrameLemmas.{Below, oldest-itself, marks_in}
 use Rattle.pe_right.proofs.AnswerLemmas.{erase-below, run-up, data-erase, acceptor-erase, operand-erase, put-erase, run-erase, in_scope, answers-above, merge-left, merge-right, begins-shape}
 use Rattle.pe_right.proofs.Invariants.{Compiled, Above, marked, rank_of, Answered, IsNode, FramesAnswer, ThunkAnswers, CodeAnswers, EachCodeAnswers, ContextTakes, unary_operand, left_operand, condition, index, procedure, selected, first_command, assigned_value, acceptor, loop_test, endless_body, first_value, put_datum, escape_body, Behind}
-use Rattle.pe_right.proofs.NodeLemmas.{part, body}
+use Rattle.pe_right.proofs.ConstantLemmas.{constant-value, value-closed, value-path}
+use Rattle.pe_right.proofs.Merges.{merges, value-merges}
+use Rattle.pe_right.proofs.NodeLemmas.{constant-spare, part, body}
 use Rattle.pe_right.proofs.EntryLemmas.{insn-is}
 use Rattle.pe_right.proofs.Growing.{env-shut, variable-found, thunk-above}
 use Rattle.pe_right.proofs.ContextLemmas.{demanded-left, demanded-right, contexts-pushed}
-use Rattle.pe_right.proofs.Moves.{focus-step, no_step, rank-two, Moves, takes_byte, one_move, no_move, earlier, moves-weaker, pushed-simulates, bound-simulates}
+use Rattle.pe_right.proofs.Moves.{focus-step, no_step, rank-two, MovesIn, extra, takes_byte, one_move, no_move, earlier, moves-weaker, pushed-simulates, bound-simulates}
 use Rattle.pe_right.proofs.TakingLemmas.{call-apart, pick-apart, acceptor-apart, taken-followed, lam-meets, field-meets, accept-meets}
 use Rattle.pe_right.proofs.EnteringLemmas.{entered-followed}
 
@@ -60,18 +63,18 @@ module _ (g : Compiled) where
 
   module _ (s : PeState) (at_here : Pointer) (qs : List Tree) (G : List PlainPaths) (env : FramesAnswer g s.frames at_here.frame qs G) where
     abbrev pub At : ℕ → ℕ → CopyState → Type 0
-    At r b c = Moves g r b c (item_executed g.code (item_at g.code at_here.address) at_here s)
+    At r b c = MovesIn g (extra g) r b c (item_executed g.code (item_at g.code at_here.address) at_here s)
 
     abbrev pub Here : ℕ → Pointer
     Here a = record at_here { address = a }
 
     executes : {r b : ℕ} {c : CopyState} (item : PeItem) (i : PeInsn) (d : ℕ) (at : Place) → item_at g.code at_here.address ≡ Some item → item.insn ≡ i → item.depth ≡ d → item.place ≡ at →
-        Moves g r b c (executed g.code i d at at_here s) → At r b c
+        MovesIn g (extra g) r b c (executed g.code i d at at_here s) → At r b c
     executes {r = r} {b = b} {c = c} item i d at e f h l m =
-        subst (λ (o : Option PeItem). Moves g r b c (item_executed g.code o at_here s)) (sym e)
-        (subst (λ (j : PeInsn). Moves g r b c (executed g.code j item.depth item.place at_here s)) (sym f)
-        (subst (λ (n : ℕ). Moves g r b c (executed g.code i n item.place at_here s)) (sym h)
-        (subst (λ (p : Place). Moves g r b c (executed g.code i d p at_here s)) (sym l) m)))
+        subst (λ (o : Option PeItem). MovesIn g (extra g) r b c (item_executed g.code o at_here s)) (sym e)
+        (subst (λ (j : PeInsn). MovesIn g (extra g) r b c (executed g.code j item.depth item.place at_here s)) (sym f)
+        (subst (λ (n : ℕ). MovesIn g (extra g) r b c (executed g.code i n item.place at_here s)) (sym h)
+        (subst (λ (p : Place). MovesIn g (extra g) r b c (executed g.code i d p at_here s)) (sym l) m)))
 
     -- a part that is entered at the shape t
     code-as : (a j : ℕ) (q : Tree) (P : PlainPath) (t : PlainShape) → erase P ≡ t → IsNode g (length G) j q → Answered g G j q P → Enters g.table g.code j t a →
@@ -79,7 +82,7 @@ module _ (g : Compiled) where
     code-as a j q P t e n h en = (j, q, qs, G, n, h, subst (λ (u : PlainShape). Enters g.table g.code j u a) (sym e) en, env, refl)
 
     starts : {r b : ℕ} (c : CopyState) (a : ℕ) (q : Tree) (P Q : PlainPath) (k : PeContext) (x : CopyContext) → 1 ≤ b → marks_in s.frames ≡ marked k (marks_in s.frames) →
-        copy_step c ≡ copy.pushed x q c → CodeAnswers g s.frames (Here a) q P → ContextTakes g s.frames k x P Q → Behind g s c Q → Moves g r b c (pushed k (Here a) s)
+        copy_step c ≡ copy.pushed x q c → CodeAnswers g s.frames (Here a) q P → ContextTakes g s.frames k x P Q → Behind g s c Q → MovesIn g (extra g) r b c (pushed k (Here a) s)
     starts c a q P Q k x l m e code h w = one_move g e l (pushed-simulates g s c P Q k x (Here a) q m code h w)
 
     -- what a variable is bound to, in place of a thunk of its own
@@ -101,6 +104,15 @@ module _ (g : Compiled) where
         ThunkAnswers g s.frames (source m at_here.frame) (closed_by 0 qs q) D
     own-thunk q m D e n each = (q, qs, G, n, e, env, λ R some. answers-above (HasPairOf g.table) q G m some each, refl)
 
+    -- a constant's datum
+    datum-thunk : (q : Tree) (v : Datum) (m : ℕ) (D : PlainPaths) → g.handed q ≡ Some v → IsNode g (length G) m q → EachPath (λ R. Answered g G m q R) D →
+        ThunkAnswers g s.frames (datum v) (closed_by 0 qs q) D
+    datum-thunk q v m D e n each =
+        let is = g.constants q v e in
+        let x = constant-value q v is in
+        subst (λ (p : Tree). ThunkAnswers g s.frames (datum v) p D) (sym (value-closed q v 0 qs x))
+        (is, constant-spare n.stands (value-merges q v x), (λ R some. value-path (HasPairOf g.table) q v G m R x (answers-above (HasPairOf g.table) q G m some each)), inr e)
+
     -- the parts that an index picks from
     each-code : (j : ℕ) (ps : Trees) (t : PlainShape) (ys : List ℕ) (P : PlainPath) → EachEnters g.table g.code j ps t ys → erase P ≡ t →
         ((i : ℕ) (q : Tree) → IsNodeAmongUnder j (with_depth (length G) ps) (length G) i q → IsClosedUnder (length G) q → HasDepthsUnder (length G) q → IsNode g (length G) i q) →
@@ -112,44 +124,56 @@ module _ (g : Compiled) where
     )
 
     app-followed : (p q : Tree) (at : Place) (k y : ℕ) (i : PeInsn) (d b : ℕ) (D : PlainPaths) (P : PlainPath) (c : CopyState) → IsNode g (length G) k (app p q at) →
-        ((is_variable q ≡ None) × (i ≡ insn.Pass (k + 1 + nodes p) y)) ⊎ ((j : ℕ) × (is_variable q ≡ Some j) × (i ≡ insn.PassVar j y)) →
+        ((is_variable q ≡ None) × (i ≡ insn.Pass (k + 1 + nodes p) y)) ⊎ (((j : ℕ) × (is_variable q ≡ Some j) × (i ≡ insn.PassVar j y)) ⊎ ((v : Datum) × (g.handed q ≡ Some v) × (i ≡ insn.PassData v y))) →
         Answered g G (k + 1) p (call D P) → EachPath (λ R. Answered g G (k + 1 + nodes p) q R) D → Enters g.table g.code (k + 1) (a_call (erase P)) y →
-        c.focus ≡ closed_by 0 qs (app p q at) → Behind g s c P → 1 ≤ b → Moves g 0 b c (executed g.code i d at at_here s)
+        c.focus ≡ closed_by 0 qs (app p q at) → Behind g s c P → 1 ≤ b → MovesIn g (extra g) 0 b c (executed g.code i d at at_here s)
     app-followed p q at k y i d b D P c n (inl v) a each en f w l =
-        subst (λ (j : PeInsn). Moves g 0 b c (executed g.code j d at at_here s)) (sym v.1)
+        subst (λ (j : PeInsn). MovesIn g (extra g) 0 b c (executed g.code j d at at_here s)) (sym v.1)
         (starts c y (closed_by 0 qs p) (call D P) P (arg_c (source (k + 1 + nodes p) at_here.frame)) (arg_c (closed_by 0 qs q)) l refl
         (focus-step c (app (closed_by 0 qs p) (closed_by 0 qs q) at) f)
         (code-as y (k + 1) p (call D P) (a_call (erase P)) refl (part g n (in_first itself) n.closed.0 n.depths.0) a en)
         (procedure (own-thunk q (k + 1 + nodes p) D v.0 (part g n (in_later (in_first itself)) n.closed.1 n.depths.1) each)) w)
-    app-followed p q at k y i d b D P c n (inr v) a each en f w l =
+    app-followed p q at k y i d b D P c n (inr (inl v)) a each en f w l =
         let x = variable-thunk q v.0 (k + 1 + nodes p) D v.1 n.closed.1 w.2 (λ R some. answers-above (HasPairOf g.table) q G (k + 1 + nodes p) some each) in
-        subst (λ (j : PeInsn). Moves g 0 b c (executed g.code j d at at_here s)) (sym v.2)
-        (subst (λ (o : Option Frame). Moves g 0 b c (with_variable o (λ t. pushed (arg_c t) (Here y) s))) (sym x.1)
+        subst (λ (j : PeInsn). MovesIn g (extra g) 0 b c (executed g.code j d at at_here s)) (sym v.2)
+        (subst (λ (o : Option Frame). MovesIn g (extra g) 0 b c (with_variable o (λ t. pushed (arg_c t) (Here y) s))) (sym x.1)
         (starts c y (closed_by 0 qs p) (call D P) P (arg_c (handed_on x.0.number x.0.binding)) (arg_c (closed_by 0 qs q)) l refl
         (focus-step c (app (closed_by 0 qs p) (closed_by 0 qs q) at) f)
         (code-as y (k + 1) p (call D P) (a_call (erase P)) refl (part g n (in_first itself) n.closed.0 n.depths.0) a en) (procedure x.2) w))
+    app-followed p q at k y i d b D P c n (inr (inr v)) a each en f w l =
+        subst (λ (j : PeInsn). MovesIn g (extra g) 0 b c (executed g.code j d at at_here s)) (sym v.2)
+        (starts c y (closed_by 0 qs p) (call D P) P (arg_c (datum v.0)) (arg_c (closed_by 0 qs q)) l refl
+        (focus-step c (app (closed_by 0 qs p) (closed_by 0 qs q) at) f)
+        (code-as y (k + 1) p (call D P) (a_call (erase P)) refl (part g n (in_first itself) n.closed.0 n.depths.0) a en)
+        (procedure (datum-thunk q v.0 (k + 1 + nodes p) D v.1 (part g n (in_later (in_first itself)) n.closed.1 n.depths.1) each)) w)
 
     let-followed : (d : ℕ) (p r : Tree) (at : Place) (k y : ℕ) (i : PeInsn) (b : ℕ) (D : PlainPaths) (P : PlainPath) (c : CopyState) → IsNode g (length G) k (let_in d p r at) →
-        ((is_variable p ≡ None) × (i ≡ insn.Let (k + 1) y)) ⊎ ((j : ℕ) × (is_variable p ≡ Some j) × (i ≡ insn.LetVar j y)) →
+        ((is_variable p ≡ None) × (i ≡ insn.Let (k + 1) y)) ⊎ (((j : ℕ) × (is_variable p ≡ Some j) × (i ≡ insn.LetVar j y)) ⊎ ((v : Datum) × (g.handed p ≡ Some v) × (i ≡ insn.LetData v y))) →
         EachPath (λ R. Answered g G (k + 1) p R) D → Answered g (D ∷ G) (k + 1 + nodes p) r P → Enters g.table g.code (k + 1 + nodes p) (erase P) y →
-        c.focus ≡ closed_by 0 qs (let_in d p r at) → Behind g s c P → 1 ≤ b → Moves g 0 b c (executed g.code i d at at_here s)
+        c.focus ≡ closed_by 0 qs (let_in d p r at) → Behind g s c P → 1 ≤ b → MovesIn g (extra g) 0 b c (executed g.code i d at at_here s)
     let-followed d p r at k y i b D P c n (inl v) each a en f w l =
-        subst (λ (j : PeInsn). Moves g 0 b c (executed g.code j d at at_here s)) (sym v.1)
+        subst (λ (j : PeInsn). MovesIn g (extra g) 0 b c (executed g.code j d at at_here s)) (sym v.1)
         (one_move g (focus-step c (let_in d (closed_by 0 qs p) (closed_by 1 qs r) at) f) l
         (bound-simulates g s c d y at_here.frame (source (k + 1) at_here.frame) (closed_by 0 qs p) D r (k + 1 + nodes p) qs G P
         (own-thunk p (k + 1) D v.0 (part g n (in_first itself) n.closed.0 n.depths.1) each) env
         (body g n (in_later (in_first itself)) n.closed.1 n.depths.2) a en w))
-    let-followed d p r at k y i b D P c n (inr v) each a en f w l =
+    let-followed d p r at k y i b D P c n (inr (inl v)) each a en f w l =
         let x = variable-thunk p v.0 (k + 1) D v.1 n.closed.0 w.2 (λ R some. answers-above (HasPairOf g.table) p G (k + 1) some each) in
-        subst (λ (j : PeInsn). Moves g 0 b c (executed g.code j d at at_here s)) (sym v.2)
-        (subst (λ (o : Option Frame). Moves g 0 b c (with_variable o (λ t. bound d (to_thunk t) y at_here.frame s))) (sym x.1)
+        subst (λ (j : PeInsn). MovesIn g (extra g) 0 b c (executed g.code j d at at_here s)) (sym v.2)
+        (subst (λ (o : Option Frame). MovesIn g (extra g) 0 b c (with_variable o (λ t. bound d (to_thunk t) y at_here.frame s))) (sym x.1)
         (one_move g (focus-step c (let_in d (closed_by 0 qs p) (closed_by 1 qs r) at) f) l
         (bound-simulates g s c d y at_here.frame (handed_on x.0.number x.0.binding) (closed_by 0 qs p) D r (k + 1 + nodes p) qs G P x.2 env
         (body g n (in_later (in_first itself)) n.closed.1 n.depths.2) a en w)))
+    let-followed d p r at k y i b D P c n (inr (inr v)) each a en f w l =
+        subst (λ (j : PeInsn). MovesIn g (extra g) 0 b c (executed g.code j d at at_here s)) (sym v.2)
+        (one_move g (focus-step c (let_in d (closed_by 0 qs p) (closed_by 1 qs r) at) f) l
+        (bound-simulates g s c d y at_here.frame (datum v.0) (closed_by 0 qs p) D r (k + 1 + nodes p) qs G P
+        (datum-thunk p v.0 (k + 1) D v.1 (part g n (in_first itself) n.closed.0 n.depths.1) each) env
+        (body g n (in_later (in_first itself)) n.closed.1 n.depths.2) a en w))
 
     -- what stands at the address of a form that is no merge
     abbrev Item : ℕ → Tree → PlainPath → Type 0
-    Item k q P = (item : PeItem) × (item_at g.code at_here.address ≡ Some item) × IsItemOf g.table g.code (length G) k q (erase P) item
+    Item k q P = (item : PeItem) × (item_at g.code at_here.address ≡ Some item) × IsItemOf g.handed g.table g.code (length G) k q (erase P) item
 
     -- the code itself, as what stands at its address
     itself-again : (k : ℕ) (node : Tree) (P R : PlainPath) → P ≡ R → IsNode g (length G) k node → Answered g G k node P → Enters g.table g.code k (erase P) at_here.address →
@@ -158,12 +182,12 @@ module _ (g : Compiled) where
 
     -- of a merge the operand that the shape asks for
     merge-followed : (p q : Tree) (at : Place) (k : ℕ) (P : PlainPath) (c : CopyState) → IsNode g (length G) k (merge p q at) → Answered g G k (merge p q at) P →
-        IsRightAt g.table g.code (length G) k (merge p q at) (erase P) at_here.address → c.focus ≡ closed_by 0 qs (merge p q at) → Behind g s c P →
+        IsRightAt g.handed g.table g.code (length G) k (merge p q at) (erase P) at_here.address → c.focus ≡ closed_by 0 qs (merge p q at) → Behind g s c P →
         ((j : ℕ) (d : CopyState) → IsNode g (length G) j p → Answered g G j p P → Enters g.table g.code j (erase P) at_here.address → d.focus ≡ closed_by 0 qs p →
-        Behind g s d P → At (rank_of p) (nodes p) d) →
+        Behind g s d P → At (rank_of p) (suc (merges p)) d) →
         ((j : ℕ) (d : CopyState) → IsNode g (length G) j q → Answered g G j q P → Enters g.table g.code j (erase P) at_here.address → d.focus ≡ closed_by 0 qs q →
-        Behind g s d P → At (rank_of q) (nodes q) d) →
-        At 0 (nodes (merge p q at)) c
+        Behind g s d P → At (rank_of q) (suc (merges q)) d) →
+        At 0 (suc (merges (merge p q at))) c
     merge-followed p q at k P c n a (kind, is, inl (b, en)) f w left right =
         moves-weaker g {r = 0} (omega arith) (omega arith)
         (earlier g
@@ -184,7 +208,7 @@ module _ (g : Compiled) where
     -- an escape's frame and its context
     escape-followed : (d x : ℕ) (b : Tree) (at : Place) (k : ℕ) (c : CopyState) (n : ℕ) → IsNode g (suc (length G)) k b → Answered g (only atoms.Compl ∷ G) k b (end atoms.Comm) →
         Enters g.table g.code k (at_end a_run) x → copy_step c ≡ copy.step_at (escape d (closed_by 1 qs b) at) c → Behind g s c (end atoms.Comm) → 1 ≤ n →
-        Moves g 0 n c (bound d to_escape x at_here.frame (push (esc_c s.next) s))
+        MovesIn g (extra g) 0 n c (bound d to_escape x at_here.frame (push (esc_c s.next) s))
     escape-followed d x b at k c n node a en step w l =
         let frame : Frame = record { number = s.next; depth = d; binding = to_escape; around = at_here.frame } in
         let m : Tree = mark (marks.Jump c.next) at in
@@ -205,20 +229,20 @@ module _ (g : Compiled) where
         )
 
     pub executed-followed : (node : Tree) (k : ℕ) (P : PlainPath) (c : CopyState) → IsNode g (length G) k node → Answered g G k node P → Enters g.table g.code k (erase P) at_here.address →
-        c.focus ≡ closed_by 0 qs node → Behind g s c P → At (rank_of node) (nodes node) c
+        c.focus ≡ closed_by 0 qs node → Behind g s c P → At (rank_of node) (suc (merges node)) c
     executed-followed (var j at) k P c n a e f w =
         let it : Item k (var j at) P = g.right.right (length G) k at_here.address (var j at) (erase P) n.stands e in
-        let v = insn-is g.table g.code it.2.insn in
+        let v = insn-is g.handed g.table g.code it.2.insn in
         let x = variable-found g s.frames s.next j at_here.frame qs G at w.2 env (in_scope G j P a.1) in
         executes it.0 (insn.UseVar j v.0) it.0.depth it.0.place it.1 v.2 refl refl
-        (subst (λ (o : Option Frame). Moves g 2 1 c (with_variable o (λ t. entered g.code v.0 t s))) (sym x.1)
+        (subst (λ (o : Option Frame). MovesIn g (extra g) 2 1 c (with_variable o (λ t. entered g.code v.0 t s))) (sym x.1)
         (entered-followed g (handed_on x.0.number x.0.binding) (phrase_at qs j at) (paths_at G j) v.0 P s c v.1 a.1 x.2 (f ∙ closed_by-var qs j at) w))
     executed-followed (lit u at) k P c n a e f w =
         let it : Item k (lit u at) P = g.right.right (length G) k at_here.address (lit u at) (erase P) n.stands e in
-        executes it.0 (insn.Answer u) it.0.depth it.0.place it.1 (insn-is g.table g.code it.2.insn) refl refl (no_move g 0 (omega arith) (omega arith) (P, (at, f, a.1), w))
+        executes it.0 (insn.Answer u) it.0.depth it.0.place it.1 (insn-is g.handed g.table g.code it.2.insn) refl refl (no_move g 0 (omega arith) (omega arith) (P, (at, f, a.1), w))
     executed-followed (unary op p at) k P c n a e f w =
         let it : Item k (unary op p at) P = g.right.right (length G) k at_here.address (unary op p at) (erase P) n.stands e in
-        let v = insn-is g.table g.code it.2.insn in
+        let v = insn-is g.handed g.table g.code it.2.insn in
         executes it.0 (insn.Op1 op v.0) it.0.depth at it.1 v.2 refl it.2.place
         (starts c v.0 (closed_by 0 qs p) (end (operand_atom op)) (end (unary_atom op)) (op_1 op at) (op_1 op at) (omega arith) refl
         (focus-step c (unary op (closed_by 0 qs p) at) f)
@@ -226,7 +250,7 @@ module _ (g : Compiled) where
         unary_operand (subst (λ (R : PlainPath). Behind g s c R) a.1 w))
     executed-followed (binary op p q at) k P c n a e f w =
         let it : Item k (binary op p q at) P = g.right.right (length G) k at_here.address (binary op p q at) (erase P) n.stands e in
-        let v = insn-is g.table g.code it.2.insn in
+        let v = insn-is g.handed g.table g.code it.2.insn in
         let D = a.1.0 in
         executes it.0 (insn.Op2 op v.0 v.1) it.0.depth at it.1 v.4 refl it.2.place
         (starts c v.0 (closed_by 0 qs p) (end (data_atom D)) (end (binary_atom op)) (op_l op (Here v.1) at) (op_l op (closed_by 0 qs q) at) (omega arith) refl
@@ -237,7 +261,7 @@ module _ (g : Compiled) where
         (subst (λ (R : PlainPath). Behind g s c R) a.1.2 w))
     executed-followed (conditional b p q at) k P c n a e f w =
         let it : Item k (conditional b p q at) P = g.right.right (length G) k at_here.address (conditional b p q at) (erase P) n.stands e in
-        let v = insn-is g.table g.code it.2.insn in
+        let v = insn-is g.handed g.table g.code it.2.insn in
         executes it.0 (insn.Cond v.0 v.1 v.2) it.0.depth it.0.place it.1 v.6 refl refl
         (starts c v.0 (closed_by 0 qs b) (end atoms.Bool) P (if_c (Here v.1) (Here v.2)) (if_c (closed_by 0 qs p) (closed_by 0 qs q)) (omega arith) refl
         (focus-step c (conditional (closed_by 0 qs b) (closed_by 0 qs p) (closed_by 0 qs q) at) f)
@@ -248,7 +272,7 @@ module _ (g : Compiled) where
         w)
     executed-followed (case i parts at) k P c n a e f w =
         let it : Item k (case i parts at) P = g.right.right (length G) k at_here.address (case i parts at) (erase P) n.stands e in
-        let v = insn-is g.table g.code it.2.insn in
+        let v = insn-is g.handed g.table g.code it.2.insn in
         let each = each-code (k + 1 + nodes i) parts (erase P) v.1 P v.3 refl (λ j q x closed depths. part g n (in_later x) closed depths) n.closed.1 n.depths.1 a.2 in
         executes it.0 (insn.Case v.0 v.1) it.0.depth at it.1 v.4 refl it.2.place
         (starts c v.0 (closed_by 0 qs i) (end atoms.Int) P (case_c at_here at) (case_c (all_closed_by 0 qs parts) at) (omega arith) refl
@@ -257,7 +281,7 @@ module _ (g : Compiled) where
         (index (it.0, it.1, subst (λ (x : PeInsn). EachCodeAnswers g s.frames at_here.frame (picked_from x) (all_closed_by 0 qs parts) P) (sym v.4) each)) w)
     executed-followed (lam d As b at) k P c n a e f w =
         let it : Item k (lam d As b at) P = g.right.right (length G) k at_here.address (lam d As b at) (erase P) n.stands e in
-        let v = insn-is g.table g.code it.2.insn in
+        let v = insn-is g.handed g.table g.code it.2.insn in
         let path : P ≡ call a.1.0 a.1.1 = a.1.2 in
         let sh : erase P ≡ a_call (erase a.1.1) = ap erase path in
         let asked : erase P ≡ a_call v.1 = v.2 in
@@ -269,12 +293,12 @@ module _ (g : Compiled) where
         (subst (λ (t : PlainShape). Enters g.table g.code (k + 1) t v.0) same v.3) env)))
     executed-followed (app p q at) k P c n a e f w =
         let it : Item k (app p q at) P = g.right.right (length G) k at_here.address (app p q at) (erase P) n.stands e in
-        let v = insn-is g.table g.code it.2.insn in
+        let v = insn-is g.handed g.table g.code it.2.insn in
         executes it.0 it.0.insn it.0.depth at it.1 refl refl it.2.place
-        (app-followed p q at k v.0 it.0.insn it.0.depth (nodes (app p q at)) a.1.0 P c n v.2 a.1.1 a.1.2 v.1 f w (omega arith))
+        (app-followed p q at k v.0 it.0.insn it.0.depth (suc (merges (app p q at))) a.1.0 P c n v.2 a.1.1 a.1.2 v.1 f w (omega arith))
     executed-followed (field i p at) k P c n a e f w =
         let it : Item k (field i p at) P = g.right.right (length G) k at_here.address (field i p at) (erase P) n.stands e in
-        let v = insn-is g.table g.code it.2.insn in
+        let v = insn-is g.handed g.table g.code it.2.insn in
         let path : P ≡ pick i a.1.0 = a.1.1 in
         let sh : erase P ≡ a_field i (erase a.1.0) = ap erase path in
         let asked : erase P ≡ a_field i v.1 = v.2 in
@@ -286,7 +310,7 @@ module _ (g : Compiled) where
         (code-as v.0 (k + 1) p a.1.0 v.1 (sym same) (part g n (in_first itself) n.closed n.depths) a.1.2 v.3))))
     executed-followed (sel p i at) k P c n a e f w =
         let it : Item k (sel p i at) P = g.right.right (length G) k at_here.address (sel p i at) (erase P) n.stands e in
-        let v = insn-is g.table g.code it.2.insn in
+        let v = insn-is g.handed g.table g.code it.2.insn in
         executes it.0 (insn.Pick i v.0) it.0.depth it.0.place it.1 v.2 refl refl
         (starts c v.0 (closed_by 0 qs p) (pick i P) P (pick_c i) (pick_c i) (omega arith) refl (focus-step c (sel (closed_by 0 qs p) i at) f)
         (code-as v.0 (k + 1) p (pick i P) (a_field i (erase P)) refl (part g n (in_first itself) n.closed n.depths) a.1 v.1) selected w)
@@ -295,12 +319,12 @@ module _ (g : Compiled) where
         (λ j d m h en is v. executed-followed p j P d m h en is v) (λ j d m h en is v. executed-followed q j P d m h en is v)
     executed-followed (let_in d p b at) k P c n a e f w =
         let it : Item k (let_in d p b at) P = g.right.right (length G) k at_here.address (let_in d p b at) (erase P) n.stands e in
-        let v = insn-is g.table g.code it.2.insn in
+        let v = insn-is g.handed g.table g.code it.2.insn in
         executes it.0 it.0.insn d at it.1 refl (it.2.depth ∙ sym n.depths.0) it.2.place
-        (let-followed d p b at k v.0 it.0.insn (nodes (let_in d p b at)) a.1.0 P c n v.2 a.1.1 a.1.2 v.1 f w (omega arith))
+        (let-followed d p b at k v.0 it.0.insn (suc (merges (let_in d p b at))) a.1.0 P c n v.2 a.1.1 a.1.2 v.1 f w (omega arith))
     executed-followed (rec d A b at) k P c n a e f w =
         let it : Item k (rec d A b at) P = g.right.right (length G) k at_here.address (rec d A b at) (erase P) n.stands e in
-        let v = insn-is g.table g.code it.2.insn in
+        let v = insn-is g.handed g.table g.code it.2.insn in
         executes it.0 (insn.Knot k v.0) d it.0.place it.1 v.2 (it.2.depth ∙ sym n.depths.0) refl
         (one_move g (focus-step c (rec d A (closed_by 1 qs b) at) f) (omega arith)
         (bound-simulates g s c d v.0 at_here.frame (source k at_here.frame) (closed_by 0 qs (rec d A b at)) (paths A) b (k + 1) qs G P
@@ -308,10 +332,10 @@ module _ (g : Compiled) where
         (body g n (in_first itself) n.closed n.depths.1) (answers-above (HasPairOf g.table) b (paths A ∷ G) (k + 1) a.1 a.3) v.1 w))
     executed-followed (skip at) k P c n a e f w =
         let it : Item k (skip at) P = g.right.right (length G) k at_here.address (skip at) (erase P) n.stands e in
-        executes it.0 insn.Done it.0.depth it.0.place it.1 (insn-is g.table g.code it.2.insn) refl refl (no_move g 0 (omega arith) (omega arith) (P, (at, f, a.1), w))
+        executes it.0 insn.Done it.0.depth it.0.place it.1 (insn-is g.handed g.table g.code it.2.insn) refl refl (no_move g 0 (omega arith) (omega arith) (P, (at, f, a.1), w))
     executed-followed (seq p q at) k P c n a e f w =
         let it : Item k (seq p q at) P = g.right.right (length G) k at_here.address (seq p q at) (erase P) n.stands e in
-        let v = insn-is g.table g.code it.2.insn in
+        let v = insn-is g.handed g.table g.code it.2.insn in
         executes it.0 (insn.Seq v.0 v.1) it.0.depth it.0.place it.1 v.4 refl refl
         (starts c v.0 (closed_by 0 qs p) (end atoms.Comm) P (then_c (Here v.1)) (then_c (closed_by 0 qs q)) (omega arith) refl
         (focus-step c (seq (closed_by 0 qs p) (closed_by 0 qs q) at) f)
@@ -319,7 +343,7 @@ module _ (g : Compiled) where
         (first_command (code-as v.1 (k + 1 + nodes p) q P (at_end a_run) (run-erase a.1) (part g n (in_later (in_first itself)) n.closed.1 n.depths.1) a.3 v.3)) w)
     executed-followed (assign p q at) k P c n a e f w =
         let it : Item k (assign p q at) P = g.right.right (length G) k at_here.address (assign p q at) (erase P) n.stands e in
-        let v = insn-is g.table g.code it.2.insn in
+        let v = insn-is g.handed g.table g.code it.2.insn in
         let D = a.1.0 in
         executes it.0 (insn.Assign v.0 v.1) it.0.depth it.0.place it.1 v.4 refl refl
         (starts c v.1 (closed_by 0 qs q) (end (data_atom D)) (end atoms.Comm) (assign_c (Here v.0)) (assign_c (closed_by 0 qs p)) (omega arith) refl
@@ -329,7 +353,7 @@ module _ (g : Compiled) where
         (subst (λ (R : PlainPath). Behind g s c R) a.1.1 w))
     executed-followed (while_do b i at) k P c n a e f w =
         let it : Item k (while_do b i at) P = g.right.right (length G) k at_here.address (while_do b i at) (erase P) n.stands e in
-        let v = insn-is g.table g.code it.2.insn in
+        let v = insn-is g.handed g.table g.code it.2.insn in
         executes it.0 (insn.While v.0 v.1) it.0.depth it.0.place it.1 v.4 refl refl
         (starts c v.0 (closed_by 0 qs b) (end atoms.Bool) (end atoms.Comm) (while_c at_here (Here v.1)) (while_c (closed_by 0 qs (while_do b i at)) (closed_by 0 qs i)) (omega arith) refl
         (focus-step c (while_do (closed_by 0 qs b) (closed_by 0 qs i) at) f)
@@ -339,7 +363,7 @@ module _ (g : Compiled) where
         (subst (λ (R : PlainPath). Behind g s c R) a.1 w))
     executed-followed (forever i at) k P c n a e f w =
         let it : Item k (forever i at) P = g.right.right (length G) k at_here.address (forever i at) (erase P) n.stands e in
-        let v = insn-is g.table g.code it.2.insn in
+        let v = insn-is g.handed g.table g.code it.2.insn in
         executes it.0 (insn.Loop v.0) it.0.depth it.0.place it.1 v.2 refl refl
         (starts c v.0 (closed_by 0 qs i) (end atoms.Comm) P (loop_c at_here) (loop_c (closed_by 0 qs (forever i at))) (omega arith) refl
         (focus-step c (forever (closed_by 0 qs i) at) f)
@@ -347,7 +371,7 @@ module _ (g : Compiled) where
         (endless_body (itself-again k (forever i at) P P refl n a e)) w)
     executed-followed (new d D i b at) k P c n a e f w =
         let it : Item k (new d D i b at) P = g.right.right (length G) k at_here.address (new d D i b at) (erase P) n.stands e in
-        let v = insn-is g.table g.code it.2.insn in
+        let v = insn-is g.handed g.table g.code it.2.insn in
         executes it.0 (insn.New v.0 v.1) d it.0.place it.1 v.4 (it.2.depth ∙ sym n.depths.0) refl
         (starts c v.0 (closed_by 0 qs i) (end (data_atom D)) P (new_c d (Here v.1)) (new_c d (closed_by 1 qs b)) (omega arith) refl
         (focus-step c (new d D (closed_by 0 qs i) (closed_by 1 qs b) at) f)
@@ -365,13 +389,13 @@ module _ (g : Compiled) where
         )) w)
     executed-followed (escape d b at) k P c n a e f w =
         let it : Item k (escape d b at) P = g.right.right (length G) k at_here.address (escape d b at) (erase P) n.stands e in
-        let v = insn-is g.table g.code it.2.insn in
+        let v = insn-is g.handed g.table g.code it.2.insn in
         executes it.0 (insn.Escape v.0) d it.0.place it.1 v.2 (it.2.depth ∙ sym n.depths.0) refl
-        (escape-followed d v.0 b at (k + 1) c (nodes (escape d b at)) (body g n (in_first itself) n.closed n.depths.1) a.2 v.1
+        (escape-followed d v.0 b at (k + 1) c (suc (merges (escape d b at))) (body g n (in_first itself) n.closed n.depths.1) a.2 v.1
         (focus-step c (escape d (closed_by 1 qs b) at) f) (subst (λ (R : PlainPath). Behind g s c R) a.1 w) (omega arith))
     executed-followed (accept d D b at) k P c n a e f w =
         let it : Item k (accept d D b at) P = g.right.right (length G) k at_here.address (accept d D b at) (erase P) n.stands e in
-        let v = insn-is g.table g.code it.2.insn in
+        let v = insn-is g.handed g.table g.code it.2.insn in
         executes it.0 (insn.Accept v.0) d it.0.place it.1 v.2 (it.2.depth ∙ sym n.depths.0) refl
         (moves-weaker g {r = 0} {a = 1} (omega arith) (omega arith)
         (taken-followed g (copy.accept_meets d (closed_by 1 qs b) at) (accept_meets d v.0 at_here.frame) P s c
@@ -379,14 +403,14 @@ module _ (g : Compiled) where
         (accept-meets g d v.0 at_here.frame b at (k + 1) qs G D P s c a.1 (body g n (in_first itself) n.closed n.depths.1) a.2 v.1 env)))
     executed-followed (put kind p at) k P c n a e f w =
         let it : Item k (put kind p at) P = g.right.right (length G) k at_here.address (put kind p at) (erase P) n.stands e in
-        let v = insn-is g.table g.code it.2.insn in
+        let v = insn-is g.handed g.table g.code it.2.insn in
         executes it.0 (insn.Put kind v.0) it.0.depth it.0.place it.1 v.2 refl refl
         (starts c v.0 (closed_by 0 qs p) (end (put_atom kind)) (end atoms.Comm) (put_c kind) (put_c kind) (omega arith) refl (focus-step c (put kind (closed_by 0 qs p) at) f)
         (code-as v.0 (k + 1) p (end (put_atom kind)) (at_end a_value) (put-erase kind) (part g n (in_first itself) n.closed n.depths) a.2 v.1)
         put_datum (subst (λ (R : PlainPath). Behind g s c R) a.1 w))
     executed-followed (read p at) k P c n a e f w =
         let it : Item k (read p at) P = g.right.right (length G) k at_here.address (read p at) (erase P) n.stands e in
-        let v = insn-is g.table g.code it.2.insn in
+        let v = insn-is g.handed g.table g.code it.2.insn in
         let h = code-as v.0 (k + 1) p (end atoms.IntAcc) (at_end an_assignment) refl (part g n (in_first itself) n.closed n.depths) a.2 v.1 in
         executes it.0 (insn.Read v.0) it.0.depth it.0.place it.1 v.2 refl refl
         (takes_byte (λ byte. copy.focus_on (closed_by 0 qs p) (copy.push (store_c (byte_or_end byte)) c)) no_step (omega arith) (focus-step c (read (closed_by 0 qs p) at) f)

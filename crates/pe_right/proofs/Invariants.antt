@@ -1,5 +1,5 @@
 -- What stands between a state of the machine and one of the copy rule: each focus answers a path, each context takes one and gives one, and both are read in the frames that they keep.
-use Rattle.std.proofs.Common.{ℕ, suc, ◌≤◌, ◌≡◌, ◌⊎◌, true, false, List, [], ◌∷◌, length, Option, Some, None}
+use Rattle.std.proofs.Common.{ℕ, suc, ◌+◌, ◌≤◌, ◌≡◌, ◌⊎◌, true, false, List, [], ◌∷◌, length, Option, Some, None}
 use Rattle.fy_base.specs.declared.data.Place.{Place}
 use Rattle.fy_base.specs.declared.data.Datum.{Datum}
 use Rattle.fy_base.specs.declared.data.UnOp.{UnOp}
@@ -12,6 +12,7 @@ use Rattle.fy_phrase.specs.declared.phrase.DataTy.{DataTy}
 use Rattle.fy_phrase.specs.declared.phrase.MarkKind.TheVariants as marks
 use Rattle.fy_phrase.specs.declared.shapes.ShapeTable.{ShapeTable}
 use Rattle.fy_phrase.specs.Tree.{Tree, Trees, no_trees, and_tree, var, lit, skip, mark}
+use Rattle.fy_phrase.specs.Sizes.{nodes}
 use Rattle.fy_phrase.specs.WellMade.{IsClosed, IsClosedUnder, HasDepths, HasDepthsUnder}
 use Rattle.fy_phrase.specs.Contexts.{CopyContext, op_1, op_l, op_r, if_c, case_c, arg_c, pick_c, then_c, assign_c, store_c, while_c, body_c, loop_c, new_c, drop_c, put_c, esc_c, Pushed}
 use Rattle.fy_phrase.specs.Copy.{CopyState}
@@ -24,13 +25,15 @@ use Rattle.pe_code.specs.declared.code.PeCode.{PeCode}
 use Rattle.pe_code.specs.Code.{item_at, picked_from}
 use Rattle.pe_machine.specs.States.{Pointer, Thunk, source, datum, cell_of, jump_of, Binding, to_thunk, to_cell, to_escape, Frame, Focus, code_at, value, completed, PeContext, Held, PeState, oldest, is_named}
 use Rattle.pe_right.specs.Closing.{closed_by}
+use Rattle.pe_right.specs.Constants.{constant}
 use Rattle.pe_right.specs.Right.{IsNodeUnder, is_variable, Enters, IsCodeOf}
 use Rattle.pe_right.specs.Typed.{IsTableOf}
 use Rattle.pe_right.specs.ReadsBack.{cells_in}
+use Rattle.pe_right.proofs.Merges.{spare}
 use Rattle.pe_right.proofs.Demanding.{Answers}
 use Rattle.pe_right.proofs.FrameLemmas.{Below, HasFrame, IsEscape, Mark, a_cell, an_escape, marks_in}
 
--- a closed phrase, the table of an accepted derivation, and code that is right for both
+-- a closed phrase, the table of an accepted derivation, the data of constants that are known, and code that is right for these
 pub record Compiled : Type 0 where
   pub phrase : Tree
   pub table : ShapeTable
@@ -38,7 +41,9 @@ pub record Compiled : Type 0 where
   pub closed : IsClosed phrase
   pub depths : HasDepths phrase
   pub typed : IsTableOf phrase table
-  pub right : IsCodeOf phrase table code
+  pub handed : Tree → Option Datum
+  pub constants : (q : Tree) (v : Datum) → handed q ≡ Some v → constant q ≡ Some v
+  pub right : IsCodeOf handed phrase table code
 
 -- the fact holds of each path above one of the list
 abbrev pub Above : PlainPaths → (PlainPath → Type 0) → Type 0
@@ -100,7 +105,8 @@ module _ (g : Compiled) where
   ThunkAnswersIn E fs (source k r) q D =
       (node : Tree) × (qs : List Tree) × (G : List PlainPaths) × IsNode (length G) k node × (is_variable node ≡ None) × E r qs G × Above D (λ P. Answered G k node P)
       × (q ≡ closed_by 0 qs node)
-  ThunkAnswersIn E fs (datum v) q D = (at : Place) × (q ≡ lit v at) × Above D (λ P. P ≡ end (datum_atom v))
+  ThunkAnswersIn E fs (datum v) q D =
+      (constant q ≡ Some v) × (nodes q ≤ spare g.phrase + 1) × Above D (λ P. P ≡ end (datum_atom v)) × (((at : Place) × (q ≡ lit v at)) ⊎ (g.handed q ≡ Some v))
   ThunkAnswersIn E fs (cell_of n) q D =
       (at : Place) × (X : DataTy) × (q ≡ mark (marks.Cell n) at) × HasCell X n fs × Above D (λ P. HasBelow (paths (cell_type X)) P)
   ThunkAnswersIn E fs (jump_of n) q D = (at : Place) × (q ≡ mark (marks.Jump n) at) × HasEscape n fs × Above D (λ P. IsRun P)

@@ -1,5 +1,5 @@
 -- How a step of the machine goes with steps of the copy rule.
-use Rattle.std.proofs.Common.{ℕ, suc, ◌+◌, ◌<◌, ◌≤◌, ◌≡◌, List, ◌∷◌, length, Option, Some, None, refl, ap, inl, arith}
+use Rattle.std.proofs.Common.{ℕ, suc, ◌+◌, ◌*◌, ◌<◌, ◌≤◌, ◌≡◌, List, ◌∷◌, length, Option, Some, None, refl, ap, inl, arith}
 use Rattle.fy_base.specs.declared.data.Place.{Place}
 use Rattle.fy_base.specs.declared.data.FaultKind.{FaultKind}
 use Rattle.fy_base.specs.Outside.{Bytes}
@@ -10,12 +10,13 @@ use Rattle.fy_phrase.specs.Closing.{closed_with}
 use Rattle.fy_phrase.specs.Copy.{CopyState, copy_step}
 use Rattle.fy_phrase.specs.Copy as copy
 use Rattle.fy_derive.specs.Shapes.{erase}
-use Rattle.pe_machine.specs.States.{Pointer, Thunk, to_thunk, code_at, PeContext, PeState}
+use Rattle.pe_machine.specs.States.{Pointer, Thunk, to_thunk, Focus, code_at, value, completed, PeContext, PeState}
 use Rattle.pe_machine.specs.Step.{PeMove, goes, puts, takes, faults, focus_on, push, bind}
 use Rattle.pe_right.specs.Closing.{closed_by}
 use Rattle.pe_right.specs.Right.{is_variable, Enters}
 use Rattle.pe_right.proofs.ClosingLemmas.{closed_with-more}
 use Rattle.pe_right.proofs.FrameLemmas.{marks_in, oldest-all}
+use Rattle.pe_right.proofs.Merges.{spare}
 use Rattle.pe_right.proofs.Invariants.{Compiled, marked, rank_of, Answered, IsNode, FramesAnswer, ThunkAnswers, ContextTakes, CodeAnswers, Behind, Simulates}
 use Rattle.pe_right.proofs.Growing.{env-shut}
 use Rattle.pe_right.proofs.ContextLemmas.{contexts-pushed, contexts-newer}
@@ -37,41 +38,57 @@ pub data Steps : ℕ → CopyState → CopyState → Type 0 where
   no_step : {c : CopyState} → Steps 0 c c
   and_step : {j : ℕ} {c d e : CopyState} → copy_step c ≡ copy.goes d → Steps j d e → Steps (suc j) c e
 
+-- x at a datum, and else nothing
+abbrev pub at_datum : ℕ → Focus → ℕ
+at_datum x (code_at p) = 0
+at_datum x (value v) = x
+at_datum x completed = 0
+
 -- what a phrase in focus does
 pub focus-step : (c : CopyState) (q : Tree) → c.focus ≡ q → copy_step c ≡ copy.step_at q c
 focus-step c q e = ap (λ (p : Tree). copy.step_at p c) e
 
 module _ (g : Compiled) where
-  -- at most b steps of the copy rule go with the machine's; where none does, the rank falls below r
-  pub data Moves : (r b : ℕ) → CopyState → PeMove → Type 0 where
-    goes_on : {r b j : ℕ} {m : PeState} {c d : CopyState} (s : ℕ) → Steps j c d → j ≤ b → (j ≡ 0 → s < r) → s ≤ 2 → Simulates g s m d → Moves r b c (goes m)
+  -- how many steps of the copy rule more may go with one that enters a constant's datum
+  abbrev pub extra : ℕ
+  extra = 2 * spare g.phrase
+
+  -- at most b steps of the copy rule go with the machine's, and x more where it comes to a datum; where none does, the rank falls below r
+  pub data MovesIn (x : ℕ) : (r b : ℕ) → CopyState → PeMove → Type 0 where
+    goes_on : {r b j : ℕ} {m : PeState} {c d : CopyState} (s : ℕ) → Steps j c d → j ≤ b + at_datum x m.focus → (j ≡ 0 → s < r) → s ≤ 2 → Simulates g s m d → MovesIn x r b c (goes m)
     takes_byte : {r b j : ℕ} {go : Option ℕ → PeState} {c d : CopyState} (to : Option ℕ → CopyState) → Steps j c d → suc j ≤ b → copy_step d ≡ copy.takes to →
-        ((byte : Option ℕ) → Simulates g 2 (go byte) (to byte)) → Moves r b c (takes go)
+        ((byte : Option ℕ) → Simulates g 2 (go byte) (to byte)) → MovesIn x r b c (takes go)
 
-  pub data IsFollowed : (r b : ℕ) → CopyState → PeMove → Type 0 where
-    by_moves : {r b : ℕ} {c : CopyState} {m : PeMove} → Moves r b c m → IsFollowed r b c m
-    puts_text : {r b : ℕ} {text : Bytes} {m : PeState} {c d : CopyState} → 1 ≤ b → copy_step c ≡ copy.puts text d → Simulates g 2 m d → IsFollowed r b c (puts text m)
-    faults_at : {r b : ℕ} {kind : FaultKind} {at : Place} {c : CopyState} → 1 ≤ b → copy_step c ≡ copy.faults kind at → IsFollowed r b c (faults kind at)
+  abbrev pub Moves : (r b : ℕ) → CopyState → PeMove → Type 0
+  Moves r b c m = MovesIn 0 r b c m
 
-  pub one_move : {r b : ℕ} {m : PeState} {c d : CopyState} → copy_step c ≡ copy.goes d → 1 ≤ b → Simulates g 2 m d → Moves r b c (goes m)
-  one_move e l t = goes_on 2 (and_step e no_step) l (λ z. absurd (omega arith)) (omega arith) t
+  pub data IsFollowedIn (x : ℕ) : (r b : ℕ) → CopyState → PeMove → Type 0 where
+    by_moves : {r b : ℕ} {c : CopyState} {m : PeMove} → MovesIn x r b c m → IsFollowedIn x r b c m
+    puts_text : {r b : ℕ} {text : Bytes} {m : PeState} {c d : CopyState} → 1 ≤ b → copy_step c ≡ copy.puts text d → Simulates g 2 m d → IsFollowedIn x r b c (puts text m)
+    faults_at : {r b : ℕ} {kind : FaultKind} {at : Place} {c : CopyState} → 1 ≤ b → copy_step c ≡ copy.faults kind at → IsFollowedIn x r b c (faults kind at)
 
-  pub one_step : {r b : ℕ} {m : PeState} {c d : CopyState} → copy_step c ≡ copy.goes d → 1 ≤ b → Simulates g 2 m d → IsFollowed r b c (goes m)
+  abbrev pub IsFollowed : (r b : ℕ) → CopyState → PeMove → Type 0
+  IsFollowed r b c m = IsFollowedIn 0 r b c m
+
+  pub one_move : {x r b : ℕ} {m : PeState} {c d : CopyState} → copy_step c ≡ copy.goes d → 1 ≤ b → Simulates g 2 m d → MovesIn x r b c (goes m)
+  one_move e l t = goes_on 2 (and_step e no_step) (omega arith) (λ z. absurd (omega arith)) (omega arith) t
+
+  pub one_step : {x r b : ℕ} {m : PeState} {c d : CopyState} → copy_step c ≡ copy.goes d → 1 ≤ b → Simulates g 2 m d → IsFollowedIn x r b c (goes m)
   one_step e l t = by_moves (one_move e l t)
 
   -- a silent step of the machine
-  pub no_move : {r b : ℕ} {m : PeState} {c : CopyState} (s : ℕ) → s < r → s ≤ 2 → Simulates g s m c → Moves r b c (goes m)
+  pub no_move : {x r b : ℕ} {m : PeState} {c : CopyState} (s : ℕ) → s < r → s ≤ 2 → Simulates g s m c → MovesIn x r b c (goes m)
   no_move s l k t = goes_on s no_step (omega arith) (λ z. l) k t
 
-  pub earlier : {r s b : ℕ} {m : PeMove} {c d : CopyState} → copy_step c ≡ copy.goes d → Moves r b d m → Moves s (suc b) c m
+  pub earlier : {x r s b : ℕ} {m : PeMove} {c d : CopyState} → copy_step c ≡ copy.goes d → MovesIn x r b d m → MovesIn x s (suc b) c m
   earlier e (goes_on s x l z w t) = goes_on s (and_step e x) (omega arith) (λ f. absurd (omega arith)) w t
   earlier e (takes_byte to x l f t) = takes_byte to (and_step e x) (omega arith) f t
 
-  pub moves-weaker : {r s a b : ℕ} {m : PeMove} {c : CopyState} → r ≤ s → a ≤ b → Moves r a c m → Moves s b c m
+  pub moves-weaker : {x r s a b : ℕ} {m : PeMove} {c : CopyState} → r ≤ s → a ≤ b → MovesIn x r a c m → MovesIn x s b c m
   moves-weaker q l (goes_on s x k z w t) = goes_on s x (omega arith) (λ f. let y = z f in omega arith) w t
   moves-weaker q l (takes_byte to x k f t) = takes_byte to x (omega arith) f t
 
-  pub followed-weaker : {r s a b : ℕ} {m : PeMove} {c : CopyState} → r ≤ s → a ≤ b → IsFollowed r a c m → IsFollowed s b c m
+  pub followed-weaker : {x r s a b : ℕ} {m : PeMove} {c : CopyState} → r ≤ s → a ≤ b → IsFollowedIn x r a c m → IsFollowedIn x s b c m
   followed-weaker q l (by_moves x) = by_moves (moves-weaker q l x)
   followed-weaker q l (puts_text k e t) = puts_text (omega arith) e t
   followed-weaker q l (faults_at k e) = faults_at (omega arith) e

@@ -5,6 +5,7 @@ use Rattle.fy_phrase.specs.Sizes.{nodes, all_nodes}
 use Rattle.fy_phrase.specs.WellMade.{IsClosedUnder, HasDepthsUnder}
 use Rattle.fy_derive.specs.Shapes.{of_trees, parts_of, IsNodeAt, IsNodeAmong, itself as itself_at, in_part as in_part_at, in_first as in_first_at, in_later as in_later_at}
 use Rattle.pe_right.specs.Right.{with_depth, parts_under, IsNodeUnder, IsNodeAmongUnder, itself, in_part, in_first, in_later}
+use Rattle.pe_right.proofs.Merges.{merges, all_merges, merges-few, spare}
 use Rattle.pe_right.proofs.Invariants.{Compiled, IsNode}
 
 -- ---- parts of parts
@@ -109,6 +110,68 @@ mutual
   among-size : {m e k : ℕ} {ps : List (ℕ × Tree)} {q : Tree} → IsNodeAmongUnder m ps e k q → nodes q ≤ sizes ps
   among-size (in_first u) = let l = under-size u in omega arith
   among-size (in_later a) = let l = among-size a in omega arith
+
+-- ---- merges
+
+abbrev merges_in : List (ℕ × Tree) → ℕ
+merges_in [] = 0
+merges_in (x ∷ xs) = merges x.1 + merges_in xs
+
+merges_in-few : (xs : List (ℕ × Tree)) → merges_in xs ≤ sizes xs
+merges_in-few [] = omega arith
+merges_in-few (x ∷ xs) = let h = merges-few x.1 in let k = merges_in-few xs in omega arith
+
+with_depth-merges : (d : ℕ) (ps : Trees) → merges_in (with_depth d ps) ≡ all_merges ps
+with_depth-merges d no_trees = refl
+with_depth-merges d (and_tree p ps) = let e = with_depth-merges d ps in omega arith
+
+parts-merges : (d : ℕ) (p : Tree) → (merges_in (parts_under d p) ≤ merges p) × (merges p ≤ merges_in (parts_under d p) + 1)
+parts-merges d (var k at) = (omega arith, omega arith)
+parts-merges d (lit v at) = (omega arith, omega arith)
+parts-merges d (unary op p at) = (omega arith, omega arith)
+parts-merges d (binary op p q at) = (omega arith, omega arith)
+parts-merges d (conditional b p q at) = (omega arith, omega arith)
+parts-merges d (case e parts at) = let h = with_depth-merges d parts in (omega arith, omega arith)
+parts-merges d (lam n As b at) = (omega arith, omega arith)
+parts-merges d (app p q at) = (omega arith, omega arith)
+parts-merges d (field i p at) = (omega arith, omega arith)
+parts-merges d (sel p i at) = (omega arith, omega arith)
+parts-merges d (merge p q at) = (omega arith, omega arith)
+parts-merges d (let_in n p b at) = (omega arith, omega arith)
+parts-merges d (rec n T b at) = (omega arith, omega arith)
+parts-merges d (skip at) = (omega arith, omega arith)
+parts-merges d (seq p q at) = (omega arith, omega arith)
+parts-merges d (assign p q at) = (omega arith, omega arith)
+parts-merges d (while_do b c at) = (omega arith, omega arith)
+parts-merges d (forever c at) = (omega arith, omega arith)
+parts-merges d (new n D e b at) = (omega arith, omega arith)
+parts-merges d (escape n b at) = (omega arith, omega arith)
+parts-merges d (accept n D b at) = (omega arith, omega arith)
+parts-merges d (put kind p at) = (omega arith, omega arith)
+parts-merges d (read p at) = (omega arith, omega arith)
+parts-merges d (mark m at) = (omega arith, omega arith)
+
+mutual
+  pub under-merges : {d m e k : ℕ} {p q : Tree} → IsNodeUnder d m p e k q → merges q ≤ merges p
+  under-merges itself = omega arith
+  under-merges (in_part {d = d} {p = p} a) = let l = among-merges a in let e = (parts-merges d p).0 in omega arith
+
+  among-merges : {m e k : ℕ} {ps : List (ℕ × Tree)} {q : Tree} → IsNodeAmongUnder m ps e k q → merges q ≤ merges_in ps
+  among-merges (in_first u) = let l = under-merges u in omega arith
+  among-merges (in_later a) = let l = among-merges a in omega arith
+
+-- a node's own nodes are beside the merges that are not its own
+mutual
+  under-spare : {d m e k : ℕ} {p q : Tree} → IsNodeUnder d m p e k q → nodes q + merges p ≤ nodes p + merges q
+  under-spare itself = omega arith
+  under-spare (in_part {d = d} {p = p} a) = let l = among-spare a in let e = (parts-merges d p).1 in let f = parts-sizes d p in omega arith
+
+  among-spare : {m e k : ℕ} {ps : List (ℕ × Tree)} {q : Tree} → IsNodeAmongUnder m ps e k q → nodes q + merges_in ps ≤ sizes ps + merges q
+  among-spare (in_first {ps = ps} u) = let l = under-spare u in let h = merges_in-few ps in omega arith
+  among-spare (in_later {p = p} a) = let l = among-spare a in let h = merges-few p in omega arith
+
+pub constant-spare : {d m e k : ℕ} {p q : Tree} → IsNodeUnder d m p e k q → merges q ≡ 0 → nodes q ≤ spare p + 1
+constant-spare {p = p} u z = let l = under-spare u in let h = merges-few p in omega arith
 
 -- ---- nodes of the phrase
 

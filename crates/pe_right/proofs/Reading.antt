@@ -14,17 +14,17 @@ use Rattle.pe_right.proofs.NodeLemmas.{under-at}
 module _ (g : Compiled) where
   -- what the frames stand for
   abbrev Frames : List Frame → Option ℕ → List Tree → Type 0
-  Frames fs r qs = FramesStand g.phrase g.code fs r qs
+  Frames fs r qs = FramesStand g.handed g.phrase g.code fs r qs
 
   thunk-reads : (fs : List Frame) → ((r : Option ℕ) (qs : List Tree) (G : List PlainPaths) → FramesAnswer g fs r qs G → Frames fs r qs) →
-      (t : Thunk) (q : Tree) (D : PlainPaths) → ThunkAnswers g fs t q D → ThunkStands g.phrase g.code (FramesStand g.phrase g.code fs) t q
+      (t : Thunk) (q : Tree) (D : PlainPaths) → ThunkAnswers g fs t q D → ThunkStands g.handed g.phrase g.code (FramesStand g.handed g.phrase g.code fs) t q
   thunk-reads fs ih (source k r) q D h = (h.0, h.1, under-at h.3.stands, ih r h.1 h.2 h.5, h.7)
-  thunk-reads fs ih (datum v) q D h = (h.0, h.1)
+  thunk-reads fs ih (datum v) q D h = h.3
   thunk-reads fs ih (cell_of n) q D h = (h.0, h.2)
   thunk-reads fs ih (jump_of n) q D h = (h.0, h.1)
 
   binding-reads : (fs : List Frame) → ((r : Option ℕ) (qs : List Tree) (G : List PlainPaths) → FramesAnswer g fs r qs G → Frames fs r qs) →
-      (n : ℕ) (b : Binding) (q : Tree) (D : PlainPaths) → BindingAnswers g fs n b q D → BindingStands g.phrase g.code (FramesStand g.phrase g.code fs) n b q
+      (n : ℕ) (b : Binding) (q : Tree) (D : PlainPaths) → BindingAnswers g fs n b q D → BindingStands g.handed g.phrase g.code (FramesStand g.handed g.phrase g.code fs) n b q
   binding-reads fs ih n (to_thunk t) q D h = thunk-reads fs ih t q D h
   binding-reads fs ih n (to_cell v) q D h = (h.0, h.2)
   binding-reads fs ih n to_escape q D h = (h.0, h.1)
@@ -35,19 +35,19 @@ module _ (g : Compiled) where
       inl (e.0, (e.1.0, e.1.1, e.1.4, binding-reads fs (env-reads fs) f.number f.binding e.1.0 e.1.2 e.1.6, env-reads fs f.around e.1.1 e.1.3 e.1.7))
   env-reads (f ∷ fs) r qs G (inr e) = inr (e.0, env-reads fs r qs G e.1)
 
-  code-reads : (fs : List Frame) (c : Pointer) (q : Tree) (P : PlainPath) → CodeAnswers g fs c q P → CodeStands g.phrase g.code fs c q
+  code-reads : (fs : List Frame) (c : Pointer) (q : Tree) (P : PlainPath) → CodeAnswers g fs c q P → CodeStands g.handed g.phrase g.code fs c q
   code-reads fs c q P h = (h.0, h.6.0, h.1, h.2, under-at h.4.stands, h.6.2, env-reads fs c.frame h.2 h.3 h.7, h.8)
 
-  body-reads : (fs : List Frame) (c : Pointer) (b : Tree) (D : PlainPaths) (P : PlainPath) → BodyAnswers g fs c b D P → CodeStandsUnder g.phrase g.code 1 fs c b
+  body-reads : (fs : List Frame) (c : Pointer) (b : Tree) (D : PlainPaths) (P : PlainPath) → BodyAnswers g fs c b D P → CodeStandsUnder g.handed g.phrase g.code 1 fs c b
   body-reads fs c b D P h = (h.0, h.6.0, h.1, h.2, under-at h.4.stands, h.6.2, env-reads fs c.frame h.2 h.3 h.7, h.8)
 
-  each-reads : (fs : List Frame) (r : Option ℕ) (ys : List ℕ) (qs : Trees) (P : PlainPath) → EachCodeAnswers g fs r ys qs P → EachStands g.phrase g.code fs r ys qs
+  each-reads : (fs : List Frame) (r : Option ℕ) (ys : List ℕ) (qs : Trees) (P : PlainPath) → EachCodeAnswers g fs r ys qs P → EachStands g.handed g.phrase g.code fs r ys qs
   each-reads fs r [] no_trees P h = tt
   each-reads fs r (y ∷ ys) (and_tree q qs) P h = (code-reads fs (record { address = y; frame = r }) q P h.0, each-reads fs r ys qs P h.1)
   each-reads fs r [] (and_tree q qs) P h = absurd h
   each-reads fs r (y ∷ ys) no_trees P h = absurd h
 
-  held-reads : {fs : List Frame} {c : PeContext} {x : CopyContext} {P Q : PlainPath} → ContextTakes g fs c x P Q → ContextStands g.phrase g.code fs c x
+  held-reads : {fs : List Frame} {c : PeContext} {x : CopyContext} {P Q : PlainPath} → ContextTakes g fs c x P Q → ContextStands g.handed g.phrase g.code fs c x
   held-reads unary_operand = refl
   held-reads {fs = fs} (left_operand {c = c} {q = q} D t h) = (q, refl, code-reads fs c q _ h)
   held-reads (right_operand D t e) = refl
@@ -67,17 +67,17 @@ module _ (g : Compiled) where
   held-reads put_datum = refl
   held-reads escape_body = refl
 
-  contexts-read : (fs : List Frame) (cs : List Held) (xs : List (Pushed CopyContext)) (P : PlainPath) → ContextsTake g fs cs xs P → ContextsStand g.phrase g.code fs cs xs
+  contexts-read : (fs : List Frame) (cs : List Held) (xs : List (Pushed CopyContext)) (P : PlainPath) → ContextsTake g fs cs xs P → ContextsStand g.handed g.phrase g.code fs cs xs
   contexts-read fs [] [] P t = tt
   contexts-read fs (c ∷ cs) (x ∷ xs) P t = (held-reads t.3.1, contexts-read (oldest c.frames fs) cs xs t.3.0 t.3.2)
   contexts-read fs [] (x ∷ xs) P t = absurd t
   contexts-read fs (c ∷ cs) [] P t = absurd t
 
-  focus-reads : (k : ℕ) (fs : List Frame) (f : Focus) (q : Tree) (P : PlainPath) → FocusAnswers g k fs f q P → FocusStands g.phrase g.code fs f q
+  focus-reads : (k : ℕ) (fs : List Frame) (f : Focus) (q : Tree) (P : PlainPath) → FocusAnswers g k fs f q P → FocusStands g.handed g.phrase g.code fs f q
   focus-reads k fs (code_at c) q P a = code-reads fs c q P a.0
   focus-reads k fs (value v) q P a = (a.0, a.1)
   focus-reads k fs completed q P a = (a.0, a.1)
 
-  pub state-reads : (k : ℕ) (s : PeState) (c : CopyState) → Simulates g k s c → ReadsBack g.phrase g.code s c
+  pub state-reads : (k : ℕ) (s : PeState) (c : CopyState) → Simulates g k s c → ReadsBack g.handed g.phrase g.code s c
   state-reads k s c t =
       record { focus = focus-reads k s.frames s.focus c.focus t.0 t.1; contexts = contexts-read s.frames s.contexts c.contexts t.0 t.2.0; store = t.2.1 }

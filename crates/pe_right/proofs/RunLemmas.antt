@@ -1,25 +1,34 @@
 -- Runs: step by step, the machine is where the copy rule is.
-use Rattle.std.proofs.Common.{ℕ, zero, suc, ◌+◌, ◌-◌, ◌*◌, ◌<◌, ◌≤◌, ◌≡◌, ◌≢◌, List, [], ◌∷◌, ◌++◌, drop, Option, slice_get, refl, sym, ap, ◌∙◌, subst, ◌⊎◌, inl, inr, arith, append-nil, append_assoc, le_of_eq}
+use Rattle.std.proofs.Common.{ℕ, zero, suc, ◌+◌, ◌-◌, ◌*◌, ◌<◌, ◌≤◌, ◌≡◌, ◌≢◌, List, [], ◌∷◌, ◌++◌, drop, Option, Some, None, slice_get, refl, sym, ap, ◌∙◌, subst, ◌⊎◌, inl, inr, arith, append-nil, append_assoc, le_of_eq}
 use Rattle.std.proofs.lemmas.Bool.{cases_lt}
+use Rattle.fy_base.specs.declared.data.Place.{Place}
+use Rattle.fy_base.specs.declared.data.Datum.{Datum}
 use Rattle.fy_base.specs.Outside.{Bytes}
 use Rattle.fy_types.specs.declared.types.Atom.TheVariants as atoms
 use Rattle.fy_types.specs.Paths.{PlainPath, end}
-use Rattle.fy_phrase.specs.Tree.{Tree, var, skip}
+use Rattle.fy_phrase.specs.Tree.{Tree, skip}
 use Rattle.fy_phrase.specs.Contexts.{CopyContext, Pushed}
 use Rattle.fy_phrase.specs.Sizes.{nodes}
 use Rattle.fy_phrase.specs.Copy.{CopyState, CopyMove, CopyRun, copy_step, copy_after}
 use Rattle.fy_phrase.specs.Copy as copy
 use Rattle.fy_phrase.proofs.Runs.{after_zero, after_suc, after_first, after_both, over_later}
+use Rattle.fy_derive.specs.Atoms.{datum_atom}
+use Rattle.fy_derive.proofs.Asking.{datum_asked, run_asked}
+use Rattle.pe_code.specs.declared.code.PeInsn.{PeInsn}
+use Rattle.pe_code.specs.declared.code.PeInsn.TheVariants as insn
+use Rattle.pe_code.specs.declared.code.PeItem.{PeItem}
 use Rattle.pe_code.specs.declared.code.PeCode.{PeCode}
-use Rattle.pe_machine.specs.States.{Frame, Focus, code_at, value, completed, Held, PeState}
-use Rattle.pe_machine.specs.Step.{PeMove, puts, takes, faults, step_at, pe_step}
+use Rattle.pe_code.specs.Code.{item_at}
+use Rattle.pe_machine.specs.States.{Pointer, Frame, Focus, code_at, value, completed, Held, PeState}
+use Rattle.pe_machine.specs.Step.{PeMove, goes, puts, takes, faults, sticks, loses, focus_on, executed, item_executed, step_at, pe_step}
 use Rattle.pe_machine.specs.Run.{Standing, going, ended, faulted, stuck, gone, standing_at, standing_of, PeRun, settled, ticked, tick, after_more, start_run, pe_start, pe_after}
 use Rattle.pe_right.specs.Follows.{StandAlike, StandNearlyAlike, IsReached, IsAsFarAs, FollowsCopyRule}
 use Rattle.pe_right.proofs.ClosingLemmas.{closed_by-nothing}
 use Rattle.pe_right.proofs.DerivedLemmas.{table-answers}
 use Rattle.pe_right.proofs.Invariants.{Compiled, ContextsTake, FocusAnswers, Behind, Simulates}
-use Rattle.pe_right.proofs.NodeLemmas.{node-size, whole}
-use Rattle.pe_right.proofs.Moves.{Steps, no_step, and_step, rank-two, Moves, goes_on, takes_byte, IsFollowed, by_moves, puts_text, faults_at, moves-weaker, followed-weaker}
+use Rattle.pe_right.proofs.Merges.{merges, merges-few, spare}
+use Rattle.pe_right.proofs.NodeLemmas.{under-merges, whole}
+use Rattle.pe_right.proofs.Moves.{Steps, no_step, and_step, at_datum, rank-two, extra, MovesIn, goes_on, takes_byte, IsFollowedIn, by_moves, puts_text, faults_at, moves-weaker, followed-weaker}
 use Rattle.pe_right.proofs.MeetingLemmas.{value-followed, finished-followed}
 use Rattle.pe_right.proofs.InstructionLemmas.{executed-followed}
 use Rattle.pe_right.proofs.Reading.{state-reads}
@@ -147,9 +156,24 @@ both-over (faulted kind at) t apart h e = let f = sym h ∙ e in cc
 both-over stuck t apart h e = h
 both-over gone t apart h e = h
 
-nodes-some : (q : Tree) → 1 ≤ nodes q
-nodes-some (var k at) = omega arith
-nodes-some q = omega arith
+-- ---- the first step
+
+abbrev focus_in : PeMove → Option Focus
+focus_in (goes s) = Some s.focus
+focus_in (puts text s) = None
+focus_in (takes go) = None
+focus_in (faults kind at) = None
+focus_in sticks = None
+focus_in loses = None
+
+-- where the first step comes to a datum, no context is there
+first-datum : (code : PeCode) (i : PeInsn) (d : ℕ) (at : Place) (here : Pointer) (s : PeState) (v : Datum) → executed code i d at here pe_start ≡ goes s → s.focus ≡ value v → s.contexts ≡ []
+first-datum code (insn.Answer w) d at here s v e f = let x : focus_on (value w) pe_start ≡ s = cc in ap (λ (t : PeState). t.contexts) (sym x)
+first-datum code i d at here s v e f = let x = sym (ap focus_in e ∙ ap Some f) in absurd cc
+
+first-item : (code : PeCode) (o : Option PeItem) (here : Pointer) (s : PeState) (v : Datum) → item_executed code o here pe_start ≡ goes s → s.focus ≡ value v → s.contexts ≡ []
+first-item code None here s v e f = absurd cc
+first-item code (Some item) here s v e f = first-datum code item.insn item.depth item.place here s v e f
 
 is_it_going : (st : Standing) → (st ≡ going) ⊎ (st ≢ going)
 is_it_going going = inl refl
@@ -161,14 +185,75 @@ is_it_going gone = inr (λ e. cc)
 module _ (g : Compiled) where
   -- ---- a step
 
+  -- how many steps of the copy rule go with one from the focus, and how many more where it comes to a datum
+  abbrev base : Focus → ℕ
+  base (code_at p) = suc (merges g.phrase)
+  base (value v) = 1
+  base completed = 1
+
+  abbrev more : Focus → ℕ
+  more (code_at p) = extra g
+  more (value v) = 0
+  more completed = 0
+
+  -- what is left for a step to a datum, which is due only with the step behind it
+  abbrev gap : Focus → ℕ
+  gap (code_at p) = spare g.phrase
+  gap (value v) = 0
+  gap completed = 0
+
+  gap-few : (f : Focus) → gap f ≤ spare g.phrase
+  gap-few (code_at p) = omega arith
+  gap-few (value v) = omega arith
+  gap-few completed = omega arith
+
+  all-nodes : spare g.phrase + merges g.phrase + 1 ≡ nodes g.phrase
+  all-nodes = let h = merges-few g.phrase in omega arith
+
+  -- a step's count is within one phrase's nodes and one more, with what was left before and what is left then
+  abbrev Room : (x b h : ℕ) → PeMove → Type 0
+  Room x b h m = (n : ℕ) (s : PeState) (d : CopyState) → m ≡ goes s → Simulates g n s d → b + at_datum x s.focus + gap s.focus ≤ nodes g.phrase + 1 + h
+
+  room-between : (f e : Focus) → base f + at_datum (more f) e + gap e ≤ nodes g.phrase + 1 + gap f
+  room-between (code_at p) (code_at q) = let h = all-nodes in omega arith
+  room-between (code_at p) (value v) = let h = all-nodes in omega arith
+  room-between (code_at p) completed = let h = all-nodes in omega arith
+  room-between (value u) (code_at q) = let h = all-nodes in omega arith
+  room-between (value u) (value v) = let h = all-nodes in omega arith
+  room-between (value u) completed = let h = all-nodes in omega arith
+  room-between completed (code_at q) = let h = all-nodes in omega arith
+  room-between completed (value v) = let h = all-nodes in omega arith
+  room-between completed completed = let h = all-nodes in omega arith
+
+  room-left : (f : Focus) → base f + spare g.phrase ≤ nodes g.phrase + 1
+  room-left (code_at p) = let h = all-nodes in omega arith
+  room-left (value v) = let h = all-nodes in omega arith
+  room-left completed = let h = all-nodes in omega arith
+
+  no-contexts : (fs : List Frame) (xs : List (Pushed CopyContext)) (P : PlainPath) (v : Datum) → P ≡ end (datum_atom v) → ContextsTake g fs [] xs P → ⊥
+  no-contexts fs [] P v i k = let f = sym (datum_asked v i) ∙ run_asked k.0 in cc
+  no-contexts fs (x ∷ xs) P v i k = k
+
+  -- the first step comes to no datum
+  first-room : Room (more pe_start.focus) (base pe_start.focus) 0 (pe_step g.code pe_start)
+  first-room n s d e t = by s.focus refl
+    where
+      by : (f : Focus) → s.focus ≡ f → base pe_start.focus + at_datum (more pe_start.focus) f + gap f ≤ nodes g.phrase + 1 + 0
+      by (code_at p) i = let h = all-nodes in omega arith
+      by completed i = let h = all-nodes in omega arith
+      by (value v) i =
+          let none = first-item g.code (item_at g.code 0) (record { address = 0; frame = None }) s v e i in
+          let a = subst (λ (f : Focus). FocusAnswers g n s.frames f d.focus t.0) i t.1 in
+          absurd (no-contexts s.frames d.contexts t.0 v a.2 (subst (λ (cs : List Held). ContextsTake g s.frames cs d.contexts t.0) none t.2.0))
+
   -- a step from a state that simulates, where a command that is finished has a context
   step-followed : (k : ℕ) (f : Focus) (P : PlainPath) (s : PeState) (c : CopyState) → FocusAnswers g k s.frames f c.focus P → Behind g s c P → standing_at f s.contexts ≡ going →
-      IsFollowed g k (nodes g.phrase) c (step_at g.code f s)
+      IsFollowedIn g (more f) k (base f) c (step_at g.code f s)
   step-followed k (code_at p) P s c a b up =
-      by_moves (moves-weaker g a.1 (node-size g a.0.4) (executed-followed g s p a.0.2 a.0.3 a.0.7 a.0.1 a.0.0 P c a.0.4 a.0.5 a.0.6 a.0.8 b))
-  step-followed k (value v) P s c a b up = followed-weaker g (omega arith) (nodes-some g.phrase) (value-followed g v a.0 s c P a.1 a.2 b)
+      by_moves (moves-weaker g a.1 (let l = under-merges a.0.4.stands in omega arith) (executed-followed g s p a.0.2 a.0.3 a.0.7 a.0.1 a.0.0 P c a.0.4 a.0.5 a.0.6 a.0.8 b))
+  step-followed k (value v) P s c a b up = followed-weaker g (omega arith) (omega arith) (value-followed g v a.0 s c P a.1 a.2 b)
   step-followed k completed P s c a b up =
-      followed-weaker g (omega arith) (nodes-some g.phrase)
+      followed-weaker g (omega arith) (omega arith)
       (finished-followed g a.0 s c P a.1 a.2 (λ none. let f = sym (ap (λ (cs : List Held). standing_at completed cs) none) ∙ up in cc) b)
 
   standing-alike : (k : ℕ) (fs : List Frame) (f : Focus) (q : Tree) (cs : List Held) (xs : List (Pushed CopyContext)) (P : PlainPath) → FocusAnswers g k fs f q P →
@@ -190,11 +275,11 @@ module _ (g : Compiled) where
     output : r.output ≡ c.output
     fresh : r.standing ≡ going → (standing_of r.state ≡ going) × (c.standing ≡ copy.standing_of c.state)
 
-  -- what a step of the machine comes to: some steps of the copy rule, or none and a lower rank
-  record Ticked (k : ℕ) (r : PeRun) (c : CopyRun) : Type 0 where
+  -- what a step of the machine comes to: some steps of the copy rule, or none and a lower rank; h was left before
+  record Ticked (h k : ℕ) (r : PeRun) (c : CopyRun) : Type 0 where
     steps : ℕ
     rank : ℕ
-    few : steps ≤ nodes g.phrase + 1
+    few : steps + gap r.state.focus ≤ nodes g.phrase + 1 + h
     least : rank ≤ 2
     lower : r.standing ≡ going → steps ≡ 0 → rank < k
     same : SameRun rank r (copy.after_more steps c)
@@ -211,14 +296,14 @@ module _ (g : Compiled) where
     fresh = λ up. (up, refl);
   }
 
-  moves-tick : {b : ℕ} (k : ℕ) (r : PeRun) (c : CopyRun) (m : PeMove) → b ≤ nodes g.phrase → c.standing ≡ copy.standing_of c.state → r.input ≡ c.input → r.output ≡ c.output →
-      Moves g k b c.state m → Ticked k (settled m r) c
-  moves-tick k r c m le st ei eo (goes_on {j = j} {m = s} {d = d} n x l z w t) =
+  moves-tick : {x b : ℕ} (h k : ℕ) (r : PeRun) (c : CopyRun) (m : PeMove) → Room x b h m → b + spare g.phrase ≤ nodes g.phrase + 1 → c.standing ≡ copy.standing_of c.state → r.input ≡ c.input → r.output ≡ c.output →
+      MovesIn g x k b c.state m → Ticked h k (settled m r) c
+  moves-tick h k r c m room left st ei eo (goes_on {j = j} {m = s} {d = d} n x l z w t) =
       let y = after-steps c refl st x in
       record {
         steps = j;
         rank = n;
-        few = omega arith;
+        few = (let most = room n s d refl t in omega (arith, l, most));
         least = w;
         lower = λ up none. z none;
         same = record {
@@ -231,7 +316,7 @@ module _ (g : Compiled) where
         };
         before = y.before;
       }
-  moves-tick k r c m le st ei eo (takes_byte {j = j} {go = go} {d = d} to x l f t) =
+  moves-tick h k r c m room left st ei eo (takes_byte {j = j} {go = go} {d = d} to x l f t) =
       let y = after-steps c refl st x in
       let one = after-more-one (copy.takes to) y f (λ q. cc) in
       let here = ei ∙ sym y.input in
@@ -240,7 +325,7 @@ module _ (g : Compiled) where
       record {
         steps = suc j;
         rank = 2;
-        few = omega arith;
+        few = (let most = gap-few (settled (takes go) r).state.focus in omega (arith, l, left, most));
         least = omega arith;
         lower = λ up none. absurd (omega arith);
         same = subst (λ (z : CopyRun). SameRun 2 (settled (takes go) r) z) (sym one.0)
@@ -249,16 +334,16 @@ module _ (g : Compiled) where
         before = one.1;
       }
 
-  followed-tick : (k : ℕ) (r : PeRun) (c : CopyRun) (m : PeMove) → Simulates g k r.state c.state → k ≤ 2 → c.standing ≡ copy.standing_of c.state → r.input ≡ c.input → r.output ≡ c.output →
-      IsFollowed g k (nodes g.phrase) c.state m → Ticked k (settled m r) c
-  followed-tick k r c m now least st ei eo (by_moves x) = moves-tick k r c m (omega arith) st ei eo x
-  followed-tick k r c m now least st ei eo (puts_text {text = text} {m = s} {d = d} l e t) =
+  followed-tick : {x b : ℕ} (h k : ℕ) (r : PeRun) (c : CopyRun) (m : PeMove) → Room x b h m → b + spare g.phrase ≤ nodes g.phrase + 1 → Simulates g k r.state c.state → k ≤ 2 → c.standing ≡ copy.standing_of c.state → r.input ≡ c.input → r.output ≡ c.output →
+      IsFollowedIn g x k b c.state m → Ticked h k (settled m r) c
+  followed-tick h k r c m room left now least st ei eo (by_moves x) = moves-tick h k r c m room left st ei eo x
+  followed-tick h k r c m room left now least st ei eo (puts_text {text = text} {m = s} {d = d} l e t) =
       let y = after-steps c refl st no_step in
       let one = after-more-one (copy.puts text d) y e (λ q. cc) in
       record {
         steps = 1;
         rank = 2;
-        few = omega arith;
+        few = (let most = gap-few s.focus in let whole = all-nodes in omega (arith, most, whole));
         least = omega arith;
         lower = λ up none. absurd (omega arith);
         same = subst (λ (z : CopyRun). SameRun 2 (settled (puts text s) r) z) (sym one.0)
@@ -266,13 +351,13 @@ module _ (g : Compiled) where
             (ap (λ (o : Bytes). o ++ text) (eo ∙ sym y.output)));
         before = one.1;
       }
-  followed-tick k r c m now least st ei eo (faults_at {kind = kind} {at = at} l e) =
+  followed-tick h k r c m room left now least st ei eo (faults_at {kind = kind} {at = at} l e) =
       let y = after-steps c refl st no_step in
       let one = after-more-one (copy.faults kind at) y e (λ q. cc) in
       record {
         steps = 1;
         rank = k;
-        few = omega arith;
+        few = (let most = gap-few r.state.focus in let whole = all-nodes in omega (arith, most, whole));
         least = least;
         lower = λ up none. absurd (omega arith);
         same = subst (λ (z : CopyRun). SameRun k (settled (faults kind at) r) z) (sym one.0) (record {
@@ -286,34 +371,40 @@ module _ (g : Compiled) where
       }
 
   -- a run that is over stays
-  no-tick : (k : ℕ) (r : PeRun) (c : CopyRun) → k ≤ 2 → r.standing ≢ going → SameRun k r c → Ticked k r c
-  no-tick k r c least over same = record {
+  no-tick : (h k : ℕ) (r : PeRun) (c : CopyRun) → k ≤ 2 → r.standing ≢ going → SameRun k r c → Ticked h k r c
+  no-tick h k r c least over same = record {
     steps = 0;
     rank = k;
-    few = omega arith;
+    few = (let most = gap-few r.state.focus in let whole = all-nodes in omega (arith, most, whole));
     least = least;
     lower = λ up none. absurd (over up);
     same = subst (λ (z : CopyRun). SameRun k r z) (sym (after_zero c)) same;
     before = λ i l. absurd (omega arith);
   }
 
-  run-tick : (k : ℕ) (r : PeRun) (c : CopyRun) (st : Standing) → r.standing ≡ st → k ≤ 2 → SameRun k r c → Ticked k (ticked g.code st r) c
-  run-tick k r c going e least same =
+  run-tick : (h k : ℕ) (r : PeRun) (c : CopyRun) (st : Standing) → Room (more r.state.focus) (base r.state.focus) h (pe_step g.code r.state) → r.standing ≡ st → k ≤ 2 → SameRun k r c →
+      Ticked h k (ticked g.code st r) c
+  run-tick h k r c going room e least same =
       let now = same.state in
       let up = same.fresh e in
-      followed-tick k r c (pe_step g.code r.state) now least up.1 same.input same.output (step-followed k r.state.focus now.0 r.state c.state now.1 now.2 up.0)
-  run-tick k r c ended e least same = no-tick k r c least (λ f. let q = sym e ∙ f in cc) same
-  run-tick k r c (faulted kind at) e least same = no-tick k r c least (λ f. let q = sym e ∙ f in cc) same
-  run-tick k r c stuck e least same = no-tick k r c least (λ f. let q = sym e ∙ f in cc) same
-  run-tick k r c gone e least same = no-tick k r c least (λ f. let q = sym e ∙ f in cc) same
+      followed-tick h k r c (pe_step g.code r.state) room (room-left r.state.focus) now least up.1 same.input same.output (step-followed k r.state.focus now.0 r.state c.state now.1 now.2 up.0)
+  run-tick h k r c ended room e least same = no-tick h k r c least (λ f. let q = sym e ∙ f in cc) same
+  run-tick h k r c (faulted kind at) room e least same = no-tick h k r c least (λ f. let q = sym e ∙ f in cc) same
+  run-tick h k r c stuck room e least same = no-tick h k r c least (λ f. let q = sym e ∙ f in cc) same
+  run-tick h k r c gone room e least same = no-tick h k r c least (λ f. let q = sym e ∙ f in cc) same
 
   -- ---- after n steps
+
+  -- what is left after n steps
+  abbrev left : ℕ → Focus → ℕ
+  left zero f = 0
+  left (suc n) f = gap f
 
   -- the machine is where the copy rule is after some steps: no more than the bound, and while it goes on no fewer than a third
   record Reached (input : Bytes) (n : ℕ) : Type 0 where
     steps : ℕ
     rank : ℕ
-    few : steps ≤ n * (nodes g.phrase + 1)
+    few : steps + left n (pe_after g.code input n).state.focus ≤ n * (nodes g.phrase + 1)
     least : rank ≤ 2
     far : (pe_after g.code input n).standing ≡ going → n + rank ≤ 3 * steps + 2
     same : SameRun rank (pe_after g.code input n) (copy_after g.phrase input steps)
@@ -342,8 +433,8 @@ module _ (g : Compiled) where
     before = λ i l. absurd (omega arith);
   }
 
-  more-few : (b n m i : ℕ) → m ≤ n * b → i ≤ b → m + i ≤ suc n * b
-  more-few b n m i l k = let e : suc n * b ≡ n * b + b = omega arith in omega arith
+  more-few : (b n m i o q : ℕ) → m + o ≤ n * b → i + q ≤ b + o → m + i + q ≤ suc n * b
+  more-few b n m i o q l k = let e : suc n * b ≡ n * b + b = omega arith in omega arith
 
   far-more : (n m k i j : ℕ) → j ≤ 2 → n + k ≤ 3 * m + 2 → (i ≡ 0 → j < k) → suc n + j ≤ 3 * (m + i) + 2
   far-more n m k zero j l f z = let q = z refl in omega arith
@@ -357,7 +448,7 @@ module _ (g : Compiled) where
   was-going r stuck f e = e
   was-going r gone f e = e
 
-  before-more : (input : Bytes) (n : ℕ) (r : PeRun) (h : Reached input n) (t : Ticked h.rank r (copy_after g.phrase input h.steps)) (i : ℕ) → i < h.steps + t.steps →
+  before-more : (input : Bytes) (n : ℕ) (r : PeRun) (h : Reached input n) (t : Ticked (left n (pe_after g.code input n).state.focus) h.rank r (copy_after g.phrase input h.steps)) (i : ℕ) → i < h.steps + t.steps →
       (copy_after g.phrase input i).standing ≡ copy.going
   before-more input n r h t i l =
       elim (cases_lt i h.steps) [
@@ -368,17 +459,24 @@ module _ (g : Compiled) where
             ∙ t.before (i - h.steps) (omega arith)
       ]
 
+  room-after : (input : Bytes) (n : ℕ) →
+      Room (more (pe_after g.code input n).state.focus) (base (pe_after g.code input n).state.focus) (left n (pe_after g.code input n).state.focus) (pe_step g.code (pe_after g.code input n).state)
+  room-after input zero =
+      subst (λ (r : PeRun). Room (more r.state.focus) (base r.state.focus) 0 (pe_step g.code r.state)) (sym (pe_zero g.code (start_run input))) first-room
+  room-after input (suc n) = λ i s d e t. room-between (pe_after g.code input (suc n)).state.focus s.focus
+
   reached-more : (input : Bytes) (n : ℕ) → Reached input n → Reached input (suc n)
   reached-more input n h =
       let r = pe_after g.code input n in
       let c = copy_after g.phrase input h.steps in
-      let t : Ticked h.rank (ticked g.code r.standing r) c = run-tick h.rank r c r.standing refl h.least h.same in
+      let t : Ticked (left n r.state.focus) h.rank (ticked g.code r.standing r) c = run-tick (left n r.state.focus) h.rank r c r.standing (room-after input n) refl h.least h.same in
       let next : pe_after g.code input (suc n) ≡ ticked g.code r.standing r = pe_suc g.code n (start_run input) in
       let both : copy_after g.phrase input (h.steps + t.steps) ≡ copy.after_more t.steps c = after_both h.steps t.steps (copy.start_run g.phrase input) in
       record {
         steps = h.steps + t.steps;
         rank = t.rank;
-        few = more-few (nodes g.phrase + 1) n h.steps t.steps h.few t.few;
+        few = subst (λ (x : PeRun). h.steps + t.steps + gap x.state.focus ≤ suc n * (nodes g.phrase + 1)) (sym next)
+            (more-few (nodes g.phrase + 1) n h.steps t.steps (left n r.state.focus) (gap (ticked g.code r.standing r).state.focus) h.few t.few);
         least = t.least;
         far = λ up.
             let still = sym (ap (λ (x : PeRun). x.standing) next) ∙ up in
@@ -392,14 +490,18 @@ module _ (g : Compiled) where
   reached input zero = reached-none input
   reached input (suc n) = reached-more input n (reached input n)
 
+  -- a state of the copy rule that the one after n steps simulates
+  pub simulated : (input : Bytes) (n : ℕ) → (k : ℕ) × (c : CopyState) × Simulates g k (pe_after g.code input n).state c
+  simulated input n = let h = reached input n in (h.rank, (copy_after g.phrase input h.steps).state, h.same.state)
+
   -- ---- the law's clauses
 
-  reads-back : (input : Bytes) (n : ℕ) → Reached input n → IsReached g.phrase g.code input n
+  reads-back : (input : Bytes) (n : ℕ) → Reached input n → IsReached g.handed g.phrase g.code input n
   reads-back input n h =
       let e = h.same.state.2.4 in
       record {
         steps = h.steps;
-        few = h.few;
+        few = (let few = h.few in omega arith);
         same = record {
           state = state-reads g h.rank (pe_after g.code input n).state (copy_after g.phrase input h.steps).state h.same.state;
           standing = h.same.standing;
@@ -437,7 +539,7 @@ module _ (g : Compiled) where
       let h = reached input n in
       none (copy_after g.phrase input h.steps).standing (subst (λ (x : Standing). StandNearlyAlike x (copy_after g.phrase input h.steps).standing) e h.same.standing)
 
-  pub follows : FollowsCopyRule g.phrase g.code
+  pub follows : FollowsCopyRule g.handed g.phrase g.code
   follows = record {
     reads_back = λ input n. reads-back input n (reached input n);
     keeps_up = λ input m. keeps-up input m (reached input (3 * (m + 1)));

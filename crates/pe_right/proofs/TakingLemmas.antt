@@ -1,5 +1,5 @@
 -- A procedure, a field and an acceptor meet the context that demands them, which is taken off while the frames stay.
-use Rattle.std.proofs.Common.{ℕ, suc, ◌≤◌, ◌≡◌, Bool, cond, List, [], ◌∷◌, length, Option, refl, sym, ap, ◌∙◌, subst, arith, eq-eqb}
+use Rattle.std.proofs.Common.{ℕ, suc, ◌≤◌, ◌≡◌, Bool, cond, List, [], ◌∷◌, length, Option, refl, sym, ap, ◌∙◌, subst, inl, arith, eq-eqb}
 use Rattle.fy_base.specs.declared.data.Place.{Place}
 use Rattle.fy_types.specs.declared.types.Atom.TheVariants as atoms
 use Rattle.fy_types.specs.Paths.{PlainPath, PlainPaths, end, call, pick}
@@ -23,7 +23,7 @@ use Rattle.pe_right.proofs.AnswerLemmas.{data-up, acceptor_atom-same, end-same}
 use Rattle.pe_right.proofs.Invariants.{Compiled, Above, marked, Answered, IsNode, FramesAnswer, ThunkAnswers, CodeAnswers, ContextTakes, procedure, selected, acceptor, ContextsTake, Behind}
 use Rattle.pe_right.proofs.Growing.{extends-oldest, thunk-extends}
 use Rattle.pe_right.proofs.ContextLemmas.{held-asked, contexts-taken}
-use Rattle.pe_right.proofs.Moves.{rank-two, Moves, one_move, bound-simulates}
+use Rattle.pe_right.proofs.Moves.{rank-two, MovesIn, extra, one_move, bound-simulates}
 
 -- a datum's own path
 above-datum : (D : DataTy) → Above (only (data_atom D)) (λ P. P ≡ end (data_atom D))
@@ -52,11 +52,11 @@ module _ (g : Compiled) where
   Meets s c to meets P =
       (k : PeContext) (x : CopyContext) (Q : PlainPath) (m : ℕ) (cs : List Held) (xs : List (Pushed CopyContext)) → copy_step c ≡ to x (record c { contexts = xs }) →
       ContextTakes g (oldest m s.frames) k x P Q → Left (record s { contexts = cs }) (record c { contexts = xs }) k m Q →
-      Moves g 0 1 c (meets k (record s { contexts = cs }))
+      MovesIn g (extra g) 0 1 c (meets k (record s { contexts = cs }))
 
   newest : (to : CopyContext → CopyState → CopyMove) (meets : PeContext → PeState → PeMove) (P : PlainPath) (cs : List Held) (xs : List (Pushed CopyContext)) (s : PeState)
       (c : CopyState) → copy_step c ≡ copy.taken to xs c → (IsRun P → ⊥) → ContextsTake g s.frames cs xs P → c.store ≡ cells_in s.frames → Below s.next s.frames →
-      c.next ≡ s.next → c.load ≡ s.load → Meets s c to meets P → Moves g 0 1 c (taken meets cs s)
+      c.next ≡ s.next → c.load ≡ s.load → Meets s c to meets P → MovesIn g (extra g) 0 1 c (taken meets cs s)
   newest to meets P [] [] s c e apart t st lo nx ld f = absurd (apart t.0)
   newest to meets P (k ∷ cs) (x ∷ xs) s c e apart t st lo nx ld f =
       f k.context x.context t.3.0 k.frames cs xs e t.3.1 (t.1, t.2, t.3.2, st, lo, nx, ld)
@@ -64,7 +64,7 @@ module _ (g : Compiled) where
   newest to meets P (k ∷ cs) [] s c e apart t st lo nx ld f = absurd t
 
   pub taken-followed : (to : CopyContext → CopyState → CopyMove) (meets : PeContext → PeState → PeMove) (P : PlainPath) (s : PeState) (c : CopyState) →
-      copy_step c ≡ copy.taken to c.contexts c → (IsRun P → ⊥) → Behind g s c P → Meets s c to meets P → Moves g 0 1 c (taken meets s.contexts s)
+      copy_step c ≡ copy.taken to c.contexts c → (IsRun P → ⊥) → Behind g s c P → Meets s c to meets P → MovesIn g (extra g) 0 1 c (taken meets s.contexts s)
   taken-followed to meets P s c e apart w f = newest to meets P s.contexts c.contexts s c e apart w.0 w.1 w.2 w.3 w.4 f
 
   -- a procedure
@@ -88,7 +88,7 @@ module _ (g : Compiled) where
       let f : i ≡ j = cc in
       let h : S ≡ R = cc in
       let test = eq-eqb i j f in
-      subst (λ (b : Bool). Moves g 0 1 c (cond b (focused (code_at p) (record s { contexts = cs })) sticks)) (sym test)
+      subst (λ (b : Bool). MovesIn g (extra g) 0 1 c (cond b (focused (code_at p) (record s { contexts = cs })) sticks)) (sym test)
       (one_move g (step ∙ ap (λ (b : Bool). cond b (copy.focused q (record c { contexts = xs })) copy.sticks) test) (omega arith) (
         R,
         (a, rank-two a.1),
@@ -106,6 +106,6 @@ module _ (g : Compiled) where
       let typed : datum_atom v ≡ data_atom X = i ∙ ap (λ (Y : DataTy). data_atom Y) same in
       one_move g step (omega arith)
       (bound-simulates g (record s { contexts = cs }) (record c { contexts = xs }) n y r (datum v) (lit v at) (only (data_atom X)) b j qs G (end atoms.Comm)
-      (at, refl, λ S some. above-datum X S some ∙ ap end (sym typed)) env node a en (contexts-taken g m s.frames w.0 w.1 cs xs (end atoms.Comm) w.2, w.3, w.4, w.5, w.6))
+      (refl, omega arith, (λ S some. above-datum X S some ∙ ap end (sym typed)), inl (at, refl)) env node a en (contexts-taken g m s.frames w.0 w.1 cs xs (end atoms.Comm) w.2, w.3, w.4, w.5, w.6))
   accept-meets n y r b at j qs G X P s c e node a en env k x Q m cs xs step held w =
       let f = sym (assignment_asked X e) ∙ held-asked g held in absurd cc

@@ -1,5 +1,6 @@
 -- The code of a phrase does what the copy rule does, and is never without a step.
-use Rattle.std.specs.Prelude.{ℕ, ◌+◌, ◌*◌, ◌≤◌, ◌≡◌, ◌≢◌, ◌⊎◌, ◌++◌}
+use Rattle.std.specs.Prelude.{ℕ, ◌+◌, ◌*◌, ◌≤◌, ◌≡◌, ◌≢◌, ◌⊎◌, ◌++◌, Option, Some}
+use Rattle.fy_base.specs.declared.data.Datum.{Datum}
 use Rattle.fy_base.specs.Outside.{Bytes}
 use Rattle.fy_phrase.specs.declared.shapes.ShapeTable.{ShapeTable}
 use Rattle.fy_phrase.specs.Tree.{Tree}
@@ -9,6 +10,7 @@ use Rattle.fy_phrase.specs.Copy.{copy_after}
 use Rattle.fy_phrase.specs.Copy as copy
 use Rattle.pe_code.specs.declared.code.PeCode.{PeCode}
 use Rattle.pe_machine.specs.Run.{PeRun, Standing, going, ended, faulted, stuck, gone, pe_after}
+use Rattle.pe_right.specs.Constants.{constant}
 use Rattle.pe_right.specs.ReadsBack.{ReadsBack}
 use Rattle.pe_right.specs.Right.{IsCodeOf}
 use Rattle.pe_right.specs.Typed.{IsTableOf}
@@ -27,18 +29,18 @@ StandNearlyAlike going t = (t ≡ copy.going) ⊎ (t ≡ copy.ended)
 StandNearlyAlike s t = StandAlike s t
 
 -- the run of the machine is the run of the copy rule, and its load is at most the copy rule's
-pub record RunReadsBack (p : Tree) (code : PeCode) (r : PeRun) (c : copy.CopyRun) : Type 0 where
-  pub state : ReadsBack p code r.state c.state
+pub record RunReadsBack (handed : Tree → Option Datum) (p : Tree) (code : PeCode) (r : PeRun) (c : copy.CopyRun) : Type 0 where
+  pub state : ReadsBack handed p code r.state c.state
   pub standing : StandNearlyAlike r.standing c.standing
   pub input : r.input ≡ c.input
   pub output : r.output ≡ c.output
   pub load : r.state.load ≤ c.state.load
 
 -- after n steps the machine is where the copy rule is after some number of steps, which a product bounds
-pub record IsReached (p : Tree) (code : PeCode) (input : Bytes) (n : ℕ) : Type 0 where
+pub record IsReached (handed : Tree → Option Datum) (p : Tree) (code : PeCode) (input : Bytes) (n : ℕ) : Type 0 where
   pub steps : ℕ
   pub few : steps ≤ n * (nodes p + 1)
-  pub same : RunReadsBack p code (pe_after code input n) (copy_after p input steps)
+  pub same : RunReadsBack handed p code (pe_after code input n) (copy_after p input steps)
 
 -- one run is at least as far as another: it has put as much, and it stands alike, with the same output and rest of input, where the other is over
 pub record IsAsFarAs (r : PeRun) (c : copy.CopyRun) : Type 0 where
@@ -46,14 +48,15 @@ pub record IsAsFarAs (r : PeRun) (c : copy.CopyRun) : Type 0 where
   pub output : r.output ≡ c.output ++ more
   pub over : c.standing ≢ copy.going → StandAlike r.standing c.standing × (r.output ≡ c.output) × (r.input ≡ c.input)
 
--- the code follows the copy rule of the phrase, is as far after three times the steps and three more, and a step is always defined and finds its frames
-pub record FollowsCopyRule (p : Tree) (code : PeCode) : Type 0 where
-  pub reads_back : (input : Bytes) (n : ℕ) → IsReached p code input n
+-- the code, which hands data as told, follows the copy rule of the phrase, is as far after three times the steps and three more, and a step is always defined and finds its frames
+pub record FollowsCopyRule (handed : Tree → Option Datum) (p : Tree) (code : PeCode) : Type 0 where
+  pub reads_back : (input : Bytes) (n : ℕ) → IsReached handed p code input n
   pub keeps_up : (input : Bytes) (m : ℕ) → IsAsFarAs (pe_after code input (3 * (m + 1))) (copy_after p input m)
   pub never_stuck : (input : Bytes) (n : ℕ) → (pe_after code input n).standing ≢ stuck
   pub never_gone : (input : Bytes) (n : ℕ) → (pe_after code input n).standing ≢ gone
 
--- right code for a closed phrase and the table of an accepted derivation does so
+-- right code for a closed phrase and the table of an accepted derivation does so, where the data that are known are those of constants
 abbrev pub RightCodeFollows : Type 0
 RightCodeFollows =
-    (p : Tree) (table : ShapeTable) (code : PeCode) → IsClosed p → HasDepths p → IsTableOf p table → IsCodeOf p table code → FollowsCopyRule p code
+    (handed : Tree → Option Datum) (p : Tree) (table : ShapeTable) (code : PeCode) → ((q : Tree) (v : Datum) → handed q ≡ Some v → constant q ≡ Some v) →
+    IsClosed p → HasDepths p → IsTableOf p table → IsCodeOf handed p table code → FollowsCopyRule handed p code

@@ -2,6 +2,7 @@
 -- stands for what its frame does.
 use Rattle.std.specs.Prelude.{ℕ, ◌≡◌, ◌⊎◌, false, List, [], ◌∷◌, Option, Some, None}
 use Rattle.fy_base.specs.declared.data.Place.{Place}
+use Rattle.fy_base.specs.declared.data.Datum.{Datum}
 use Rattle.fy_phrase.specs.declared.phrase.MarkKind.TheVariants as marks
 use Rattle.fy_phrase.specs.Tree.{Tree, Trees, lit, skip, mark, no_trees, and_tree}
 use Rattle.fy_phrase.specs.Contexts.{CopyContext, op_1, op_l, op_r, if_c, case_c, arg_c, pick_c, then_c, assign_c, store_c, while_c, body_c, loop_c, new_c, drop_c, put_c, esc_c, Pushed}
@@ -13,11 +14,12 @@ use Rattle.pe_code.specs.Code.{item_at, entry_of, picked_from}
 use Rattle.pe_machine.specs.States.{Pointer, Thunk, source, datum, cell_of, jump_of, Binding, to_thunk, to_cell, to_escape, Frame, Focus, code_at, value, completed, PeContext, Held, PeState, oldest, is_named}
 use Rattle.pe_right.specs.Closing.{closed_by}
 
-module _ (p : Tree) (code : PeCode) where
-  -- a thunk stands for its node, closed by what its frame stands for, which E says
+-- `handed` tells for which arguments and definitions the code has a datum
+module _ (handed : Tree → Option Datum) (p : Tree) (code : PeCode) where
+  -- a thunk stands for its node, closed by what its frame stands for, which E says, and a datum for its literal, or for a phrase that the code hands as this datum
   abbrev pub ThunkStands : (Option ℕ → List Tree → Type 0) → Thunk → Tree → Type 0
   ThunkStands E (source k r) q = (node : Tree) × (qs : List Tree) × IsNodeAt 0 p k node × E r qs × (q ≡ closed_by 0 qs node)
-  ThunkStands E (datum v) q = (at : Place) × (q ≡ lit v at)
+  ThunkStands E (datum v) q = ((at : Place) × (q ≡ lit v at)) ⊎ (handed q ≡ Some v)
   ThunkStands E (cell_of n) q = (at : Place) × (q ≡ mark (marks.Cell n) at)
   ThunkStands E (jump_of n) q = (at : Place) × (q ≡ mark (marks.Jump n) at)
 
@@ -95,7 +97,7 @@ cells_in [] = []
 cells_in (f ∷ fs) = with_cell_of f.number f.binding (cells_in fs)
 
 -- the state of the machine stands for the copy state; places of literals, finished commands and marks that a step made are open, and numbers of cells and escapes are the same on both sides
-pub record ReadsBack (p : Tree) (code : PeCode) (s : PeState) (c : CopyState) : Type 0 where
-  pub focus : FocusStands p code s.frames s.focus c.focus
-  pub contexts : ContextsStand p code s.frames s.contexts c.contexts
+pub record ReadsBack (handed : Tree → Option Datum) (p : Tree) (code : PeCode) (s : PeState) (c : CopyState) : Type 0 where
+  pub focus : FocusStands handed p code s.frames s.focus c.focus
+  pub contexts : ContextsStand handed p code s.frames s.contexts c.contexts
   pub store : c.store ≡ cells_in s.frames

@@ -111,56 +111,63 @@ module _ (table : ShapeTable) (code : PeCode) where
     and_part : {k y : ℕ} {p : Tree} {ps : Trees} {s : PlainShape} {ys : List ℕ} →
         Enters k s y → EachEnters (k + nodes p) ps s ys → EachEnters k (and_tree p ps) s (y ∷ ys)
 
+-- `handed` tells of which arguments and definitions a datum is known
+module _ (handed : Tree → Option Datum) (table : ShapeTable) (code : PeCode) where
   -- the instruction of a form that is node k and is demanded at a shape; its parts are entered at what it passes to them
   pub data IsInsnOf : ℕ → Tree → PlainShape → PeInsn → Type 0 where
     of_var : {k j n : ℕ} {at : Place} {s : PlainShape} → shape_at table n ≡ Some s → IsInsnOf k (var j at) s (insn.UseVar j n)
     of_lit : {k : ℕ} {v : Datum} {at : Place} {s : PlainShape} → IsInsnOf k (lit v at) s (insn.Answer v)
     of_unary : {k x : ℕ} {op : UnOp} {p : Tree} {at : Place} {s : PlainShape} →
-        Enters (k + 1) (at_end a_value) x → IsInsnOf k (unary op p at) s (insn.Op1 op x)
+        Enters table code (k + 1) (at_end a_value) x → IsInsnOf k (unary op p at) s (insn.Op1 op x)
     of_binary : {k x y : ℕ} {op : BinOp} {p q : Tree} {at : Place} {s : PlainShape} →
-        Enters (k + 1) (at_end a_value) x → Enters (k + 1 + nodes p) (at_end a_value) y → IsInsnOf k (binary op p q at) s (insn.Op2 op x y)
+        Enters table code (k + 1) (at_end a_value) x → Enters table code (k + 1 + nodes p) (at_end a_value) y → IsInsnOf k (binary op p q at) s (insn.Op2 op x y)
     of_cond : {k x y z : ℕ} {b p q : Tree} {at : Place} {s : PlainShape} →
-        Enters (k + 1) (at_end a_value) x → Enters (k + 1 + nodes b) s y → Enters (k + 1 + nodes b + nodes p) s z →
+        Enters table code (k + 1) (at_end a_value) x → Enters table code (k + 1 + nodes b) s y → Enters table code (k + 1 + nodes b + nodes p) s z →
         IsInsnOf k (cond b p q at) s (insn.Cond x y z)
     of_case : {k x : ℕ} {ys : List ℕ} {e : Tree} {parts : Trees} {at : Place} {s : PlainShape} →
-        Enters (k + 1) (at_end a_value) x → EachEnters (k + 1 + nodes e) parts s ys → IsInsnOf k (case e parts at) s (insn.Case x ys)
+        Enters table code (k + 1) (at_end a_value) x → EachEnters table code (k + 1 + nodes e) parts s ys → IsInsnOf k (case e parts at) s (insn.Case x ys)
     of_lam : {k d y : ℕ} {As : PlainTypes} {b : Tree} {at : Place} {s : PlainShape} →
-        Enters (k + 1) s y → IsInsnOf k (lam d As b at) (a_call s) (insn.Bind y)
+        Enters table code (k + 1) s y → IsInsnOf k (lam d As b at) (a_call s) (insn.Bind y)
     -- an argument that is a variable has no thunk of its own
     of_app : {k y : ℕ} {p q : Tree} {at : Place} {s : PlainShape} →
-        is_variable q ≡ None → Enters (k + 1) (a_call s) y → IsInsnOf k (app p q at) s (insn.Pass (k + 1 + nodes p) y)
+        is_variable q ≡ None → handed q ≡ None → Enters table code (k + 1) (a_call s) y → IsInsnOf k (app p q at) s (insn.Pass (k + 1 + nodes p) y)
     of_app_variable : {k j y : ℕ} {p q : Tree} {at : Place} {s : PlainShape} →
-        is_variable q ≡ Some j → Enters (k + 1) (a_call s) y → IsInsnOf k (app p q at) s (insn.PassVar j y)
+        is_variable q ≡ Some j → Enters table code (k + 1) (a_call s) y → IsInsnOf k (app p q at) s (insn.PassVar j y)
+    -- and one of which a datum is known is that datum
+    of_app_datum : {k y : ℕ} {p q : Tree} {v : Datum} {at : Place} {s : PlainShape} →
+        handed q ≡ Some v → Enters table code (k + 1) (a_call s) y → IsInsnOf k (app p q at) s (insn.PassData v y)
     of_field : {k i x : ℕ} {p : Tree} {at : Place} {s : PlainShape} →
-        Enters (k + 1) s x → IsInsnOf k (field i p at) (a_field i s) (insn.Field i x)
+        Enters table code (k + 1) s x → IsInsnOf k (field i p at) (a_field i s) (insn.Field i x)
     of_sel : {k i x : ℕ} {p : Tree} {at : Place} {s : PlainShape} →
-        Enters (k + 1) (a_field i s) x → IsInsnOf k (sel p i at) s (insn.Pick i x)
+        Enters table code (k + 1) (a_field i s) x → IsInsnOf k (sel p i at) s (insn.Pick i x)
     -- nor has a definition that is one
     of_let : {k d y : ℕ} {p b : Tree} {at : Place} {s : PlainShape} →
-        is_variable p ≡ None → Enters (k + 1 + nodes p) s y → IsInsnOf k (let_in d p b at) s (insn.Let (k + 1) y)
+        is_variable p ≡ None → handed p ≡ None → Enters table code (k + 1 + nodes p) s y → IsInsnOf k (let_in d p b at) s (insn.Let (k + 1) y)
     of_let_variable : {k d j y : ℕ} {p b : Tree} {at : Place} {s : PlainShape} →
-        is_variable p ≡ Some j → Enters (k + 1 + nodes p) s y → IsInsnOf k (let_in d p b at) s (insn.LetVar j y)
+        is_variable p ≡ Some j → Enters table code (k + 1 + nodes p) s y → IsInsnOf k (let_in d p b at) s (insn.LetVar j y)
+    of_let_datum : {k d y : ℕ} {p b : Tree} {v : Datum} {at : Place} {s : PlainShape} →
+        handed p ≡ Some v → Enters table code (k + 1 + nodes p) s y → IsInsnOf k (let_in d p b at) s (insn.LetData v y)
     of_rec : {k d y : ℕ} {T : PlainType} {b : Tree} {at : Place} {s : PlainShape} →
-        Enters (k + 1) s y → IsInsnOf k (rec d T b at) s (insn.Knot k y)
+        Enters table code (k + 1) s y → IsInsnOf k (rec d T b at) s (insn.Knot k y)
     of_skip : {k : ℕ} {at : Place} {s : PlainShape} → IsInsnOf k (skip at) s insn.Done
     of_seq : {k x y : ℕ} {p q : Tree} {at : Place} {s : PlainShape} →
-        Enters (k + 1) (at_end a_run) x → Enters (k + 1 + nodes p) (at_end a_run) y → IsInsnOf k (seq p q at) s (insn.Seq x y)
+        Enters table code (k + 1) (at_end a_run) x → Enters table code (k + 1 + nodes p) (at_end a_run) y → IsInsnOf k (seq p q at) s (insn.Seq x y)
     of_assign : {k x y : ℕ} {p q : Tree} {at : Place} {s : PlainShape} →
-        Enters (k + 1) (at_end an_assignment) x → Enters (k + 1 + nodes p) (at_end a_value) y → IsInsnOf k (assign p q at) s (insn.Assign x y)
+        Enters table code (k + 1) (at_end an_assignment) x → Enters table code (k + 1 + nodes p) (at_end a_value) y → IsInsnOf k (assign p q at) s (insn.Assign x y)
     of_while : {k x y : ℕ} {b c : Tree} {at : Place} {s : PlainShape} →
-        Enters (k + 1) (at_end a_value) x → Enters (k + 1 + nodes b) (at_end a_run) y → IsInsnOf k (while_do b c at) s (insn.While x y)
+        Enters table code (k + 1) (at_end a_value) x → Enters table code (k + 1 + nodes b) (at_end a_run) y → IsInsnOf k (while_do b c at) s (insn.While x y)
     of_forever : {k x : ℕ} {c : Tree} {at : Place} {s : PlainShape} →
-        Enters (k + 1) (at_end a_run) x → IsInsnOf k (forever c at) s (insn.Loop x)
+        Enters table code (k + 1) (at_end a_run) x → IsInsnOf k (forever c at) s (insn.Loop x)
     of_new : {k d x y : ℕ} {D : DataTy} {e b : Tree} {at : Place} {s : PlainShape} →
-        Enters (k + 1) (at_end a_value) x → Enters (k + 1 + nodes e) (at_end a_run) y → IsInsnOf k (new d D e b at) s (insn.New x y)
+        Enters table code (k + 1) (at_end a_value) x → Enters table code (k + 1 + nodes e) (at_end a_run) y → IsInsnOf k (new d D e b at) s (insn.New x y)
     of_escape : {k d x : ℕ} {b : Tree} {at : Place} {s : PlainShape} →
-        Enters (k + 1) (at_end a_run) x → IsInsnOf k (escape d b at) s (insn.Escape x)
+        Enters table code (k + 1) (at_end a_run) x → IsInsnOf k (escape d b at) s (insn.Escape x)
     of_accept : {k d x : ℕ} {D : DataTy} {b : Tree} {at : Place} {s : PlainShape} →
-        Enters (k + 1) (at_end a_run) x → IsInsnOf k (accept d D b at) s (insn.Accept x)
+        Enters table code (k + 1) (at_end a_run) x → IsInsnOf k (accept d D b at) s (insn.Accept x)
     of_put : {k x : ℕ} {kind : PutKind} {p : Tree} {at : Place} {s : PlainShape} →
-        Enters (k + 1) (at_end a_value) x → IsInsnOf k (put kind p at) s (insn.Put kind x)
+        Enters table code (k + 1) (at_end a_value) x → IsInsnOf k (put kind p at) s (insn.Put kind x)
     of_read : {k x : ℕ} {p : Tree} {at : Place} {s : PlainShape} →
-        Enters (k + 1) (at_end an_assignment) x → IsInsnOf k (read p at) s (insn.Read x)
+        Enters table code (k + 1) (at_end an_assignment) x → IsInsnOf k (read p at) s (insn.Read x)
 
   -- the item of a form with d binders around it
   pub record IsItemOf (d k : ℕ) (q : Tree) (s : PlainShape) (item : PeItem) : Type 0 where
@@ -171,16 +178,16 @@ module _ (table : ShapeTable) (code : PeCode) where
   -- what stands where node k is entered at a shape: a merge is entered where the operand that takes the demand is, every other form at its own item
   abbrev pub IsRightAt : (d k : ℕ) → Tree → PlainShape → ℕ → Type 0
   IsRightAt d k (merge p q at) s a =
-      (kind : Kind) × (kind_of q ≡ Some kind) × ((shape_begins kind s ≡ true) × Enters (k + 1 + nodes p) s a ⊎ (shape_begins kind s ≡ false) × Enters (k + 1) s a)
+      (kind : Kind) × (kind_of q ≡ Some kind) × ((shape_begins kind s ≡ true) × Enters table code (k + 1 + nodes p) s a ⊎ (shape_begins kind s ≡ false) × Enters table code (k + 1) s a)
   IsRightAt d k q s a = (item : PeItem) × (item_at code a ≡ Some item) × IsItemOf d k q s item
 
--- the code is that of the phrase and the table
-pub record IsCodeOf (p : Tree) (table : ShapeTable) (code : PeCode) : Type 0 where
+-- the code is that of the phrase and the table, with the data that are known in place of thunks
+pub record IsCodeOf (handed : Tree → Option Datum) (p : Tree) (table : ShapeTable) (code : PeCode) : Type 0 where
   -- there is an entry for each pair of the table, and for no other
   pub entries : (k n : ℕ) → (((i : ℕ) × (slice_get table.pairs i ≡ Some (record { node = k; shape = n }))) ↔ ((a : ℕ) × (entry_of code k n ≡ Some a)))
   -- the program's own entry is item 0
   pub program : Enters table code 0 (at_end a_run) 0
-  pub right : (d k a : ℕ) (q : Tree) (s : PlainShape) → IsNodeUnder 0 0 p d k q → Enters table code k s a → IsRightAt table code d k q s a
+  pub right : (d k a : ℕ) (q : Tree) (s : PlainShape) → IsNodeUnder 0 0 p d k q → Enters table code k s a → IsRightAt handed table code d k q s a
   pub shapes : code.shapes ≡ length table.shapes
   pub assignment : (n : ℕ) → (code.assignment ≡ Some n) ↔ (shape_at table n ≡ Some (at_end an_assignment))
   pub thunks : code.thunks ≡ thunk_nodes 0 p

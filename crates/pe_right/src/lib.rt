@@ -3,4 +3,4 @@
 
 mod laws;
 
-pub use laws::right_code_follows_the_copy_rule;
+pub use laws::{direct_code_keeps_ahead, right_code_follows_the_copy_rule};
