@@ -20,6 +20,7 @@ use Rattle.pe_gen.specs.declared.steps.ShapeStep.{ShapeStep}
 use Rattle.pe_gen.specs.declared.steps.ShapeStep.TheVariants.{End}
 use Rattle.pe_gen.specs.Plan.{nodes_in, IsPlan, IsSite, IsItemIn}
 use Rattle.pe_gen.specs.Preorder.{preorder, thunks_from}
+use Rattle.pe_right.specs.Constants.{no_data}
 use Rattle.pe_right.specs.Right.{IsItemOf}
 use Rattle.pe_gen.specs.Sites.{is_merge, pair, Stands, IsPlain, AreWithin, AreSites, LandAmong, ArePassed, AreEntries}
 use Rattle.pe_gen.specs.Steps.{AreSteps}
@@ -160,7 +161,7 @@ module _ (p : Tree) (table : ShapeTable) (ns : List (ℕ × Tree)) (steps : List
       entries = subst (λ es. AreEntries (preorder 0 p) table.shapes pairs sites es) (sym is_entries) (subst (λ xs. AreEntries xs table.shapes pairs sites plan.entries) b.made entries);
       all = every;
       items = λ i x item at here d q s node is.
-          subst (λ u. IsItemOf u code d x.node q s item) is_table
+          subst (λ u. IsItemOf no_data u code d x.node q s item) is_table
           (items i x item at here d q s (ap (λ xs. slice_get xs x.node) (is_nodes ∙ b.made) ∙ node) (subst (λ u. shape_at u x.shape ≡ Some s) (sym is_table) is) code is_entries);
       shapes = shapes;
       assignment = λ n. (named code.assignment assignment n, unnamed code.assignment assignment n);

@@ -12,6 +12,7 @@ use Rattle.pe_code.specs.declared.code.PeCode.{PeCode}
 use Rattle.pe_code.specs.declared.code.PeItem.{PeItem}
 use Rattle.pe_code.specs.Code.{item_at, entry_of}
 use Rattle.pe_gen.specs.Preorder.{preorder}
+use Rattle.pe_right.specs.Constants.{no_data}
 use Rattle.pe_right.specs.Right.{IsNodeUnder, itself, thunk_nodes, Enters, IsItemOf, IsRightAt, IsCodeOf}
 use Rattle.pe_gen.specs.Sites.{is_merge, taken_by, landing, pair, Stands, AreSites, AreEntries}
 use Rattle.pe_gen.proofs.EntryLists.{pair_same, address-of, address-from}
@@ -38,7 +39,7 @@ pub record IsMade (p : Tree) (table : ShapeTable) (code : PeCode) : Type 0 where
   pub all : length code.items ≡ length places
   pub items : (i : ℕ) (x : Pair) (item : PeItem) → slice_get places i ≡ Some x → slice_get code.items i ≡ Some item →
       (d : ℕ) (q : Tree) (s : PlainShape) → slice_get (preorder 0 p) x.node ≡ Some (d, q) → shape_at table x.shape ≡ Some s →
-      IsItemOf table code d x.node q s item
+      IsItemOf no_data table code d x.node q s item
   pub shapes : code.shapes ≡ length table.shapes
   pub assignment : (n : ℕ) → (code.assignment ≡ Some n) ↔ (shape_at table n ≡ Some (at_end an_assignment))
   pub thunks : code.thunks ≡ thunk_nodes 0 p
@@ -93,13 +94,13 @@ module _ (p : Tree) (table : ShapeTable) (code : PeCode) (made : IsMade p table 
 
   -- the item of a form that is no merge
   item-right : (d k n a : ℕ) (q : Tree) (s : PlainShape) → IsNodeUnder 0 0 p d k q → shape_at table n ≡ Some s → entry_of code k n ≡ Some a → is_merge q ≡ false →
-      (item : PeItem) × (item_at code a ≡ Some item) × IsItemOf table code d k q s item
+      (item : PeItem) × (item_at code a ≡ Some item) × IsItemOf no_data table code d k q s item
   item-right d k n a q s node is at whole =
       let site = leads d k n a q s node is at ∙ ap (λ m. Some (pair m n)) (landing-plain k q s whole) in
       let x = get-some code.items a (let h = get-within made.places a (pair k n) site in omega (arith, made.all)) in
       (x.0, x.1, made.items a (pair k n) x.0 site x.1 d q s (node-placed node) is)
 
-  pub right-at : (q : Tree) (d k a : ℕ) (s : PlainShape) → IsNodeUnder 0 0 p d k q → Enters table code k s a → IsRightAt table code d k q s a
+  pub right-at : (q : Tree) (d k a : ℕ) (s : PlainShape) → IsNodeUnder 0 0 p d k q → Enters table code k s a → IsRightAt no_data table code d k q s a
   right-at (merge q r at) d k a s node enters =
       let kind = operand-kind r (node-scoped node made.scoped).made.1 in
       (kind.0, kind.1, by kind.0 kind.1 (taken_by r s) refl)
@@ -122,7 +123,7 @@ module _ (p : Tree) (table : ShapeTable) (code : PeCode) (made : IsMade p table 
           )
   right-at q d k a s node enters = item-right d k enters.0 a q s node enters.1 enters.2 refl
 
-  pub code-of : IsCodeOf p table code
+  pub code-of : IsCodeOf no_data p table code
   code-of = record {
     entries = λ k n. (λ at. entered k n at, λ at. entry-pair k n at.0 at.1);
     program =
@@ -153,7 +154,7 @@ pub record HasSite (p : Tree) (table : ShapeTable) (code : PeCode) (places : Lis
   pub node : IsNodeUnder 0 0 p depth site.node form
   pub whole : is_merge form ≡ false
   pub is : shape_at table site.shape ≡ Some shape
-  pub its : IsItemOf table code depth site.node form shape item
+  pub its : IsItemOf no_data table code depth site.node form shape item
 
 pub site-of : (p : Tree) (table : ShapeTable) (code : PeCode) (made : IsMade p table code) (i : ℕ) (item : PeItem) → slice_get code.items i ≡ Some item →
     HasSite p table code made.places i item

@@ -9,7 +9,8 @@ use Rattle.fy_derive.specs.Shapes.{PlainShape}
 use Rattle.pe_code.specs.declared.code.PeCode.{PeCode}
 use Rattle.pe_code.specs.declared.code.PeInsn.{PeInsn}
 use Rattle.pe_code.specs.Code.{body_of}
-use Rattle.pe_right.specs.Right.{with_depth, parts_under, IsNodeUnder, itself, in_part, IsNodeAmongUnder, in_first, in_later, IsInsnOf, of_var, of_lit, of_unary, of_binary, of_cond, of_case, of_lam, of_app, of_app_variable, of_field, of_sel, of_let, of_let_variable, of_rec, of_skip, of_seq, of_assign, of_while, of_forever, of_new, of_escape, of_accept, of_put, of_read}
+use Rattle.pe_right.specs.Constants.{no_data}
+use Rattle.pe_right.specs.Right.{with_depth, parts_under, IsNodeUnder, itself, in_part, IsNodeAmongUnder, in_first, in_later, IsInsnOf, of_var, of_lit, of_unary, of_binary, of_cond, of_case, of_lam, of_app, of_app_variable, of_app_datum, of_field, of_sel, of_let, of_let_variable, of_let_datum, of_rec, of_skip, of_seq, of_assign, of_while, of_forever, of_new, of_escape, of_accept, of_put, of_read}
 use Rattle.pe_gen.specs.Sizes.{HasSizesOf}
 use Rattle.pe_gen.proofs.CodeLemmas.{IsMade, site-of}
 use Rattle.pe_gen.proofs.ScopeLemmas.{node-scoped}
@@ -64,7 +65,7 @@ mutual
 -- ---- the frame that a form's item makes is that of its binder
 
 module _ (table : ShapeTable) (code : PeCode) where
-  frame-depth : (d k : ℕ) (q : Tree) (s : PlainShape) (o : PeInsn) → HasDepthsUnder d q → IsInsnOf table code k q s o → ForSome (body_of o) (λ body. d ≤ depth q)
+  frame-depth : (d k : ℕ) (q : Tree) (s : PlainShape) (o : PeInsn) → HasDepthsUnder d q → IsInsnOf no_data table code k q s o → ForSome (body_of o) (λ body. d ≤ depth q)
   frame-depth d k q s o h (of_var is) = λ x e. absurd cc
   frame-depth d k q s o h of_lit = λ x e. absurd cc
   frame-depth d k q s o h (of_unary ex) = λ x e. absurd cc
@@ -72,12 +73,14 @@ module _ (table : ShapeTable) (code : PeCode) where
   frame-depth d k q s o h (of_cond ex ey ez) = λ x e. absurd cc
   frame-depth d k q s o h (of_case ex each) = λ x e. absurd cc
   frame-depth d k q s o h (of_lam ey) = λ body e. let at = h.0 in omega arith
-  frame-depth d k q s o h (of_app plain ey) = λ x e. absurd cc
+  frame-depth d k q s o h (of_app plain none ey) = λ x e. absurd cc
   frame-depth d k q s o h (of_app_variable named ey) = λ x e. absurd cc
+  frame-depth d k q s o h (of_app_datum known ey) = λ x e. absurd cc
   frame-depth d k q s o h (of_field ex) = λ x e. absurd cc
   frame-depth d k q s o h (of_sel ex) = λ x e. absurd cc
-  frame-depth d k q s o h (of_let plain ey) = λ body e. let at = h.0 in omega arith
+  frame-depth d k q s o h (of_let plain none ey) = λ body e. let at = h.0 in omega arith
   frame-depth d k q s o h (of_let_variable named ey) = λ body e. let at = h.0 in omega arith
+  frame-depth d k q s o h (of_let_datum known ey) = λ body e. let at = h.0 in omega arith
   frame-depth d k q s o h (of_rec ey) = λ body e. let at = h.0 in omega arith
   frame-depth d k q s o h of_skip = λ x e. absurd cc
   frame-depth d k q s o h (of_seq ex ey) = λ x e. absurd cc

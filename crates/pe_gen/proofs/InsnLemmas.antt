@@ -64,7 +64,7 @@ module _ (plan : Plan) (k : ℕ) where
   pub app-insn : (p q : Tree) (at : Place) (s : PlainShape) (j y : ℕ) → is_variable q ≡ None → j ≡ k + 1 + nodes p → In (k + 1) (a_call s) y →
       IsInsnIn plan k (app p q at) s (insn.Pass j y)
   app-insn p q at s j y v e a =
-      subst (λ m. IsInsnIn plan k (app p q at) s (insn.Pass m y)) (sym e) (λ code same. of_app v (enters (k + 1) (k + 1) (a_call s) y refl a code same))
+      subst (λ m. IsInsnIn plan k (app p q at) s (insn.Pass m y)) (sym e) (λ code same. of_app v refl (enters (k + 1) (k + 1) (a_call s) y refl a code same))
 
   pub app-variable-insn : (p q : Tree) (at : Place) (s : PlainShape) (j y : ℕ) → is_variable q ≡ Some j → In (k + 1) (a_call s) y →
       IsInsnIn plan k (app p q at) s (insn.PassVar j y)
@@ -78,7 +78,7 @@ module _ (plan : Plan) (k : ℕ) where
 
   pub let-insn : (d : ℕ) (p b : Tree) (at : Place) (s : PlainShape) (j y : ℕ) → is_variable p ≡ None → j ≡ k + 1 + nodes p → In j s y →
       IsInsnIn plan k (let_in d p b at) s (insn.Let (k + 1) y)
-  let-insn d p b at s j y v e a = λ code same. of_let v (enters j _ s y e a code same)
+  let-insn d p b at s j y v e a = λ code same. of_let v refl (enters j _ s y e a code same)
 
   pub let-variable-insn : (d : ℕ) (p b : Tree) (at : Place) (s : PlainShape) (i j y : ℕ) → is_variable p ≡ Some i → j ≡ k + 1 + nodes p → In j s y →
       IsInsnIn plan k (let_in d p b at) s (insn.LetVar i y)

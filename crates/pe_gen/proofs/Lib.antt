@@ -24,3 +24,7 @@ pub mod CodeLemmas
 pub mod PartLemmas
 pub mod SoundLemmas
 pub mod FrameLemmas
+pub mod KeptLemmas
+pub mod CopyLemmas
+pub mod HandingLemmas
+pub mod DirectLemmas

@@ -13,6 +13,7 @@ use Rattle.pe_code.specs.declared.code.PeInsn.{PeInsn}
 use Rattle.pe_code.specs.declared.code.PeItem.{PeItem}
 use Rattle.pe_code.specs.Code.{picked_from}
 use Rattle.pe_code.specs.Valid.{all_picked_from}
+use Rattle.pe_right.specs.Constants.{no_data}
 use Rattle.pe_right.specs.Right.{with_depth, parts_under, IsNodeUnder, itself, in_part, IsNodeAmongUnder, in_first, in_later, Enters, EachEnters, no_parts, and_part, IsInsnOf, of_case}
 use Rattle.pe_gen.specs.Sites.{is_merge, taken_by, landing, pair, Stands}
 use Rattle.pe_gen.proofs.CodeLemmas.{IsMade, leads, site-of}
@@ -193,13 +194,13 @@ module _ (p : Tree) (table : ShapeTable) (code : PeCode) (made : IsMade p table 
       (each-once d (k + nodes q) ps s ys rest (λ u a part. here u a (later_part part)))
 
   -- what an instruction picks from are parts of its form
-  picked-part : (d k : ℕ) (q : Tree) (s : PlainShape) (o : PeInsn) → IsInsnOf table code k q s o → (x : ℕ) → Stands (picked_from o) x →
+  picked-part : (d k : ℕ) (q : Tree) (s : PlainShape) (o : PeInsn) → IsInsnOf no_data table code k q s o → (x : ℕ) → Stands (picked_from o) x →
       (u : ℕ) × (a : Tree) × IsPartOf (k + 1) (parts_under d q) d u a × Enters table code u s x
   picked-part d k q s o (of_case {ys = ys} {e = e} {parts = parts} enters each) x at =
       let r = each-part d (k + 1 + nodes e) parts s ys each x at in (r.0, r.1, later_part r.2, r.3)
   picked-part d k q s o its x at = absurd (none-stands at)
 
-  picked-apart : (d k : ℕ) (q : Tree) (s : PlainShape) (o : PeInsn) → IsNodeUnder 0 0 p d k q → IsInsnOf table code k q s o → AreKeysOnce (picked_from o)
+  picked-apart : (d k : ℕ) (q : Tree) (s : PlainShape) (o : PeInsn) → IsNodeUnder 0 0 p d k q → IsInsnOf no_data table code k q s o → AreKeysOnce (picked_from o)
   picked-apart d k q s o node (of_case {ys = ys} {e = e} {parts = parts} enters each) =
       each-once d (k + 1 + nodes e) parts s ys each (λ u a part. part-within ((d, e) ∷ with_depth d parts) node refl (in_later (part-among part)))
   picked-apart d k q s o node its = λ m n x a b. absurd cc

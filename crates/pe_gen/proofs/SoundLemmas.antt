@@ -19,7 +19,8 @@ use Rattle.pe_code.specs.declared.code.PeItem.{PeItem}
 use Rattle.pe_code.specs.Code.{entry_of, beside, body_of, variable_of, shape_of, node_of}
 use Rattle.pe_code.specs.Valid.{LeadsTo, IsThunkNode, IsSoundItem, IsSoundEntry, IsValid}
 use Rattle.pe_gen.specs.Preorder.{own_thunks}
-use Rattle.pe_right.specs.Right.{with_depth, is_variable, IsNodeUnder, itself, IsNodeAmongUnder, in_first, in_later, Enters, EachEnters, no_parts, and_part, IsInsnOf, of_var, of_lit, of_unary, of_binary, of_cond, of_case, of_lam, of_app, of_app_variable, of_field, of_sel, of_let, of_let_variable, of_rec, of_skip, of_seq, of_assign, of_while, of_forever, of_new, of_escape, of_accept, of_put, of_read}
+use Rattle.pe_right.specs.Constants.{no_data}
+use Rattle.pe_right.specs.Right.{with_depth, is_variable, IsNodeUnder, itself, IsNodeAmongUnder, in_first, in_later, Enters, EachEnters, no_parts, and_part, IsInsnOf, of_var, of_lit, of_unary, of_binary, of_cond, of_case, of_lam, of_app, of_app_variable, of_app_datum, of_field, of_sel, of_let, of_let_variable, of_let_datum, of_rec, of_skip, of_seq, of_assign, of_while, of_forever, of_new, of_escape, of_accept, of_put, of_read}
 use Rattle.pe_gen.specs.Sites.{Stands}
 use Rattle.pe_gen.proofs.CodeLemmas.{IsMade, right-at, code-of, site-of}
 use Rattle.pe_gen.proofs.EntryLists.{address-of}
@@ -110,7 +111,7 @@ module _ (p : Tree) (table : ShapeTable) (code : PeCode) (made : IsMade p table 
   no_thunk : (d : ℕ) → ForSome None (λ n. IsThunkNode code d n)
   no_thunk d = for-none (λ n. IsThunkNode code d n)
 
-  sound-insn : (d k : ℕ) (q : Tree) (s : PlainShape) (o : PeInsn) → IsNodeUnder 0 0 p d k q → IsScoped d q → IsInsnOf table code k q s o → IsSoundInsn d o
+  sound-insn : (d k : ℕ) (q : Tree) (s : PlainShape) (o : PeInsn) → IsNodeUnder 0 0 p d k q → IsScoped d q → IsInsnOf no_data table code k q s o → IsSoundInsn d o
   sound-insn d k q s o node scoped (of_var {n = n} is) =
       record { beside_it = none d; body = no_body d; variable = for-some (λ k. k < d) _ scoped.closed; shape = for-some (λ m. m < code.shapes) n (let h = shape-within table.shapes n s is in omega (arith, made.shapes)); thunk = no_thunk d }
   sound-insn d k q s o node scoped of_lit = record { beside_it = none d; body = no_body d; variable = no_variable d; shape = no_shape; thunk = no_thunk d }
@@ -141,7 +142,7 @@ module _ (p : Tree) (table : ShapeTable) (code : PeCode) (made : IsMade p table 
   }
   sound-insn d k q s o node scoped (of_lam {y = y} {b = b} {s = t} ey) =
       record { beside_it = none d; body = for-some (λ a. LeadsTo code (d + 1) a) y (leads-to b (d + 1) (k + 1) y t (first-part [] node refl) ey); variable = no_variable d; shape = no_shape; thunk = no_thunk d }
-  sound-insn d k q s o node scoped (of_app {y = y} {p = a} {q = b} plain ey) = record {
+  sound-insn d k q s o node scoped (of_app {y = y} {p = a} {q = b} plain unknown ey) = record {
     beside_it = one d y (leads-to a d (k + 1) y _ (first-part ((d, b) ∷ []) node refl) ey);
     body = no_body d;
     variable = no_variable d;
@@ -155,11 +156,13 @@ module _ (p : Tree) (table : ShapeTable) (code : PeCode) (made : IsMade p table 
     shape = no_shape;
     thunk = no_thunk d;
   }
+  sound-insn d k q s o node scoped (of_app_datum {y = y} {p = a} {q = b} known ey) =
+      record { beside_it = one d y (leads-to a d (k + 1) y _ (first-part ((d, b) ∷ []) node refl) ey); body = no_body d; variable = no_variable d; shape = no_shape; thunk = no_thunk d }
   sound-insn d k q s o node scoped (of_field {x = x} {p = a} {s = t} ex) =
       record { beside_it = one d x (leads-to a d (k + 1) x t (first-part [] node refl) ex); body = no_body d; variable = no_variable d; shape = no_shape; thunk = no_thunk d }
   sound-insn d k q s o node scoped (of_sel {x = x} {p = a} ex) =
       record { beside_it = one d x (leads-to a d (k + 1) x _ (first-part [] node refl) ex); body = no_body d; variable = no_variable d; shape = no_shape; thunk = no_thunk d }
-  sound-insn d k q s o node scoped (of_let {y = y} {p = a} {b = b} plain ey) = record {
+  sound-insn d k q s o node scoped (of_let {y = y} {p = a} {b = b} plain unknown ey) = record {
     beside_it = none d;
     body = for-some (λ a. LeadsTo code (d + 1) a) y (leads-to b (d + 1) (k + 1 + nodes a) y s (second-part [] node refl) ey);
     variable = no_variable d;
@@ -170,6 +173,13 @@ module _ (p : Tree) (table : ShapeTable) (code : PeCode) (made : IsMade p table 
     beside_it = none d;
     body = for-some (λ a. LeadsTo code (d + 1) a) y (leads-to b (d + 1) (k + 1 + nodes a) y s (second-part [] node refl) ey);
     variable = for-some (λ k. k < d) j (scope-variable d a j scoped.closed.0 named);
+    shape = no_shape;
+    thunk = no_thunk d;
+  }
+  sound-insn d k q s o node scoped (of_let_datum {y = y} {p = a} {b = b} known ey) = record {
+    beside_it = none d;
+    body = for-some (λ a. LeadsTo code (d + 1) a) y (leads-to b (d + 1) (k + 1 + nodes a) y s (second-part [] node refl) ey);
+    variable = no_variable d;
     shape = no_shape;
     thunk = no_thunk d;
   }

@@ -4,3 +4,5 @@ pub mod Sites
 pub mod Thunks
 pub mod Plan
 pub mod Sizes
+pub mod Handing
+pub mod Generated

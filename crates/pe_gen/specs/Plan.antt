@@ -13,6 +13,7 @@ use Rattle.pe_code.specs.declared.code.PeItem.{PeItem}
 use Rattle.pe_code.specs.Code.{address_in}
 use Rattle.pe_gen.specs.declared.plan.Plan.{Plan}
 use Rattle.pe_gen.specs.Preorder.{seen}
+use Rattle.pe_right.specs.Constants.{no_data}
 use Rattle.pe_right.specs.Right.{EachEnters, IsInsnOf, IsItemOf}
 use Rattle.pe_gen.specs.Sites.{is_merge, Stands, IsListed, IsListing}
 use Rattle.pe_gen.specs.Steps.{AreSteps}
@@ -77,7 +78,7 @@ module _ (plan : Plan) where
 
   -- the instruction of a form, in any code with the plan's entries
   abbrev pub IsInsnIn : ℕ → Tree → PlainShape → PeInsn → Type 0
-  IsInsnIn k p s insn = (code : PeCode) → code.entries ≡ plan.entries → IsInsnOf plan.table.now code k p s insn
+  IsInsnIn k p s insn = (code : PeCode) → code.entries ≡ plan.entries → IsInsnOf no_data plan.table.now code k p s insn
 
   -- each of the parts, from node k on, is entered at the shape at its address, in any such code
   abbrev pub EachEntersIn : ℕ → Trees → PlainShape → List ℕ → Type 0
@@ -87,7 +88,7 @@ module _ (plan : Plan) where
   abbrev pub IsItemIn : Pair → PeItem → Type 0
   IsItemIn x item =
       (d : ℕ) (p : Tree) (s : PlainShape) → slice_get (nodes_in plan) x.node ≡ Some (d, p) → shape_at plan.table.now x.shape ≡ Some s →
-      (code : PeCode) → code.entries ≡ plan.entries → IsItemOf plan.table.now code d x.node p s item
+      (code : PeCode) → code.entries ≡ plan.entries → IsItemOf no_data plan.table.now code d x.node p s item
 
   -- a pair of which there is an item: its node's form, which is no merge, asks something of its parts
   pub record IsSite (x : Pair) : Type 0 where

@@ -1,7 +1,10 @@
 //! Push-enter code of a phrase, from the demand shapes of a derivation.
 #![tactic(auto)]
 
+mod constants;
+mod copying;
 mod generating;
+mod handing;
 mod items;
 mod listing;
 mod nodes;
@@ -11,3 +14,4 @@ mod steps;
 mod thunks;
 
 pub use generating::generate;
+pub use handing::direct;
