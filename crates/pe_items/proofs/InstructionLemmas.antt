@@ -9,7 +9,7 @@ use Rattle.pe_code.specs.declared.code.PeInsn.TheVariants as insn
 use Rattle.pe_code.specs.declared.code.PeItem.{PeItem}
 use Rattle.pe_code.specs.declared.code.PeCode.{PeCode}
 use Rattle.pe_code.specs.Code.{item_at, entry_of}
-use Rattle.pe_machine.specs.States.{Thunk, source, to_thunk, to_escape, Focus, code_at, value, completed, PeState, is_listed, oldest, frame_outside, datum_of}
+use Rattle.pe_machine.specs.States.{Thunk, source, datum, to_thunk, to_escape, Focus, code_at, value, completed, PeState, is_listed, oldest, frame_outside, datum_of}
 use Rattle.pe_machine.specs.Step as machine
 use Rattle.pe_machine.specs.Step.{PeMove, goes, is_assignment}
 use Rattle.pe_machine.proofs.FrameLemmas.{numbered_oldest, numbered_with_cell}
@@ -107,6 +107,7 @@ module _ (code : PeCode) where
   executed-alike (insn.PassVar j y) d at a r x s t k u =
       variable-alike (frame_outside s.frames j r) (frame_from t.items j x) _ _ (variable-at s.next j r x u.numbers k u.lays)
       (λ c e h. pushed-alike (arg_c c) (arg_c e) y r x s t (at_arg h) k u)
+  executed-alike (insn.PassData v y) d at a r x s t k u = pushed-alike (arg_c (datum v)) (arg_c (datum v)) y r x s t (at_arg a_datum) k u
   executed-alike (insn.Field i y) d at a r x s t k u =
       taken-alike (machine.field_meets i (record { address = y; frame = r })) (moves.field_meets i (record { address = y; frame = x })) s t (field-alike i y r x s t k) u
   executed-alike (insn.Pick i y) d at a r x s t k u = pushed-alike (pick_c i) (pick_c i) y r x s t at_pick k u
@@ -115,6 +116,8 @@ module _ (code : PeCode) where
   executed-alike (insn.LetVar j y) d at a r x s t k u =
       variable-alike (frame_outside s.frames j r) (frame_from t.items j x) _ _ (variable-at s.next j r x u.numbers k u.lays)
       (λ c e h. bound-alike d (to_thunk c) (items.to_thunk e) y r x s t (thunk_bound h) k u)
+  executed-alike (insn.LetData v y) d at a r x s t k u =
+      bound-alike d (to_thunk (datum v)) (items.to_thunk (datum v)) y r x s t (thunk_bound a_datum) k u
   executed-alike (insn.Knot n y) d at a r x s t k u =
       bound-alike d (to_thunk (source n r)) (items.to_thunk (source n x)) y r x s t (thunk_bound (a_source k)) k u
   executed-alike insn.Done d at a r x s t k u = focused-alike completed completed s t at_end u

@@ -217,6 +217,7 @@ module _ (code : PeCode) where
   executed-linked (insn.PassVar j y) d at p s k u =
       with-variable s.items (frame_from s.items j p.frame) (λ t. pushed (arg_c t) (record p { address = y }) s) (variable-linked s.items j p.frame u.items)
       (λ t h. pushed-linked (arg_c t) (record p { address = y }) s h k u)
+  executed-linked (insn.PassData v y) d at p s k u = pushed-linked (arg_c (datum v)) (record p { address = y }) s tt k u
   executed-linked (insn.Field i y) d at p s k u =
       taken-linked (field_meets i (record p { address = y })) s (field-linked i (record p { address = y }) s k) u
   executed-linked (insn.Pick i y) d at p s k u = pushed-linked (pick_c i) (record p { address = y }) s tt k u
@@ -224,6 +225,7 @@ module _ (code : PeCode) where
   executed-linked (insn.LetVar j y) d at p s k u =
       with-variable s.items (frame_from s.items j p.frame) (λ t. bound d (to_thunk t) y p.frame s) (variable-linked s.items j p.frame u.items)
       (λ t h. bound-linked d (to_thunk t) y p.frame s h k u)
+  executed-linked (insn.LetData v y) d at p s k u = bound-linked d (to_thunk (datum v)) y p.frame s tt k u
   executed-linked (insn.Knot n y) d at p s k u = bound-linked d (to_thunk (source n p.frame)) y p.frame s k k u
   executed-linked insn.Done d at p s k u = focused-linked completed s tt u
   executed-linked (insn.Seq y z) d at p s k u = pushed-linked (then_c (record p { address = z })) (record p { address = y }) s k k u

@@ -193,11 +193,13 @@ executed code (insn.Bind y) d at here s = taken (bind_meets d y here.frame) (new
 executed code (insn.Pass n y) d at here s = pushed (arg_c (source n here.frame)) (record here { address = y }) s
 executed code (insn.PassVar k y) d at here s =
     with_variable (frame_from s.items k here.frame) (λ t. pushed (arg_c t) (record here { address = y }) s)
+executed code (insn.PassData v y) d at here s = pushed (arg_c (datum v)) (record here { address = y }) s
 executed code (insn.Field i x) d at here s = taken (field_meets i (record here { address = x })) (newest_of s) s
 executed code (insn.Pick i x) d at here s = pushed (pick_c i) (record here { address = x }) s
 executed code (insn.Let n y) d at here s = bound d (to_thunk (source n here.frame)) y here.frame s
 executed code (insn.LetVar k y) d at here s =
     with_variable (frame_from s.items k here.frame) (λ t. bound d (to_thunk t) y here.frame s)
+executed code (insn.LetData v y) d at here s = bound d (to_thunk (datum v)) y here.frame s
 executed code (insn.Knot n y) d at here s = bound d (to_thunk (source n here.frame)) y here.frame s
 executed code insn.Done d at here s = focused completed s
 executed code (insn.Seq x y) d at here s = pushed (then_c (record here { address = y })) (record here { address = x }) s

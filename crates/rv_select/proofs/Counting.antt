@@ -166,6 +166,7 @@ module _ (code : PeCode) (a : ℕ) where
         ∷ (at_top ++ (Save Top 1 Context ∷ Save Top 2 Second ∷ Save Top 3 Third ∷ open_context (label_of code y)))
         ) in
         omega arith
+    insn_words (insn.PassData v y) h = let few = set_most (word_of v) in omega arith
     insn_words (insn.Field i x) h = omega arith
     insn_words (insn.Pick i x) h = omega arith
     insn_words (insn.Let n y) h = let column = set_most (column_word (column_of code n)) in let body = own_bind y h in omega arith
@@ -173,6 +174,7 @@ module _ (code : PeCode) (a : ℕ) where
         let body = own_bind y h in
         let all = reach_then k (Window First 2 ∷ Get Second First 1 ∷ Get First First 0 ∷ bind d (label_of code y) (entry_number code y)) in
         omega arith
+    insn_words (insn.LetData v y) h = let few = set_most (word_of v) in let body = own_bind y h in omega arith
     insn_words (insn.Knot n y) h = let column = set_most (column_word (column_of code n)) in let body = own_bind y h in omega arith
     insn_words insn.Done h = omega arith
     insn_words (insn.Seq x y) h = let main = own_push h in omega arith

@@ -18,6 +18,11 @@ use Rattle.rv_select.specs.Emission.{AddsBlocks}
 use Rattle.rv_select.proofs.Counted.{blocks_more}
 use Rattle.rv_select.proofs.Placed.{blocks_length}
 
+-- three parts behind one another
+pub three_joined : (old xs ys zs first second new : List Micro) → first ≡ old ++ xs → second ≡ first ++ ys → new ≡ second ++ zs → new ≡ old ++ (xs ++ (ys ++ zs))
+three_joined old xs ys zs first second new p q r =
+    r ∙ (ap (λ (l : List Micro). l ++ zs) (q ∙ ap (λ (l : List Micro). l ++ ys) p) ∙ (append_assoc (old ++ xs) ys zs ∙ append_assoc old xs (ys ++ zs)))
+
 pub if_ok : {T E P Q : Type 0} (r : Result T E) → (P → Q) → OnOk r P → OnOk r Q
 if_ok (Ok x) f p = f p
 if_ok (Err e) f p = tt

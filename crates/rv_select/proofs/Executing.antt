@@ -4,6 +4,7 @@ use Rattle.std.proofs.lemmas.Bool.{cond_both, le-leb}
 use Rattle.std.proofs.lemmas.Option.{slice_get_within, get_or_from_slice_get}
 use Rattle.std.proofs.lemmas.List.Elements.{All-drop}
 use Rattle.std.specs.Prelude.{slice_get, nat_eq}
+use Rattle.std.specs.Option.{ForSome}
 use Rattle.std.specs.declared.option.Option.{Option}
 use Rattle.fy_base.specs.Outside.{Bytes}
 use Rattle.fy_base.specs.declared.data.Place.{Place}
@@ -32,6 +33,7 @@ use Rattle.rv_operators.specs.Laws.{IsDatum}
 use Rattle.rv_select.specs.Numbers.{label_of, entry_number, entry_word, pop_entry, column_word, datum_column, escape_column, column_of}
 use Rattle.rv_select.specs.Blocks.{move, reach, at_top, open_context, open_frame, bind, put_entry, main_block}
 use Rattle.rv_select.specs.Layout.{word_in, frame_word, frames_from, column, payload, IsGoodThunk, ContextIsLaid, HasItems, HoldsItems}
+use Rattle.rv_select.specs.Laws.{value_of}
 use Rattle.rv_select.proofs.Runs.{Reach, Later, wider}
 use Rattle.rv_select.proofs.Wp.{Wrote, Wp, with_value, any_step, by_blocks}
 use Rattle.rv_select.proofs.Values.{moves, moves_on}
@@ -279,6 +281,39 @@ module _ (code : PeCode) (w : Code) (sel : IsSelected code w) (help : Helpers) w
     runs_passvar k y None found stands sound = none
     runs_passvar k y (Some g) found stands sound = passvar_found k y g found stands sound
 
+    runs_passdata : (v : DatumType) (y : ℕ) → IsDatum v → Stands (insn.PassData v y) → Sound (insn.PassData v y) → Runs (executed code (insn.PassData v y) d at here s)
+    runs_passdata v y good stands sound =
+        let x' = address_on s.items in
+        let e1 = with_value Second (word_of v) (with_value First (column_word datum_column) e) in
+        runs_by (executed code (insn.PassData v y) d at here s) (main_block code here.address d (insn.PassData v y)) (sel.main here.address _ stands) (omega arith) (
+          x',
+          h.top_is,
+          λ lt. no_room code w sel help (record { focus = code_at (record here { address = y }); newest = x'; items = context (arg_c (datum v)) s.newest ∷ s.items }) e.input e.output (length e.words) (c) e (omega arith) refl (omega arith),
+          λ le. (
+            x',
+            h.top_is,
+            le,
+            (
+              x',
+              h.top_is,
+              omega arith,
+              λ n1 w1. (
+                x',
+                h.top_is,
+                (let z = w1.size in omega arith),
+                λ n2 w2. (
+                  x',
+                  h.top_is,
+                  (let z = w1.size in let y = w2.size in omega arith),
+                  λ n3 w3. passed s.newest s.items (datum v) (record here { address = y }) d (c) (column_word datum_column) (word_of v) e.input e.output (length e.words) e.words n1 n2 n3 (record e1 { words = n3 }) h.memory h.bytes
+                      (subst (λ u. Wrote e.words n1 (x' + 1) u) h.newest_is w1) w2 w3 refl refl good le refl h.top_is f (record { input_is = refl; output_is = refl; size_is = w3.size ∙ w2.size ∙ w1.size })
+                      (sound.beside_it 0 0 (omega arith)) deep,
+                ),
+              ),
+            ),
+          ),
+        )
+
     runs_read : (x : ℕ) → Stands (insn.Read x) → Sound (insn.Read x) → Runs (executed code (insn.Read x) d at here s)
     runs_read x stands sound =
         let x' = address_on s.items in
@@ -470,6 +505,12 @@ module _ (code : PeCode) (w : Code) (sel : IsSelected code w) (help : Helpers) w
     runs_letvar k y None found stands sound cost = none
     runs_letvar k y (Some g) found stands sound cost = letvar_found k y g found stands sound cost
 
+    runs_letdata : (v : DatumType) (y : ℕ) → IsDatum v → Stands (insn.LetData v y) → Sound (insn.LetData v y) → 109 + 16 * d ≤ c → Runs (executed code (insn.LetData v y) d at here s)
+    runs_letdata v y good stands sound cost =
+        let e1 = with_value Second (word_of v) (with_value First (column_word datum_column) e) in
+        runs_by (executed code (insn.LetData v y) d at here s) (main_block code here.address d (insn.LetData v y)) (sel.main here.address _ stands) (let l = open_length d (label_of code y) (entry_number code y) in omega arith)
+        (bound code w sel help s.newest s.items (datum v) d y (c) here.frame e1 (omega arith) (record { newest_is = h.newest_is; top_is = h.top_is; memory = h.memory; bytes = h.bytes }) f refl refl good deep most (sound.body y refl) (omega arith))
+
     runs_escape : (y : ℕ) → Stands (insn.Escape y) → Sound (insn.Escape y) → 109 + 16 * d ≤ c → Runs (executed code (insn.Escape y) d at here s)
     runs_escape y stands sound cost =
         let x1 = address_on s.items in
@@ -556,7 +597,7 @@ module _ (code : PeCode) (w : Code) (sel : IsSelected code w) (help : Helpers) w
 
     -- ---- all of them
 
-    pub runs : (i : PeInsn) → Stands i → Sound i → ((v : DatumType) → i ≡ insn.Answer v → IsDatum v) → ((y : ℕ) → body_of i ≡ Some y → 109 + 16 * d ≤ c) → Runs (executed code i d at here s)
+    pub runs : (i : PeInsn) → Stands i → Sound i → ForSome (value_of i) IsDatum → ((y : ℕ) → body_of i ≡ Some y → 109 + 16 * d ≤ c) → Runs (executed code i d at here s)
     runs (insn.UseVar k shape) stands sound good cost =
         wider w (Q (executed code (insn.UseVar k shape) d at here s)) 200 (300 + c) (record { rest = block w (label_of code here.address); held = e }) (omega arith)
         (used code w sel s e k shape d (label_of code here.address) here.frame h f deep (sound.variable k refl) (sound.shape shape refl) (sel.main here.address _ stands))
@@ -571,10 +612,12 @@ module _ (code : PeCode) (w : Code) (sel : IsSelected code w) (help : Helpers) w
     runs (insn.Bind y) stands sound good cost = runs_bind y (newest_of s) refl stands sound (cost y refl)
     runs (insn.Pass n y) stands sound good cost = runs_pass n y stands sound
     runs (insn.PassVar k y) stands sound good cost = runs_passvar k y (frame_from s.items k here.frame) refl stands sound
+    runs (insn.PassData v y) stands sound good cost = runs_passdata v y (good v refl) stands sound
     runs (insn.Field i x) stands sound good cost = runs_field i x (newest_of s) refl stands sound
     runs (insn.Pick i x) stands sound good cost = runs_pick i x stands sound
     runs (insn.Let n y) stands sound good cost = runs_let (insn.Let n y) n y (sel.main here.address _ stands) (sound.thunk n refl) (sound.body y refl) (cost y refl)
     runs (insn.LetVar k y) stands sound good cost = runs_letvar k y (frame_from s.items k here.frame) refl stands sound (cost y refl)
+    runs (insn.LetData v y) stands sound good cost = runs_letdata v y (good v refl) stands sound (cost y refl)
     runs (insn.Knot n y) stands sound good cost = runs_let (insn.Knot n y) n y (sel.main here.address _ stands) (sound.thunk n refl) (sound.body y refl) (cost y refl)
     runs insn.Done stands sound good cost =
         runs_by (executed code insn.Done d at here s) (main_block code here.address d insn.Done) (sel.main here.address _ stands) (omega arith)

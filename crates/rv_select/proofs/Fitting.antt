@@ -15,7 +15,7 @@ use Rattle.rv_operators.specs.Laws.{IsDatum}
 use Rattle.rv_select.specs.Numbers.{first_item, block_count, blocks_in, entries_in, label_of, entry_number, row_words, column_word, place_in, column_of, row_address}
 use Rattle.rv_select.specs.Blocks.{blocks_of}
 use Rattle.rv_select.specs.Program.{item_blocks, word_code}
-use Rattle.rv_select.specs.Laws.{answer_of, IsSelectable}
+use Rattle.rv_select.specs.Laws.{value_of, IsSelectable}
 use Rattle.rv_select.proofs.Reaching.{word_small}
 use Rattle.rv_select.proofs.Placed.{blocks_length, some_blocks, entries_few, rows_length}
 use Rattle.rv_select.proofs.Step.{all_found}
@@ -126,7 +126,7 @@ module _ (code : PeCode) (ok : IsSelectable code) where
         variable = λ k e. (let lt = sound.variable k e in let deep = sound.depth in omega arith);
         shape = λ s e. shape_fits s (sound.shape s e);
         parts = (let within = picked_inside code.items a i h in let parts = ok.valid.parts in let few = ok.valid.few in lt-ltb (length (picked_from i.insn)) (2 ^ 64) (omega arith));
-        answer = λ v e. lt-ltb (word_of v) (2 ^ 64) (word_small v (all_found (λ j. ForSome (answer_of j.insn) IsDatum) code.items a i ok.answers h v e));
+        value = λ v e. lt-ltb (word_of v) (2 ^ 64) (word_small v (all_found (λ j. ForSome (value_of j.insn) IsDatum) code.items a i ok.values h v e));
       }
 
   -- and what bounds its words

@@ -4,6 +4,7 @@ use Rattle.std.proofs.lemmas.Bool.{and_from, le-leb}
 use Rattle.std.proofs.lemmas.List.Elements.{All-head, All-tail}
 use Rattle.std.specs.Prelude.{nat_lt, nat_le, All}
 use Rattle.std.specs.Option.{ForSome}
+use Rattle.fy_base.specs.declared.data.Datum.{Datum}
 use Rattle.fy_base.specs.declared.data.UnOp.{UnOp}
 use Rattle.fy_base.specs.declared.data.UnOp.TheVariants.{Neg, Not, Ord, Chr}
 use Rattle.fy_base.specs.declared.data.BinOp.{BinOp}
@@ -24,7 +25,7 @@ use Rattle.rv_runtime.specs.Routines.{exhausted, make_frame}
 use Rattle.rv_operators.specs.Operators.{word_of, unary_label, binary_label}
 use Rattle.rv_select.specs.Numbers.{meet, first_operator, pop_label, first_item, block_count, label_of, entry_number, entry_word, column_word, column_of, row_address}
 use Rattle.rv_select.specs.Blocks.{push, push_frame, bind, reach, put_entry, main_block, left_block, if_block, case_block, then_block, assign_block, while_block, again_block, new_block, unary_fault_blocks, binary_fault_blocks, blocks_of, entries_of}
-use Rattle.rv_select.specs.Laws.{answer_of}
+use Rattle.rv_select.specs.Laws.{value_of}
 use Rattle.rv_select.proofs.Judging.{IsLabel, IsWord, chained, reach_fine, push_fine, push_frame_fine, bind_fine}
 
 -- ---- what the numbers in blocks have to meet
@@ -46,7 +47,7 @@ pub record InsnFits (code : PeCode) (b : Bounds) (a d : ℕ) (i : PeInsn) : Type
   pub variable : ForSome (variable_of i) (λ k. k < 512)
   pub shape : ForSome (shape_of i) (λ s. (nat_le 1 b.table_words ≡ true) × IsWord (row_address code s))
   pub parts : IsWord (length (picked_from i))
-  pub answer : ForSome (answer_of i) (λ v. IsWord (word_of v))
+  pub value : ForSome (value_of i) (λ v. IsWord (word_of v))
 
 -- ---- the blocks of an item
 
@@ -114,6 +115,11 @@ module _ (code : PeCode) (b : Bounds) (fits : Fits code b) where
     bound_node n y deep there =
         and_from (nat_lt (column_word (column_of code n)) (2 ^ 64)) (is_disciplined_from b zeros (bind d (label_of code y) (entry_number code y))) (fits.columns n) (bound y deep there)
 
+    -- of a datum
+    bound_datum : (v : Datum) (y : ℕ) → d ≤ 512 → IsWord (word_of v) → IsLabel b (label_of code y) → is_disciplined_from b zeros (main_block code a d (insn.LetData v y)) ≡ true
+    bound_datum v y deep word there =
+        and_from (nat_lt (word_of v) (2 ^ 64)) (is_disciplined_from b zeros (bind d (label_of code y) (entry_number code y))) word (bound y deep there)
+
     put_word : (kind : PutKind) → IsWord (entry_word (put_entry kind))
     put_word kind.Int = refl
     put_word kind.Char = refl
@@ -124,7 +130,7 @@ module _ (code : PeCode) (b : Bounds) (fits : Fits code b) where
         let shape = h.shape s refl in
         alone (main_block code a d (insn.UseVar k s))
         (chained b zeros (reach k) _ _ (reach_fine b k (h.variable k refl)) (λ v. simp (shape.0, shape.1)))
-    blocks_fine (insn.Answer v) h = simp (h.answer v refl, low meet (omega arith))
+    blocks_fine (insn.Answer v) h = simp (h.value v refl, low meet (omega arith))
     blocks_fine (insn.Op1 op x) h =
         and_from (is_disciplined_from b zeros (push (entry_number code a + 1) (label_of code x))) (are_disciplined b (unary_fault_blocks code a d op))
         (push_fine b (entry_number code a + 1) (label_of code x) (low exhausted (omega arith)) (entry_fits a 1 (omega arith)) (h.beside 0 0 (omega arith)))
@@ -142,12 +148,14 @@ module _ (code : PeCode) (b : Bounds) (fits : Fits code b) where
     blocks_fine (insn.PassVar k y) h =
         alone (main_block code a d (insn.PassVar k y))
         (chained b zeros (reach k) _ _ (reach_fine b k (h.variable k refl)) (λ v. simp (low exhausted (omega arith), h.beside 0 0 (omega arith))))
+    blocks_fine (insn.PassData v y) h = simp (low exhausted (omega arith), h.value v refl, h.beside 0 0 (omega arith))
     blocks_fine (insn.Field i x) h = simp (h.beside 0 0 (omega arith))
     blocks_fine (insn.Pick i x) h = simp (low exhausted (omega arith), h.beside 0 0 (omega arith))
     blocks_fine (insn.Let n y) h = alone (main_block code a d (insn.Let n y)) (bound_node n y h.deep (h.body y refl))
     blocks_fine (insn.LetVar k y) h =
         alone (main_block code a d (insn.LetVar k y))
         (chained b zeros (reach k) _ _ (reach_fine b k (h.variable k refl)) (λ v. bound y h.deep (h.body y refl)))
+    blocks_fine (insn.LetData v y) h = alone (main_block code a d (insn.LetData v y)) (bound_datum v y h.deep (h.value v refl) (h.body y refl))
     blocks_fine (insn.Knot n y) h = alone (main_block code a d (insn.Let n y)) (bound_node n y h.deep (h.body y refl))
     blocks_fine insn.Done h = simp (low meet (omega arith))
     blocks_fine (insn.Seq x y) h = pushed x (then_block code a d y ∷ []) (h.beside 0 0 (omega arith)) (simp (h.beside 1 0 (omega arith)))

@@ -51,6 +51,7 @@ module _ (code : PeCode) (a d : ℕ) where
   main_is_near (insn.LetVar k y) h = both_near (reach k) _ (reach_is_near k (h k refl)) (frame_is_near d _ _)
   main_is_near (insn.Bind y) h = frame_is_near d _ _
   main_is_near (insn.Let n y) h = frame_is_near d _ _
+  main_is_near (insn.LetData v y) h = frame_is_near d _ _
   main_is_near (insn.Knot n y) h = frame_is_near d _ _
   main_is_near (insn.Escape y) h = frame_is_near d _ _
   main_is_near (insn.Accept y) h = frame_is_near d _ _

@@ -3,6 +3,7 @@ use Rattle.std.proofs.Common.{◌≡◌, ℕ, zero, suc, ◌+◌, ◌*◌, ◌�
 use Rattle.std.proofs.lemmas.Bool.{cond-true}
 use Rattle.std.proofs.lemmas.Option.{same_Some, slice_get_within, get_or_from_slice_get}
 use Rattle.std.specs.Prelude.{slice_get, slice_index, slice_index_or, is_some}
+use Rattle.std.specs.Option.{ForSome}
 use Rattle.std.specs.declared.option.Option.{Option}
 use Rattle.fy_base.specs.declared.data.Place.{Place}
 use Rattle.fy_base.specs.declared.data.Datum.{Datum as DatumType}
@@ -29,7 +30,7 @@ use Rattle.rv_operators.specs.Laws.{IsDatum}
 use Rattle.rv_select.specs.Numbers.{meet, first_operator, right_entries, pop_label, put_int_label, put_char_label, put_bool_label, pop_entry, put_int_entry, put_char_entry, put_bool_entry, label_of, entry_number, entry_word}
 use Rattle.rv_select.specs.Blocks.{behind, blocks_of, entries_of}
 use Rattle.rv_select.specs.Layout.{word_in, frame_word, frames_from, HoldsItems, RunsItem, HasFocus, Stands}
-use Rattle.rv_select.specs.Laws.{answer_of, IsSelectable, frame_depth, deepest}
+use Rattle.rv_select.specs.Laws.{value_of, IsSelectable, frame_depth, deepest}
 use Rattle.rv_select.proofs.Runs.{Reach, wider}
 use Rattle.rv_select.proofs.Wp.{with_value, by_blocks}
 use Rattle.rv_select.proofs.Memory.{StandsAt, stands_at}
@@ -291,7 +292,7 @@ module _ (code : PeCode) (w : Code) (sel : IsSelected code w) (help : Helpers) (
         let bounds = deepest_bounds code.items here.address i stands in
         wider w (Q code w sel help e0 (item.executed code i.insn i.depth i.place here s)) (300 + (109 + 16 * deepest code.items)) (step_cost (deepest code.items)) (record { rest = block w (label_of code here.address); held = e0 }) (omega arith)
         (runs code w sel help s e0 h here i.depth i.place f deep sound.depth (109 + 16 * deepest code.items) (omega arith) i.insn stands sound
-        (λ v is. all_found (λ j. (u : DatumType) → answer_of j.insn ≡ Some u → IsDatum u) code.items here.address i ok.answers stands v (ap answer_of is))
+        (all_found (λ j. ForSome (value_of j.insn) IsDatum) code.items here.address i ok.values stands)
         (λ y body. let same = frame_is_deep i y body in omega arith))
 
     pub code_runs : (here : Pointer) (rest : List Micro) → RunsItem code w s.items here rest e0 → Reach w (Q code w sel help e0 (item_executed code (item_at code here.address) here s)) (step_cost (deepest code.items)) (record { rest = rest; held = e0 })

@@ -46,6 +46,10 @@ reach (suc k) =
 abbrev pub open_context : ℕ → List Micro
 open_context label = move Context Top ∷ behind Top Top words_of_context ∷ Jump label ∷ []
 
+-- the same with an argument in First and Second
+abbrev pub open_argument : ℕ → List Micro
+open_argument label = Save Top 2 First ∷ Save Top 3 Second ∷ open_context label
+
 -- the words of a context at Top: room is asked for first, since windows end at what may jump
 abbrev pub at_top : List Micro
 at_top = Room words_of_context exhausted ∷ Window Top words_of_context ∷ []
@@ -118,10 +122,13 @@ module _ (code : PeCode) (a d : ℕ) where
       reach k
       ++ (Window First 2 ∷ Get Second First 0 ∷ Get Third First 1
       ∷ at_top ++ (Save Top 1 Context ∷ Save Top 2 Second ∷ Save Top 3 Third ∷ open_context (label_of code y)))
+  main_block (insn.PassData v y) =
+      at_top ++ (Save Top 1 Context ∷ Set First (column_word datum_column) ∷ Set Second (word_of v) ∷ open_argument (label_of code y))
   main_block (insn.Field i x) = Window Context 2 ∷ Get Context Context 1 ∷ to_item x ∷ []
   main_block (insn.Pick i x) = at_top ++ (Save Top 1 Context ∷ open_context (label_of code x))
   main_block (insn.Let n y) = Set First (column_word (column_of code n)) ∷ move Second Frame ∷ bind_body y
   main_block (insn.LetVar k y) = reach k ++ (Window First 2 ∷ Get Second First 1 ∷ Get First First 0 ∷ bind_body y)
+  main_block (insn.LetData v y) = Set First (column_word datum_column) ∷ Set Second (word_of v) ∷ bind_body y
   main_block (insn.Knot n y) = Set First (column_word (column_of code n)) ∷ move Second Frame ∷ bind_body y
   main_block insn.Done = Jump meet ∷ []
   main_block (insn.Seq x y) = push_frame (own_entry 1) (label_of code x)

@@ -36,15 +36,18 @@ use Rattle.rv_select.specs.Layout.{Stands}
 
 -- ---- what is selected
 
-abbrev pub answer_of : PeInsn → Option Datum
-answer_of (insn.Answer v) = Some v
-answer_of _ = None
+-- the datum that an instruction answers, passes or binds
+abbrev pub value_of : PeInsn → Option Datum
+value_of (insn.Answer v) = Some v
+value_of (insn.PassData v y) = Some v
+value_of (insn.LetData v y) = Some v
+value_of _ = None
 
 -- valid code, whose data are in range, and whose nodes of thunks are few, as they are wherever there is a shape
 pub record IsSelectable (code : PeCode) : Type 0 where
   pub valid : IsValid code
   pub thunks : length code.thunks ≤ 1048576
-  pub answers : All (λ i. ForSome (answer_of i.insn) IsDatum) code.items
+  pub values : All (λ i. ForSome (value_of i.insn) IsDatum) code.items
 
 -- the depth of the frame that an item makes, and the greatest of them
 abbrev pub frame_depth : PeItem → ℕ

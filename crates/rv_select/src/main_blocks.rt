@@ -4,7 +4,7 @@ ghost use Rattle.std.specs.Prelude.{◌≡◌, ℕ, ◌<◌, [], ◌∷◌, ◌+
 ghost use Rattle.std.specs.Option.{ForSome};
 ghost use Rattle.pe_code.specs.Code.{shape_of, variable_of};
 ghost use Rattle.rv_operators.specs.Operators.{word_of as word_of_datum};
-ghost use Rattle.rv_select.specs.Blocks.{main_block, put_entry};
+ghost use Rattle.rv_select.specs.Blocks.{main_block, open_argument, put_entry};
 ghost use Rattle.rv_select.specs.Emission.{Adds};
 
 use crate::fixed::{
@@ -131,6 +131,32 @@ pub fn add_pass_variable(
     add_open_context(block, site.start(procedure).label)
 }
 
+/// A datum that is passed to a procedure.
+pub fn add_pass_datum(
+    block: &mut Vec<Micro>,
+    site: &Site<'_, '_>,
+    value: Value,
+    procedure: u32,
+) -> Result<(), OutOfMemory>
+    ensures { OnOk result (Adds site.now (λ code a d. main_block code a d (PeInsn.PassData value procedure)) block.old.items block.new.items) }
+{
+    add_at_top(block)?;
+    block.extend_from_slice(&[
+        Micro::Save(Top, 1, Context),
+        Micro::Set(First, DATUM_COLUMN),
+        Micro::Set(Second, word_of(value)),
+    ])?;
+    add_open_argument(block, site.start(procedure).label)
+}
+
+// The context of an argument at `Top`, whose binding is in `First` and `Second`, is the newest.
+fn add_open_argument(block: &mut Vec<Micro>, label: u32) -> Result<(), OutOfMemory>
+    ensures { OnOk result (block.new.items ≡ block.old.items ++ open_argument label) }
+{
+    block.extend_from_slice(&[Micro::Save(Top, 2, First), Micro::Save(Top, 3, Second)])?;
+    add_open_context(block, label)
+}
+
 /// A field that the newest context selects.
 pub fn add_field(block: &mut Vec<Micro>, site: &Site<'_, '_>, part: u32) -> Result<(), OutOfMemory>
     ensures { (name : ℕ) → OnOk result (Adds site.now (λ code a d. main_block code a d (PeInsn.Field name part)) block.old.items block.new.items) }
@@ -183,6 +209,22 @@ pub fn add_let_variable(
         Micro::Window(First, 2),
         Micro::Get(Second, First, 1),
         Micro::Get(First, First, 0),
+    ])?;
+    add_bind(block, site.depth, site.start(body))
+}
+
+/// A datum that is bound for a body.
+pub fn add_let_datum(
+    block: &mut Vec<Micro>,
+    site: &Site<'_, '_>,
+    value: Value,
+    body: u32,
+) -> Result<(), OutOfMemory>
+    ensures { OnOk result (Adds site.now (λ code a d. main_block code a d (PeInsn.LetData value body)) block.old.items block.new.items) }
+{
+    block.extend_from_slice(&[
+        Micro::Set(First, DATUM_COLUMN),
+        Micro::Set(Second, word_of(value)),
     ])?;
     add_bind(block, site.depth, site.start(body))
 }
@@ -261,10 +303,12 @@ pub fn add_main(
         PeInsn::Bind(body) => add_argument(block, site, *body),
         PeInsn::Pass(node, x) => add_pass(block, site, *node, *x),
         PeInsn::PassVar(variable, x) => add_pass_variable(block, site, *variable, *x),
+        PeInsn::PassData(value, x) => add_pass_datum(block, site, *value, *x),
         PeInsn::Field(_, x) => add_field(block, site, *x),
         PeInsn::Pick(_, x) => add_pick(block, site, *x),
         PeInsn::Let(node, body) | PeInsn::Knot(node, body) => add_let(block, site, *node, *body),
         PeInsn::LetVar(variable, body) => add_let_variable(block, site, *variable, *body),
+        PeInsn::LetData(value, body) => add_let_datum(block, site, *value, *body),
         PeInsn::Done => add_jump(block, MEET),
         PeInsn::Escape(body) => add_escape(block, site, *body),
         PeInsn::Accept(body) => add_accept(block, site, *body),
