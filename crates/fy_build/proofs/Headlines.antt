@@ -1,7 +1,8 @@
 -- The image of code that follows the copy rule runs as the copy rule.
-use Rattle.std.proofs.Common.{◌≡◌, ◌≢◌, ◌⊎◌, inl, inr, ℕ, zero, suc, ◌+◌, ◌*◌, ◌<◌, ◌≤◌, max, refl, sym, ap, ◌∙◌, subst, arith}
+use Rattle.std.proofs.Common.{◌≡◌, ◌≢◌, ◌⊎◌, inl, inr, ℕ, zero, suc, ◌+◌, ◌*◌, ◌<◌, ◌≤◌, max, Option, refl, sym, ap, ◌∙◌, subst, arith}
 use Rattle.std.proofs.Math.Nat.{mul-le-mul_left, mul-le-mul_right}
 use Rattle.fy_base.specs.Outside.{Bytes, IsPrefix}
+use Rattle.fy_base.specs.declared.data.Datum.{Datum}
 use Rattle.fy_phrase.specs.Bounds.{instruction_bound, copy_bound}
 use Rattle.fy_phrase.specs.Copy as copy
 use Rattle.fy_phrase.specs.Copy.{CopyRun, start_run, copy_after, peak_load}
@@ -90,28 +91,28 @@ unfolding pe_peak_load
 peak_suc code input n = refl
 
 -- no load of n steps of the code is above the greatest of the copy rule within the bound
-peak_below : (p : Tree) (code : PeCode) (input : Bytes) (n m : ℕ) → FollowsCopyRule p code → n * (nodes p + 1) ≤ m → pe_peak_load code input n ≤ peak_load p input m
-peak_below p code input zero m follows le =
+peak_below : (handed : Tree → Option Datum) (p : Tree) (code : PeCode) (input : Bytes) (n m : ℕ) → FollowsCopyRule handed p code → n * (nodes p + 1) ≤ m → pe_peak_load code input n ≤ peak_load p input m
+peak_below handed p code input zero m follows le =
     let there = follows.reads_back input 0 in
     let load = there.same.load in
     let few = there.few in
     let below = load_below_peak p input there.steps m (omega arith) in
     let e = peak_zero code input in
     omega arith
-peak_below p code input (suc n) m follows le =
+peak_below handed p code input (suc n) m follows le =
     let there = follows.reads_back input (suc n) in
     let load = there.same.load in
     let few = there.few in
     let below = load_below_peak p input there.steps m (omega arith) in
     let less : n * (nodes p + 1) ≤ suc n * (nodes p + 1) = mul-le-mul_right (nodes p + 1) (omega arith) in
-    let before = peak_below p code input n m follows (omega arith) in
+    let before = peak_below handed p code input n m follows (omega arith) in
     let e = peak_suc code input n in
     omega arith
 
 -- ---- the clauses, for one input
 
-module _ (laws : RunLaws) (p : Tree) (code : PeCode) (image : Image) (program : Program) (input : Bytes)
-    (follows : FollowsCopyRule p code) (deep : deepest code.items ≤ depth p) (does : ImageDoesRun code image program input) where
+module _ (laws : RunLaws) (handed : Tree → Option Datum) (p : Tree) (code : PeCode) (image : Image) (program : Program) (input : Bytes)
+    (follows : FollowsCopyRule handed p code) (deep : deepest code.items ≤ depth p) (does : ImageDoesRun code image program input) where
   abbrev after : ℕ → World
   after n = machine_after program image input n
 
@@ -175,5 +176,5 @@ module _ (laws : RunLaws) (p : Tree) (code : PeCode) (image : Image) (program : 
   pub exhausted_only_past_the_stack : (n : ℕ) → (after n).ending ≡ Exhausted → image.stack_words < peak_load p input (copy_bound p n)
   exhausted_only_past_the_stack n e =
       let past = does.exhausted n e in
-      let below = peak_below p code input n (copy_bound p n) follows (steps_within p (n * (nodes p + 1)) n (omega arith)) in
+      let below = peak_below handed p code input n (copy_bound p n) follows (steps_within p (n * (nodes p + 1)) n (omega arith)) in
       omega arith

@@ -15,11 +15,12 @@ use Rattle.pe_code.specs.declared.code.PeCode.{PeCode}
 use Rattle.pe_code.specs.declared.code.PeItem.{PeItem}
 use Rattle.pe_code.specs.Code.{body_of}
 use Rattle.pe_code.specs.Valid.{IsValid}
+use Rattle.pe_right.specs.Constants.{no_data}
 use Rattle.pe_right.specs.Right.{IsCodeOf}
 use Rattle.pe_gen.specs.Sizes.{HasSizesOf}
 use Rattle.rv_operators.specs.Laws.{IsDatum}
 use Rattle.rv_select.specs.Images.{IsSelectionImage}
-use Rattle.rv_select.specs.Laws.{answer_of, IsSelectable, deepest}
+use Rattle.rv_select.specs.Laws.{value_of, IsSelectable, deepest}
 use Rattle.rv_select.specs.Sizes.{IsCounted}
 use Rattle.fy_build.specs.Building.{HasTableWords}
 use Rattle.fy_build.proofs.Refusals.{shapes_counted}
@@ -30,14 +31,19 @@ some_shapes : (shapes : List Shape) (n : ℕ) (s : PlainShape) → option_map pl
 some_shapes [] n s h = absurd (cc)
 some_shapes (x ∷ shapes) n s h = omega arith
 
-pub selectable : (p : Tree) (table : ShapeTable) (code : PeCode) → IsCodeOf p table code → IsValid code → All (λ item. ForSome (answer_of item.insn) IsDatum) code.items → IsSelectable code
-selectable p table code right valid answers =
+-- the program's own entry has a shape
+pub has_shapes : (p : Tree) (table : ShapeTable) (code : PeCode) → IsCodeOf no_data p table code → 1 ≤ code.shapes
+has_shapes p table code right =
     let run = right.program in
     let some = some_shapes table.shapes run.0 _ run.1 in
     let all = right.shapes in
+    omega arith
+
+pub selectable : (code : PeCode) → 1 ≤ code.shapes → IsValid code → All (λ item. ForSome (value_of item.insn) IsDatum) code.items → IsSelectable code
+selectable code some valid values =
     let words = valid.words in
     let one : 1 * (4 + length code.thunks) ≤ code.shapes * (4 + length code.thunks) = mul-le-mul_right (4 + length code.thunks) (omega arith) in
-    record { valid = valid; thunks = omega arith; answers = answers }
+    record { valid = valid; thunks = omega arith; values = values }
 
 -- ---- its frames
 
@@ -55,10 +61,10 @@ deepest_below n (i ∷ is) h =
 
 -- ---- its table
 
-pub has_table_words : (p : Tree) (d : PlainDerivation) (table : ShapeTable) (code : PeCode) (image : Image) → IsCodeOf p table code → HasSizesOf p code → IsCounted code → IsSelectionImage code image
+pub has_table_words : (p : Tree) (d : PlainDerivation) (table : ShapeTable) (code : PeCode) (image : Image) → code.shapes ≡ length table.shapes → HasSizesOf p code → IsCounted code → IsSelectionImage code image
     → HasJustPairs table (shape_table p d) → HasTableWords p d (length image.table)
-has_table_words p d table code image right sizes counted is just =
+has_table_words p d table code image shapes sizes counted is just =
     let made = ap length is.image_of.table_is ∙ counted.table in
     let words : code.shapes * (4 + length code.thunks) ≡ table_words p (length table.shapes) =
-    ap (λ n. n * (4 + length code.thunks)) right.shapes ∙ ap (λ n. length table.shapes * (4 + n)) sizes.thunk_nodes in
+    ap (λ n. n * (4 + length code.thunks)) shapes ∙ ap (λ n. length table.shapes * (4 + n)) sizes.thunk_nodes in
     record { shapes = length table.shapes; counted = shapes_counted p d table just; words_are = made ∙ words }

@@ -1,5 +1,6 @@
 -- The law of the headline: the image of the code of a phrase runs as the copy rule.
-use Rattle.std.specs.Prelude.{◌≤◌}
+use Rattle.std.specs.Prelude.{◌≤◌, Option}
+use Rattle.fy_base.specs.declared.data.Datum.{Datum}
 use Rattle.fy_phrase.specs.Tree.{Tree}
 use Rattle.fy_phrase.specs.Sizes.{depth}
 use Rattle.fy_image.specs.declared.image.Image.{Image}
@@ -9,6 +10,7 @@ use Rattle.rv_select.specs.Laws.{deepest}
 use Rattle.rv_select.specs.Images.{IsSelectionImage}
 use Rattle.fy_build.specs.Headline.{RunsAsCopyRule}
 
--- an image of code that follows the copy rule, and makes its frames no deeper than the phrase's binders, runs as the copy rule
+-- an image of code that follows the copy rule, whatever constants it hands as data, and makes its frames no deeper than the phrase's binders, runs as the copy rule
 abbrev pub CodeRunsAsCopyRule : Type 0
-CodeRunsAsCopyRule = (p : Tree) (code : PeCode) (image : Image) → FollowsCopyRule p code → deepest code.items ≤ depth p → IsSelectionImage code image → RunsAsCopyRule p image
+CodeRunsAsCopyRule =
+    (handed : Tree → Option Datum) (p : Tree) (code : PeCode) (image : Image) → FollowsCopyRule handed p code → deepest code.items ≤ depth p → IsSelectionImage code image → RunsAsCopyRule p image

@@ -18,7 +18,7 @@ ghost use Rattle.fy_build.specs.Headline.{RunsAsCopyRule};
 ghost use Rattle.fy_build.specs.Building.{IsProgramPhrase, IsStackSize, HasTableWords, IsAccepted, IsRefused};
 ghost use Rattle.fy_build.specs.declared.error.BuildError.{BuildError};
 
-use crate::data::read_answers;
+use crate::data::read_values;
 use crate::error::BuildError;
 use crate::laws::{code_runs_as_copy_rule, selections_become_images, selections_can_be_assembled};
 use fy_base::OutOfMemory;
@@ -26,7 +26,7 @@ use fy_derive::{Derivation, check};
 use fy_image::Image;
 use fy_phrase::{Phrase, ShapeTable};
 use pe_code::PeCode;
-use pe_gen::generate;
+use pe_gen::{direct, generate};
 use pe_shapes::shapes_of;
 use rv_asm::{AsmError, Assembled, Item, assemble};
 use rv_flow::images_are_guarded;
@@ -95,8 +95,9 @@ pub fn image_of(
     ensures ranges { IfOk result (λ image. IsImage image) }
     ensures guarded { IfOk result (λ image. IsGuarded image) }
 {
-    let code = generate(alloc, p, table)?;
-    read_answers(code.items.as_slice());
+    let generated = generate(alloc, p, table)?;
+    let code = direct(alloc, p, &generated)?;
+    read_values(code.items.as_slice());
     let image = image_of_code(alloc, &code, stack_words)?;
     code_runs_as_copy_rule();
     selection_is_counted();

@@ -1,29 +1,32 @@
-//! The data that code answers.
+//! The data in code.
 
 ghost use Rattle.std.specs.Prelude.{◌≡◌, ◌<◌, true, All};
 ghost use Rattle.std.specs.Option.{ForSome};
 ghost use Rattle.fy_base.specs.Arithmetic.{is_int};
 ghost use Rattle.rv_operators.specs.Laws.{IsDatum};
-ghost use Rattle.rv_select.specs.Laws.{answer_of};
+ghost use Rattle.rv_select.specs.Laws.{value_of};
 
 use fy_base::Datum;
 use pe_code::{PeInsn, PeItem};
 
-/// Reads each datum that items answer, and does nothing else: one that was read is in its type's range.
-pub(crate) fn read_answers(items: &[PeItem])
-    ensures { All (λ item. ForSome (answer_of item.insn) IsDatum) items.now }
+/// Reads each datum that items answer, pass or bind, and does nothing else: one that was read is in its type's range.
+pub(crate) fn read_values(items: &[PeItem])
+    ensures { All (λ item. ForSome (value_of item.insn) IsDatum) items.now }
 {
     for item in items {
-        read_answer(&item.insn);
+        read_value(&item.insn);
     }
 }
 
-// Reads the datum that an instruction answers, if it answers one.
-fn read_answer(insn: &PeInsn)
-    ensures { ForSome (answer_of insn.now) IsDatum }
+// Reads the datum of an instruction, if it has one.
+fn read_value(insn: &PeInsn)
+    ensures { ForSome (value_of insn.now) IsDatum }
 {
-    if let PeInsn::Answer(datum) = insn {
-        read_datum(*datum);
+    match insn {
+        PeInsn::Answer(datum) | PeInsn::PassData(datum, _) | PeInsn::LetData(datum, _) => {
+            read_datum(*datum);
+        }
+        _ => {}
     }
 }
 
