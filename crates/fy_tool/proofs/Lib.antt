@@ -9,3 +9,4 @@ pub mod Pigeons
 pub mod Completing
 pub mod Named
 pub mod Answering
+pub mod Direct

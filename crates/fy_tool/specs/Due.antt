@@ -1,11 +1,13 @@
 -- What is due for an order: its status, its output, its notes, the file that it keeps and what it leaves at input.
-use Rattle.std.specs.Prelude.{◌≡◌, ℕ, List, [], ◌∷◌, ◌++◌, length, codes, Some, None, unwrap_or, option_to_list}
+use Rattle.std.specs.Prelude.{◌≡◌, ℕ, List, [], ◌∷◌, ◌++◌, length, codes, Some, None, unwrap_or, option_to_list, All}
 use Rattle.std.specs.declared.option.Option.{Option}
 use Rattle.fy_base.specs.Outside.{Bytes, Folder, Tells}
 use Rattle.fy_phrase.specs.Tree.{Tree}
 use Rattle.fy_phrase.specs.declared.shapes.ShapeTable.{ShapeTable}
 use Rattle.pe_code.specs.Valid.{IsValid}
 use Rattle.pe_code.specs.declared.code.PeCode.{PeCode}
+use Rattle.pe_right.specs.Constants.{constant}
+use Rattle.pe_right.specs.Direct.{HandsNoConstant}
 use Rattle.pe_right.specs.Right.{IsCodeOf}
 use Rattle.pe_right.specs.Follows.{FollowsCopyRule}
 use Rattle.fy_derive.specs.Derivations.{PlainDerivation}
@@ -189,11 +191,13 @@ pub record RunsBuilt (text : Bytes) (named derivation : Option Bytes) (stack ste
 
 -- ---- push-enter code
 
--- the code of a phrase by a table of the demand shapes of a derivation in use: it is right, and so it does what the copy rule does
+-- the code of a phrase by a table of the demand shapes of a derivation in use, with constants handed as data: it is valid and right, so that it has an entry for each pair of the table and for no other,
+-- hands no constant of the phrase as a thunk, and does what the copy rule does
 pub record IsRightCode (p : Tree) (table : ShapeTable) (code : PeCode) : Type 0 where
   pub valid : IsValid code
-  pub right : IsCodeOf p table code
-  pub follows : FollowsCopyRule p code
+  pub right : IsCodeOf constant p table code
+  pub hands_no_constant : All (λ item. HandsNoConstant p item.insn) code.items
+  pub follows : FollowsCopyRule constant p code
 
 -- ---- what is due
 
@@ -251,7 +255,7 @@ pub data IsDue (sources : Sources) (input : Bytes) : Option Order → Due → Ty
   copies : (file : Bytes) (steps : Option ℕ) (text : Bytes) (p : Tree) (d : PlainDerivation) (n : ℕ) (end : CopyEnd) → sources.file ≡ Some text → IsProgramText text p → IsInUse p d
       → IsCopyRun (record { phrase = p; input = input; limit = copy_wanted steps }) n end
       → IsDue sources input (Some (orders.copy file steps)) (copied (record { phrase = p; input = input; limit = copy_wanted steps }) n end)
-  -- `trace` runs the phrase's code by that derivation, on a machine with so many words of stack, and tells each step
+  -- `trace` runs the phrase's code by that derivation, with constants handed as data, on a machine with so many words of stack, and tells each step
   traces : (file : Bytes) (steps : Option ℕ) (text : Bytes) (p : Tree) (names : List Bytes) (d : PlainDerivation) (code : PeCode) (n : ℕ) (end : StepEnd) → sources.file ≡ Some text
       → IsProgramText text p → HasNames text names → (used : IsInUse p d) → IsRightCode p used.table code → IsSteppedRun (stepping_of code names input (trace_steps_wanted steps)) n end
       → IsDue sources input (Some (orders.trace file steps)) (stepped (stepping_of code names input (trace_steps_wanted steps)) n end)
