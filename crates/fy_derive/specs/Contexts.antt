@@ -5,7 +5,7 @@ use Rattle.fy_derive.specs.declared.premise.Binds.{Binds}
 use Rattle.fy_derive.specs.declared.premise.Binds.TheVariants.{Nothing, First, Given}
 
 abbrev pub numbers_step : Context-F (List ℕ) → List ℕ
-numbers_step Context-F.Empty = []
+numbers_step (Context-F.Outside ks) = ks.now
 numbers_step (Context-F.Under k G) = k ∷ G.now
 
 -- the numbers, the innermost first

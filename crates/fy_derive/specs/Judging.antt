@@ -1,15 +1,16 @@
 -- What a derivation concludes for a phrase, judged from left to right: a node's form first, then its premises in order, then its
 -- conclusion. Types are compared as trees.
-use Rattle.std.specs.Prelude.{ℕ, zero, suc, ◌+◌, ◌==◌, nat_le, List, [], ◌∷◌, ◌++◌, length, replicate, Option, Some, None, option_map, if◌then◌else◌}
+use Rattle.std.specs.Prelude.{ℕ, zero, suc, ◌+◌, ◌==◌, nat_le, List, [], ◌∷◌, ◌++◌, length, replicate, map, reverse, Option, Some, None, option_map, if◌then◌else◌}
 use Rattle.fy_types.specs.declared.types.Atom.TheVariants.{Comm}
-use Rattle.fy_types.specs.Types.{PlainType, PlainTypes, ns, arrow, meet, no_types, and_type}
+use Rattle.fy_types.specs.declared.types.TyList.{TyList}
+use Rattle.fy_types.specs.Types.{PlainType, PlainTypes, ns, atom, arrow, meet, no_types, and_type}
 use Rattle.fy_types.specs.Paths.{paths}
-use Rattle.fy_types.specs.Reading.{types_from}
+use Rattle.fy_types.specs.Reading.{types_in, plain_type, types_from}
 use Rattle.fy_phrase.specs.Tree.{Tree, lam, merge}
 use Rattle.fy_derive.specs.Derivations.{PlainDerivation, PlainDerivations, by_ns, sub, meets, alt, left, right, rule, no_derivations, and_derivation, count, nodes}
 use Rattle.fy_derive.specs.Subsumption.{is_below}
 use Rattle.fy_derive.specs.Kinds.{Kind, kind_of, none_begins}
-use Rattle.fy_derive.specs.Rules.{Binder, nothing, first, given, Premise, premises, provided, is_atom, conclusion}
+use Rattle.fy_derive.specs.Rules.{Binder, nothing, first, given, Premise, premises, provided, same_type, conclusion}
 
 -- a conclusion, or the number of the node at which judging stops
 pub data Judged : Type 0 where
@@ -94,11 +95,19 @@ abbrev mutual
   each_judged (and_derivation d ds) n G (P ∷ Ps) As =
       then_others (judged d n (under P.0 As G) P.1) (λ A. each_judged ds (n + nodes d) G Ps (As ++ A ∷ []))
 
+-- the types of the variables in scope, the innermost first, where the list has the outermost first
+abbrev pub in_scope : TyList → List PlainType
+in_scope context = reverse (map plain_type (types_in context))
+
 -- what the derivation concludes for the phrase with no variable in scope
 abbrev pub conclusion_of : Tree → PlainDerivation → Judged
 conclusion_of p d = judged d 0 [] p
 
--- the node at which a derivation of a command is refused: the first at which judging stops, or the whole
+-- the node at which a derivation of the type is refused: the first at which judging stops, or the whole
+abbrev pub refusal_at : PlainType → Judged → Option ℕ
+refusal_at T (concludes A) = if same_type A T then None else Some 0
+refusal_at T (stops n) = Some n
+
+-- the same of a derivation of a command
 abbrev pub refusal : Judged → Option ℕ
-refusal (concludes A) = if is_atom Comm A then None else Some 0
-refusal (stops n) = Some n
+refusal = refusal_at (atom Comm)

@@ -8,7 +8,9 @@ use crate::premise::Binds;
 /// The numbers of the types of the variables in scope, the innermost first.
 #[derive(Clone, Copy, Drop)]
 pub enum Context<'a> {
-    Empty,
+    /// The variables that are bound around the whole phrase.
+    Outside(&'a [usize]),
+    /// One that is bound in it, and those around.
     Under(usize, &'a Context<'a>),
 }
 
@@ -18,14 +20,18 @@ pub fn number_at(context: &Context<'_>, variable: u32) -> Option<usize>
 {
     let mut rest = context;
     let mut left = variable;
-    while let Context::Under(number, outer) = rest {
-        if left == 0 {
-            return Some(*number);
+    loop {
+        match rest {
+            Context::Outside(numbers) => return numbers.get(left as usize).copied(),
+            Context::Under(number, outer) => {
+                if left == 0 {
+                    return Some(*number);
+                }
+                left -= 1;
+                rest = outer;
+            }
         }
-        left -= 1;
-        rest = outer;
     }
-    None
 }
 
 /// The context of a premise, from the conclusions of the premises before it.

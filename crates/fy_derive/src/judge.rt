@@ -2,9 +2,10 @@
 
 ghost use Rattle.std.specs.Prelude.{◌≡◌, ◌+◌, ◌^◌, ◌<◌, ◌≤◌, [], IfOk, OnOk, length};
 ghost use Rattle.fy_phrase.specs.Reads.{reads};
+ghost use Rattle.fy_types.specs.Reading.{plain_type};
 ghost use Rattle.fy_derive.specs.Contexts.{numbers};
 ghost use Rattle.fy_derive.specs.Derivations.{nodes, all_nodes, nesting, count, most_nodes, most_nesting};
-ghost use Rattle.fy_derive.specs.Judging.{judged as judged_type, each_judged, conclusion_of, refusal};
+ghost use Rattle.fy_derive.specs.Judging.{judged as judged_type, each_judged, conclusion_of, in_scope, refusal, refusal_at};
 ghost use Rattle.fy_derive.specs.Reading.{plain_derivation, plain_derivations};
 ghost use Rattle.fy_derive.specs.Shown.{all_shown, AreIn, Extends};
 ghost use Rattle.fy_derive.specs.Standing.{premises_shown, ArePremisesIn, IsJudgedAs, AreJudgedAs, IsVerdict};
@@ -13,16 +14,16 @@ use crate::below::is_below;
 use crate::context::{Context, under};
 use crate::derivation::{Derivation, DerivationList};
 use crate::error::DeriveError;
-use crate::fits::is_atom;
+use crate::fits::same_as_written;
 use crate::kind::none_begins;
 use crate::node::TypeNode;
 use crate::parts::{alternative, operands};
 use crate::premise::{Premise, repeated, rule_premises};
-use crate::reading::{number_of_meet, number_of_type};
+use crate::reading::{number_of_meet, number_of_type, numbers_in_scope};
 use crate::rules::conclusion;
 use crate::table::TypeTable;
 use fy_phrase::Phrase;
-use fy_types::Atom;
+use fy_types::{Atom, Ty, TyList};
 use std::alloc::Global;
 
 /// Whether the derivation concludes `comm` for the phrase, with no variable in scope. It is to have
@@ -35,13 +36,39 @@ pub fn check(alloc: Global, p: &Phrase, d: &Derivation) -> Result<(), DeriveErro
     requires shallow { nesting (plain_derivation d.now) ≤ most_nesting }
     ensures { IsVerdict result (refusal (conclusion_of (reads p.now) (plain_derivation d.now))) }
 {
+    check_as(alloc, &TyList::new(alloc), p, &Ty::Atom(Atom::Comm), d)
+}
+
+/// Whether the derivation concludes the type, as the same tree, for the phrase, where the variables in
+/// scope have the types of the context, the outermost first. The derivation is to have at most 262,144
+/// nodes and to nest at most 2,048. `Wrong` names the first node, from the left, at which judging
+/// stops, or node 0 where the whole concludes another type.
+pub fn check_as(
+    alloc: Global,
+    context: &TyList,
+    p: &Phrase,
+    ty: &Ty,
+    d: &Derivation,
+) -> Result<(), DeriveError>
+    requires few { nodes (plain_derivation d.now) ≤ most_nodes }
+    requires shallow { nesting (plain_derivation d.now) ≤ most_nesting }
+    ensures { IsVerdict result (refusal_at (plain_type ty.now)
+        (judged_type (plain_derivation d.now) 0 (in_scope context.now) (reads p.now))) }
+{
     let mut table = TypeTable::new(alloc);
+    let outside = numbers_in_scope(alloc, &mut table, context)?;
     let mut next = 0;
-    let number = judge(alloc, &mut table, &mut next, d, &Context::Empty, p)?;
-    if is_atom(&table, number, Atom::Comm) {
-        Ok(())
-    } else {
-        Err(DeriveError::Wrong(0))
+    let number = judge(
+        alloc,
+        &mut table,
+        &mut next,
+        d,
+        &Context::Outside(&outside),
+        p,
+    )?;
+    match same_as_written(alloc, &mut table, number, ty)? {
+        Some(_) => Ok(()),
+        None => Err(DeriveError::Wrong(0)),
     }
 }
 

@@ -27,7 +27,7 @@ pub use atoms::{
 };
 pub use derivation::{Derivation, DerivationList};
 pub use error::DeriveError;
-pub use judge::check;
+pub use judge::{check, check_as};
 pub use kind::{Demand, demand_of};
 pub use laws::{
     judged_programs_are_never_stuck, judging_is_typing, typed_programs_are_never_stuck,

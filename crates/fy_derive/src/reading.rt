@@ -3,6 +3,7 @@
 ghost use Rattle.std.specs.Prelude.{◌≡◌, ◌<◌, IfOk, OnOk};
 ghost use Rattle.fy_types.specs.Types.{meet};
 ghost use Rattle.fy_types.specs.Reading.{plain_type, plain_types, types_from};
+ghost use Rattle.fy_derive.specs.Judging.{in_scope};
 ghost use Rattle.fy_derive.specs.Shown.{total, shown, all_shown, Extends, AreIn};
 
 use crate::node::TypeNode;
@@ -25,6 +26,26 @@ pub fn number_of_meet(table: &mut TypeTable, members: &[usize]) -> Result<usize,
         whole = table.number(TypeNode::AndType(members[i], whole))?;
     }
     Ok(whole)
+}
+
+/// The numbers of the types of the variables in scope, the innermost first, from a list that has the
+/// outermost first.
+pub fn numbers_in_scope(
+    alloc: Global,
+    table: &mut TypeTable,
+    context: &TyList,
+) -> Result<Vec<usize>, OutOfMemory>
+    ensures within { IfOk result (λ ks. AreIn table.new ks.items) }
+    ensures stands { IfOk result (λ ks. all_shown table.new ks.items ≡ in_scope context.now) }
+{
+    let types = context.as_slice();
+    let mut numbers = Vec::new(alloc);
+    let mut i = types.len();
+    while i > 0 {
+        i -= 1;
+        numbers.push(number_of_type(alloc, table, &types[i])?)?;
+    }
+    Ok(numbers)
 }
 
 /// The number of the type.
