@@ -25,3 +25,7 @@ pub mod FaultLemmas
 pub mod LoopLemmas
 pub mod WithinLemmas
 pub mod ProgramFrames
+pub mod AlikeScopes
+pub mod AlikeLemmas
+pub mod ImportLemmas
+pub mod ClearLemmas

@@ -10,3 +10,4 @@ pub mod Built
 pub mod Frames
 pub mod Judged
 pub mod NamesOf
+pub mod Imports

@@ -9,6 +9,7 @@ ghost use Rattle.fy_phrase.specs.PhraseNames.{AllNames, HasFullTypes};
 ghost use Rattle.fy_phrase.specs.Tree.{Tree};
 ghost use Rattle.fy_types.specs.Fields.{IsNamed};
 ghost use Rattle.fy_types.specs.Names.{first_names};
+ghost use Rattle.fy_expand.specs.Imports.{PhrasesMeanTheSame};
 ghost use Rattle.fy_expand.specs.Judged.{IsJudged, Refusal};
 
 /// A text is judged one way: it has at most one core phrase, and then no refusal, and at most one refusal.
@@ -29,4 +30,10 @@ pub fn judged_phrases_are_named()
     ensures names { (text : Bytes) (phrase : Tree) (tokens : List Token) (names : List Bytes)
         → IsJudged text (Ok phrase) → IsTokensOf first_names text tokens names
         → AllNames (IsNamed names) phrase }
+{}
+
+/// A phrase without a fault under names that are given from outside means the same, and has no fault, where these stand among
+/// more names, none of them the prelude's, and at other places. It does nothing: its contract is the law.
+pub fn phrases_mean_the_same()
+    ensures { PhrasesMeanTheSame }
 {}
