@@ -6,7 +6,7 @@ use Rattle.fy_types.specs.Names.{first_names}
 use Rattle.fy_lexer.specs.declared.token.Token.{Token}
 use Rattle.fy_lexer.specs.declared.token.TokenKind.{TokenKind}
 use Rattle.fy_lexer.specs.declared.token.TokenKind.TheVariants.{Ident, Number, Letter, Str, Word, Sym, End}
-use Rattle.fy_lexer.specs.Identifiers.{AllIdentifiers}
+use Rattle.fy_lexer.specs.Identifiers.{AreIdentifiers, AllIdentifiers}
 use Rattle.fy_lexer.specs.Tokens.{Reading, names_past, Step, Steps, IsTokensOf, start_of}
 use Rattle.fy_lexer.proofs.NamesLemmas.{HasAdded-with_name}
 use Rattle.fy_lexer.proofs.IdentifierLemmas.{named_later, identifiers_named}
@@ -15,13 +15,13 @@ use Rattle.fy_syntax.proofs.NameLemmas.{names_are_of_tokens}
 use Rattle.fy_phrase.specs.Tree.{Tree}
 use Rattle.fy_phrase.specs.CoreLimits.{KeepsCoreLimits}
 use Rattle.fy_phrase.specs.PhraseNames.{AllNames, HasFullTypes}
-use Rattle.fy_expand.specs.Judged.{IsJudged, expanded}
+use Rattle.fy_expand.specs.Judged.{IsJudgedFrom, IsJudged, expanded}
 use Rattle.fy_expand.proofs.ExpansionLemmas.{core_of-limits, core_of-names, core_of-full}
 
-pub judged-limits : (text : Bytes) (p : Tree) → IsJudged text (Ok p) → KeepsCoreLimits p
+pub judged-limits : {names : List Bytes} (text : Bytes) (p : Tree) → IsJudgedFrom names text (Ok p) → KeepsCoreLimits p
 judged-limits text p (expanded {tree = tree} h a is) = core_of-limits tree p is
 
-pub judged-full : (text : Bytes) (p : Tree) → IsJudged text (Ok p) → HasFullTypes p
+pub judged-full : {names : List Bytes} (text : Bytes) (p : Tree) → IsJudgedFrom names text (Ok p) → HasFullTypes p
 judged-full text p (expanded {tokens = tokens} {tree = tree} h a is) = core_of-full tree p tokens is a.spelled
 
 -- ---- the name `len` stays among the names
@@ -46,13 +46,17 @@ len-steps old new (Steps.more a next b step steps) h = len-steps next new steps 
 len-first : IsNamed first_names 0
 len-first = record { name = codes "len"; numbered = refl; identifier = refl }
 
-len-named : (text : Bytes) (tokens : List Token) (names : List Bytes) → IsTokensOf first_names text tokens names → IsNamed names 0
-len-named text tokens names h = subst (λ ns. IsNamed ns 0) (sym h.named) (len-steps (start_of first_names text) h.last h.steps len-first)
+len-named : (names after : List Bytes) (text : Bytes) (tokens : List Token) → IsNamed names 0 → IsTokensOf names text tokens after → IsNamed after 0
+len-named names after text tokens first h = subst (λ ns. IsNamed ns 0) (sym h.named) (len-steps (start_of names text) h.last h.steps first)
 
 -- ---- the names of the phrase
 
+pub judged-names_from : (names after : List Bytes) (text : Bytes) (p : Tree) (tokens : List Token) → AreIdentifiers names → IsNamed names 0 →
+    IsJudgedFrom names text (Ok p) → IsTokensOf names text tokens after → AllNames (IsNamed after) p
+judged-names_from names after text p tokens identifiers first (expanded {tokens = others} {tree = tree} h a is) k =
+    let same = (tokens_same names text others tokens h.after after h.read k).0 in
+    let idents = subst (AllIdentifiers (IsNamed after)) (sym same) (identifiers_named.named names text tokens after k identifiers) in
+    core_of-names tree p is (IsNamed after) (len-named names after text tokens first k) (names_are_of_tokens.named after tree others a.spelled idents)
+
 pub judged-names : (text : Bytes) (p : Tree) (tokens : List Token) (names : List Bytes) → IsJudged text (Ok p) → IsTokensOf first_names text tokens names → AllNames (IsNamed names) p
-judged-names text p tokens names (expanded {tokens = others} {tree = tree} h a is) k =
-    let same = (tokens_same first_names text others tokens h.after names h.read k).0 in
-    let idents = subst (AllIdentifiers (IsNamed names)) (sym same) (identifiers_named.named first_names text tokens names k identifiers_named.first) in
-    core_of-names tree p is (IsNamed names) (len-named text tokens names k) (names_are_of_tokens.named names tree others a.spelled idents)
+judged-names text p tokens names h k = judged-names_from first_names names text p tokens identifiers_named.first len-first h k

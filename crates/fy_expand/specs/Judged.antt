@@ -27,11 +27,11 @@ pub data Refusal : Type 0 where
   -- a fault, or a core limit
   expansion_refused : ExpandError → Refusal
 
--- the tokens of a text of allowed length, within their limits, with names numbered from the predefined ones on
-pub record HasTokens (text : Bytes) (tokens : List Token) : Type 0 where
+-- the tokens of a text of allowed length, within their limits, with names numbered by the list
+pub record HasTokensFrom (names : List Bytes) (text : Bytes) (tokens : List Token) : Type 0 where
   pub short : length text ≤ 1048576
   pub after : List Bytes
-  pub read : IsTokensOf first_names text tokens after
+  pub read : IsTokensOf names text tokens after
   pub within : AreWithin tokens
 
 -- the tokens spell the program, which nests at most 256
@@ -39,16 +39,29 @@ pub record IsAllowed (tokens : List Token) (tree : written.Tree) : Type 0 where
   pub spelled : IsProgram tree tokens
   pub nests : nesting tree ≤ 256
 
--- the text is judged so
-pub data IsJudged : Bytes → Result Tree Refusal → Type 0 where
-  too_long : {text : Bytes} → 1048576 < length text → IsJudged text (Err length_refused)
-  no_tokens : {text : Bytes} {e : LexError} → length text ≤ 1048576 → IsFaultOf first_names text e → e ≢ OutOfMemory →
-      IsJudged text (Err (tokens_refused e))
-  no_program : {text : Bytes} {tokens : List Token} {at : Place} → HasTokens text tokens →
-      IsSyntaxFault 256 tokens at → IsJudged text (Err (syntax_refused at))
-  too_deep : {text : Bytes} {tokens : List Token} {at : Place} → HasTokens text tokens →
-      IsDepthFault 256 tokens at → IsJudged text (Err (depth_refused at))
-  not_expanded : {text : Bytes} {tokens : List Token} {tree : written.Tree} {e : ExpandError} → HasTokens text tokens →
-      IsAllowed tokens tree → core_of tree ≡ Err e → IsJudged text (Err (expansion_refused e))
-  expanded : {text : Bytes} {tokens : List Token} {tree : written.Tree} {p : Tree} → HasTokens text tokens →
-      IsAllowed tokens tree → core_of tree ≡ Ok p → IsJudged text (Ok p)
+-- the text is judged so, where names are numbered by the list
+pub data IsJudgedFrom : List Bytes → Bytes → Result Tree Refusal → Type 0 where
+  too_long : {names : List Bytes} {text : Bytes} → 1048576 < length text → IsJudgedFrom names text (Err length_refused)
+  no_tokens : {names : List Bytes} {text : Bytes} {e : LexError} → length text ≤ 1048576 → IsFaultOf names text e → e ≢ OutOfMemory →
+      IsJudgedFrom names text (Err (tokens_refused e))
+  no_program : {names : List Bytes} {text : Bytes} {tokens : List Token} {at : Place} → HasTokensFrom names text tokens →
+      IsSyntaxFault 256 tokens at → IsJudgedFrom names text (Err (syntax_refused at))
+  too_deep : {names : List Bytes} {text : Bytes} {tokens : List Token} {at : Place} → HasTokensFrom names text tokens →
+      IsDepthFault 256 tokens at → IsJudgedFrom names text (Err (depth_refused at))
+  not_expanded : {names : List Bytes} {text : Bytes} {tokens : List Token} {tree : written.Tree} {e : ExpandError} → HasTokensFrom names text tokens →
+      IsAllowed tokens tree → core_of tree ≡ Err e → IsJudgedFrom names text (Err (expansion_refused e))
+  expanded : {names : List Bytes} {text : Bytes} {tokens : List Token} {tree : written.Tree} {p : Tree} → HasTokensFrom names text tokens →
+      IsAllowed tokens tree → core_of tree ≡ Ok p → IsJudgedFrom names text (Ok p)
+
+-- from the predefined names on
+abbrev pub HasTokens : Bytes → List Token → Type 0
+HasTokens = HasTokensFrom first_names
+
+abbrev pub IsJudged : Bytes → Result Tree Refusal → Type 0
+IsJudged = IsJudgedFrom first_names
+
+-- with the list a text has at most one core phrase, and then no refusal, and at most one refusal
+pub record AreJudgedOneWay (names : List Bytes) : Type 0 where
+  pub phrase : (text : Bytes) (phrase other : Tree) → IsJudgedFrom names text (Ok phrase) → IsJudgedFrom names text (Ok other) → phrase ≡ other
+  pub apart : (text : Bytes) (phrase : Tree) (why : Refusal) → IsJudgedFrom names text (Ok phrase) → ¬ IsJudgedFrom names text (Err why)
+  pub refusal : (text : Bytes) (why other : Refusal) → IsJudgedFrom names text (Err why) → IsJudgedFrom names text (Err other) → why ≡ other

@@ -1,4 +1,4 @@
-use Rattle.fy_expand.proofs.JudgedLemmas.{one_phrase, phrase_or_refusal, one_refusal}
+use Rattle.fy_expand.proofs.JudgedLemmas.{one_phrase, phrase_or_refusal, one_refusal, judged_one_way}
 use Rattle.fy_expand.proofs.laws.texts_are_judged_one_way.Goals as goal
 
 pub returns-clause-phrase : goal.returns-clause-phrase
@@ -9,3 +9,6 @@ returns-clause-apart c text phrase why h k = phrase_or_refusal text phrase why h
 
 pub returns-clause-refusal : goal.returns-clause-refusal
 returns-clause-refusal c text why other h k = one_refusal text why other h k
+
+pub returns-clause-from : goal.returns-clause-from
+returns-clause-from c = judged_one_way
