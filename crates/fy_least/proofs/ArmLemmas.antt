@@ -1,12 +1,13 @@
 -- What finding answers of a phrase, said of the form of the phrase.
-use Rattle.std.proofs.Common.{ℕ, ◌≡◌, List, [], ◌∷◌, Bor, refl, sym, ap, ◌∙◌, subst}
+use Rattle.std.proofs.Common.{ℕ, ◌≡◌, List, ◌∷◌, map, reverse, Bor, refl, sym, ap, ◌∙◌, subst}
 use Rattle.std.specs.Prelude.{IfOk, IsErrOf, Result, Ok, Err}
 use Rattle.fy_base.specs.declared.data.Place.{Place}
 use Rattle.fy_types.specs.declared.error.TypeError.{TypeError}
 use Rattle.fy_types.specs.declared.error.TypeError.TheVariants as types
 use Rattle.fy_types.specs.declared.paths.Paths.{Paths}
+use Rattle.fy_types.specs.declared.types.Ty.{Ty}
 use Rattle.fy_types.specs.Paths.{PlainPaths}
-use Rattle.fy_types.specs.Reading.{plain_paths}
+use Rattle.fy_types.specs.Reading.{plain_paths, plain_type}
 use Rattle.fy_phrase.specs.declared.phrase.MarkKind.{MarkKind}
 use Rattle.fy_base.specs.declared.data.Datum.{Datum}
 use Rattle.fy_phrase.specs.declared.phrase.Phrase as form
@@ -15,18 +16,17 @@ use Rattle.fy_phrase.specs.declared.phrase.Phrase.TheOpen.{Phrase-F}
 use Rattle.fy_phrase.specs.declared.phrase.Phrase.TheVariants.{rolls-Lit, rolls-Skip, rolls-Mark}
 use Rattle.fy_phrase.specs.Tree.{Tree, Trees, lit, skip, mark}
 use Rattle.fy_phrase.specs.Reads.{reads, reads_form, reads_list}
-use Rattle.fy_derive.specs.Least.{visits}
+use Rattle.fy_derive.specs.Least.{forms_of, visits}
 use Rattle.fy_least.specs.declared.error.LeastError.{LeastError}
 use Rattle.fy_least.specs.declared.error.LeastError.TheVariants.{TypeTooLarge}
 use Rattle.fy_least.specs.declared.found.Found.{Found}
 use Rattle.fy_least.specs.declared.scope.Scope as scope_form
-use Rattle.fy_least.specs.declared.scope.Scope.{Scope, Scope-F, fold-roll-Scope}
-use Rattle.fy_least.specs.declared.scope.Scope.TheVariants.{rolls-Outermost}
+use Rattle.fy_least.specs.declared.scope.Scope.{Scope}
 use Rattle.fy_least.specs.Counts.{PassLimits}
 use Rattle.fy_least.specs.Refused.{of_type}
-use Rattle.fy_least.specs.Scopes.{scope_forms, forms_step}
+use Rattle.fy_least.specs.Scopes.{scope_forms}
 use Rattle.fy_least.specs.Visited.{IsFound}
-use Rattle.fy_least.proofs.ScopeLemmas.{forms-under}
+use Rattle.fy_least.proofs.ScopeLemmas.{forms-around, forms-under}
 
 pub Lit-tree : (p : Phrase) (v : Datum) (at : Place) → p ≡ form.Lit v at → reads p ≡ lit v at
 Lit-tree p v at e = rw e (ap reads (sym (rolls-Lit v at)) ∙ fold-roll-Phrase Tree Trees reads_form reads_list (Phrase-F.Lit v at))
@@ -63,5 +63,5 @@ too-large types.OutOfMemory e = absurd (cc)
 pub scope-under : (P : Bor Paths) (o : Bor Scope) → scope_forms (scope_form.Under P o) ≡ plain_paths P.now ∷ scope_forms o.now
 scope-under P o = forms-under (scope_form.Under P o) P o refl
 
-pub scope-outermost : scope_forms scope_form.Outermost ≡ []
-scope-outermost = ap scope_forms (sym rolls-Outermost) ∙ fold-roll-Scope (List PlainPaths) forms_step Scope-F.Outermost
+pub scope-around : (ts : Bor (List Ty)) → scope_forms (scope_form.Around ts) ≡ forms_of (reverse (map plain_type ts.now))
+scope-around ts = forms-around _ ts refl

@@ -81,10 +81,15 @@ large-middle P Q R W e d large =
     subst (λ X. IsTooLarge (once X)) (sym e)
     (large-in d (more-in (λ p h. in-once (append (append P Q) R) p (in-left (append P Q) R p (in-right P Q p h))) (in-itself Q)) large)
 
-large-front : (P R W : PlainPaths) → W ≡ append P R → IsTooLarge (once P) → IsTooLarge (once W)
-large-front P R W e large =
+-- what passes a limit, each path once, does so among others
+pub large-part : (P Q R W : PlainPaths) → W ≡ append (append P Q) R → IsTooLarge (once Q) → IsTooLarge (once W)
+large-part P Q R W e large =
     subst (λ X. IsTooLarge (once X)) (sym e)
-    (large-in (distinct-once P) (more-in (λ p h. in-once (append P R) p (in-left P R p h)) (once-in (in-itself P))) large)
+    (large-in (distinct-once Q)
+    (more-in (λ p h. in-once (append (append P Q) R) p (in-left (append P Q) R p (in-right P Q p h))) (once-in (in-itself Q))) large)
+
+pub large-front : (P R W : PlainPaths) → W ≡ append P R → IsTooLarge (once P) → IsTooLarge (once W)
+large-front P R W e large = large-part no_paths P R W e large
 
 -- the meet with what stands once already
 pub meet-once : (P Q : PlainPaths) → meet_of (once P) Q ≡ once (append P Q)

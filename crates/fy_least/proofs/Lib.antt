@@ -29,3 +29,4 @@ pub mod RuleFound
 pub mod ScopeLemmas
 pub mod ShapeLemmas
 pub mod VisitLemmas
+pub mod WrittenLemmas

@@ -1,25 +1,27 @@
 //! Derivations of programs.
 
-ghost use Rattle.std.specs.Prelude.{List, IfOk};
+ghost use Rattle.std.specs.Prelude.{◌≤◌, List, All, IfOk};
 ghost use Rattle.fy_base.specs.Outside.{Bytes};
-ghost use Rattle.fy_types.specs.Fields.{IsNamed};
+ghost use Rattle.fy_types.specs.Fields.{AllFields, HasFullMeets, IsNamed};
+ghost use Rattle.fy_types.specs.Nested.{type_nesting};
+ghost use Rattle.fy_types.specs.Reading.{plain_type};
 ghost use Rattle.fy_phrase.specs.CoreLimits.{KeepsCoreLimits};
 ghost use Rattle.fy_phrase.specs.PhraseNames.{AllNames, HasFullTypes};
 ghost use Rattle.fy_phrase.specs.Reads.{reads};
-ghost use Rattle.fy_derive.specs.Limits.{KeepsLimits};
+ghost use Rattle.fy_derive.specs.Judging.{in_scope};
+ghost use Rattle.fy_derive.specs.Limits.{KeepsLimits, most_type_nesting};
 ghost use Rattle.fy_derive.specs.Printable.{IsPrintable};
 ghost use Rattle.fy_derive.specs.Reading.{plain_derivation};
-ghost use Rattle.fy_least.specs.Finding.{IsFinding};
+ghost use Rattle.fy_least.specs.Finding.{IsFinding, IsFindingOf};
 ghost use Rattle.fy_least.specs.Layers.{subsumed, IsLayered};
 
-use crate::demands::has;
 use crate::error::FindError;
-use crate::found::to_atom;
+use crate::found::to_type;
 use crate::least::found_in;
 use crate::scope::Scope;
 use fy_derive::Derivation;
 use fy_phrase::Phrase;
-use fy_types::Atom;
+use fy_types::{Atom, Ty, TyList, copy_ty, is_below, ty_of};
 use std::alloc::Global;
 
 /// A derivation that the phrase is a command, with no variable in scope.
@@ -50,9 +52,45 @@ pub fn find(alloc: Global, p: &Phrase) -> Result<Derivation, FindError>
         AllNames (IsNamed names) (reads p.now) → IsPrintable names (plain_derivation d)) }
     ensures layered { IfOk result (λ d. IsLayered subsumed (plain_derivation d)) }
 {
-    let found = found_in(alloc, p, &Scope::Outermost)?;
-    if has(&found.paths, Atom::Comm) {
-        Ok(to_atom(alloc, Atom::Comm, found.derivation)?)
+    find_as(alloc, &TyList::new(alloc), p, &Ty::Atom(Atom::Comm))
+}
+
+/// A derivation that the phrase has the type, where the variables in scope have the types of the
+/// context, the outermost first. What it concludes is the same tree as the type.
+///
+/// Where the phrase keeps the limits on core phrases, as each part of a phrase that keeps them does, and
+/// the type nests at most 1,024, the derivation keeps its limits. If besides the names in the phrase, in
+/// the context and in the type are those of identifiers, and the meets in the phrase's types and in the
+/// type have two members or more, the derivation can be written as a text. Both are as with [`find`], and
+/// so is what stands above each rule.
+///
+/// # Errors
+///
+/// Those of [`find`], where the least types are those in the context, and the written types are those in
+/// the phrase. So a type of the context that passes a limit is refused where a variable of it is used.
+pub fn find_as(
+    alloc: Global,
+    context: &TyList,
+    p: &Phrase,
+    ty: &Ty,
+) -> Result<Derivation, FindError>
+    ensures found { IsFindingOf (in_scope context.now) (reads p.now) (plain_type ty.now) result }
+    ensures limits { IfOk result
+        (λ d. KeepsCoreLimits (reads p.now) → type_nesting (plain_type ty.now) ≤ most_type_nesting →
+        KeepsLimits (plain_derivation d)) }
+    ensures printable { IfOk result
+        (λ d. KeepsCoreLimits (reads p.now) → HasFullTypes (reads p.now) → HasFullMeets (plain_type ty.now) →
+        (names : List Bytes) → AllNames (IsNamed names) (reads p.now) → All (AllFields (IsNamed names)) (in_scope context.now) →
+        AllFields (IsNamed names) (plain_type ty.now) → IsPrintable names (plain_derivation d)) }
+    ensures layered { IfOk result (λ d. IsLayered subsumed (plain_derivation d)) }
+{
+    let found = found_in(alloc, p, &Scope::Around(context.as_slice()))?;
+    let least = ty_of(alloc, &found.paths)?;
+    let fits = is_below(alloc, &least, ty)?;
+    if fits {
+        let wanted = copy_ty(alloc, ty)?;
+        let whole = to_type(alloc, wanted, found.derivation)?;
+        Ok(whole)
     } else {
         Err(FindError::NoType(found.blame))
     }

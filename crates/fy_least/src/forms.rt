@@ -46,15 +46,15 @@ pub(crate) fn variable(
     ensures large { IsErrOf result LeastError.TypeTooLarge →
         IsRefused (once_of (paths_at (scope_forms scope.now) number)) (0) }
 {
-    let Some(paths) = form_at(scope, number) else {
+    let Some(paths) = form_at(alloc, scope, number)? else {
         return Ok(Found::none(alloc, at, 0));
     };
     let derivation = Derivation::Rule(DerivationList::new(alloc));
-    Found::new(once(alloc, paths)?, derivation, at, 0)
+    Found::new(paths, derivation, at, 0)
 }
 
 /// Each path of the form once.
-fn once(alloc: Global, paths: &Paths) -> Result<Paths, LeastError>
+pub(crate) fn once(alloc: Global, paths: &Paths) -> Result<Paths, LeastError>
     ensures ok { IfOk result (λ made. plain_paths made ≡ once_of (plain_paths paths.now)) }
     ensures large { IsErrOf result LeastError.TypeTooLarge → IsTooLarge (once_of (plain_paths paths.now)) }
 {

@@ -12,7 +12,8 @@ mod many;
 mod rules;
 mod scope;
 mod size;
+mod written;
 
 pub use error::FindError;
-pub use finder::find;
+pub use finder::{find, find_as};
 pub use laws::{least_type_is_principal, shapes_are_least};

@@ -92,8 +92,12 @@ fn paths_of_calls(alloc: Global, alternatives: &[Ty], bodies: &[Found]) -> Resul
     Ok(paths)
 }
 
-// The paths, each with a call of the alternative in front.
-fn paths_of_call(alloc: Global, alternative: &Ty, paths: &Paths) -> Result<Paths, TypeError>
+/// The paths, each with a call of the type in front.
+pub(crate) fn paths_of_call(
+    alloc: Global,
+    alternative: &Ty,
+    paths: &Paths,
+) -> Result<Paths, TypeError>
     ensures ok { IfOk result
         (λ made. plain_paths made ≡ called_of (paths_in_type (plain_type alternative.now)) (plain_paths paths.now)) }
     ensures large { IsErrOf result TypeError.TypeTooLarge →

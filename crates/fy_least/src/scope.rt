@@ -1,30 +1,69 @@
 //! The least types of the variables in scope.
 
-ghost use Rattle.std.specs.Prelude.{◌≡◌, option_map, slice_get};
-ghost use Rattle.fy_types.specs.Reading.{plain_paths};
+ghost use Rattle.std.specs.Prelude.{◌≡◌, IfOk, IsErrOf, map, option_map, reverse, slice_get};
+ghost use Rattle.fy_types.specs.Limits.{IsTooLarge};
+ghost use Rattle.fy_types.specs.Once.{once as once_of};
+ghost use Rattle.fy_types.specs.Reading.{plain_paths, plain_type};
+ghost use Rattle.fy_derive.specs.Least.{paths_at};
 ghost use Rattle.fy_least.specs.Scopes.{scope_forms};
 
-use fy_types::Paths;
+use crate::error::LeastError;
+use crate::forms::once;
+use crate::written::once_in;
+use fy_types::{Paths, Ty};
+use std::alloc::Global;
 
 /// The path forms of the types of the variables in scope, the innermost first.
 #[derive(Clone, Copy, Drop)]
 pub(crate) enum Scope<'a> {
-    Outermost,
+    /// The variables that are bound around the whole phrase, by their types, the outermost first.
+    Around(&'a [Ty]),
+    /// One that is bound in it, and those around.
     Under(&'a Paths, &'a Scope<'a>),
 }
 
-/// The path form of a variable's type, if the variable is in scope.
-pub(crate) fn form_at<'a>(scope: &'a Scope<'a>, variable: u32) -> Option<&'a Paths>
-    ensures { option_map (λ P. plain_paths P.now) result ≡ slice_get (scope_forms scope.now) variable }
+/// The paths of a variable, each once, if the variable is in scope.
+pub(crate) fn form_at(
+    alloc: Global,
+    scope: &Scope<'_>,
+    variable: u32,
+) -> Result<Option<Paths>, LeastError>
+    ensures ok { IfOk result
+        (λ o. option_map plain_paths o ≡ option_map once_of (slice_get (scope_forms scope.now) variable)) }
+    ensures large { IsErrOf result LeastError.TypeTooLarge →
+        IsTooLarge (once_of (paths_at (scope_forms scope.now) variable)) }
 {
     let mut rest = scope;
     let mut left = variable;
-    while let Scope::Under(paths, outer) = rest {
-        if left == 0 {
-            return Some(*paths);
+    loop {
+        match rest {
+            Scope::Around(types) => {
+                let Some(ty) = type_at(types, left) else {
+                    return Ok(None);
+                };
+                let made = once_in(alloc, ty)?;
+                return Ok(Some(made));
+            }
+            Scope::Under(paths, outer) => {
+                if left == 0 {
+                    let made = once(alloc, paths)?;
+                    return Ok(Some(made));
+                }
+                left -= 1;
+                rest = outer;
+            }
         }
-        left -= 1;
-        rest = outer;
     }
-    None
+}
+
+// The type of a variable that is bound around the whole phrase.
+fn type_at<'a>(types: &'a [Ty], variable: u32) -> Option<&'a Ty>
+    ensures { option_map (λ ty. plain_type ty.now) result ≡ slice_get (reverse (map plain_type types.now)) variable }
+{
+    let place = variable as usize;
+    if place < types.len() {
+        Some(&types[types.len() - 1 - place])
+    } else {
+        None
+    }
 }

@@ -1,5 +1,6 @@
 mod copy;
 mod derive;
+mod found;
 mod made;
 mod phrase;
 mod read;

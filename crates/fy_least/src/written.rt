@@ -1,0 +1,64 @@
+//! The path forms of types that are written around a phrase, each path once.
+
+ghost use Rattle.std.specs.Prelude.{◌≡◌, IfOk, IsErrOf};
+ghost use Rattle.fy_types.specs.Limits.{IsTooLarge};
+ghost use Rattle.fy_types.specs.Once.{once as once_of};
+ghost use Rattle.fy_types.specs.Paths.{all_paths, paths as paths_in_type, picked};
+ghost use Rattle.fy_types.specs.Reading.{plain_paths, plain_type, plain_types};
+
+use crate::demands::one_end;
+use crate::error::LeastError;
+use crate::found::field_of;
+use crate::many::paths_of_call;
+use fy_types::{Name, Paths, Ty, TyList, TypeError, meet, paths_of};
+use std::alloc::Global;
+
+/// The paths of the type, each once. Repeats are left out part by part, so that a form that keeps the
+/// limits is found where the type's own passes them.
+#[cycle(written)]
+pub(crate) fn once_in(alloc: Global, ty: &Ty) -> Result<Paths, LeastError>
+    ensures ok { IfOk result (λ made. plain_paths made ≡ once_of (paths_in_type (plain_type ty.now))) }
+    ensures large { IsErrOf result LeastError.TypeTooLarge → IsTooLarge (once_of (paths_in_type (plain_type ty.now))) }
+{
+    match ty {
+        Ty::Ns => Ok(Paths::new(alloc)),
+        Ty::Atom(end) => {
+            let made = one_end(alloc, *end)?;
+            Ok(made)
+        }
+        Ty::Arrow(domain, rest) => {
+            let rests = once_in(alloc, rest)?;
+            let made = paths_of_call(alloc, domain, &rests)?;
+            Ok(made)
+        }
+        Ty::Field(name, part) => {
+            let rests = once_in(alloc, part)?;
+            let made = paths_of_field(alloc, *name, &rests)?;
+            Ok(made)
+        }
+        Ty::Meet(list) => once_in_all(alloc, list),
+    }
+}
+
+// The paths of all members, each once.
+#[cycle(written)]
+fn once_in_all(alloc: Global, list: &TyList) -> Result<Paths, LeastError>
+    ensures ok { IfOk result (λ made. plain_paths made ≡ once_of (all_paths (plain_types list.now))) }
+    ensures large { IsErrOf result LeastError.TypeTooLarge → IsTooLarge (once_of (all_paths (plain_types list.now))) }
+{
+    let mut paths = Paths::new(alloc);
+    for ty in list.as_slice() {
+        let member = once_in(alloc, ty)?;
+        paths = meet(alloc, &paths, &member)?;
+    }
+    Ok(paths)
+}
+
+// The paths, each with the field in front.
+fn paths_of_field(alloc: Global, name: Name, paths: &Paths) -> Result<Paths, TypeError>
+    ensures ok { IfOk result (λ made. plain_paths made ≡ picked name (plain_paths paths.now)) }
+    ensures large { IsErrOf result TypeError.TypeTooLarge → IsTooLarge (picked name (plain_paths paths.now)) }
+{
+    let ty = field_of(alloc, name, paths)?;
+    paths_of(alloc, &ty)
+}
