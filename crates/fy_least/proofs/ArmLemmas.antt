@@ -4,7 +4,6 @@ use Rattle.std.specs.Prelude.{IfOk, IsErrOf, Result, Ok, Err}
 use Rattle.fy_base.specs.declared.data.Place.{Place}
 use Rattle.fy_types.specs.declared.error.TypeError.{TypeError}
 use Rattle.fy_types.specs.declared.error.TypeError.TheVariants as types
-use Rattle.fy_types.specs.declared.paths.Paths.{Paths}
 use Rattle.fy_types.specs.declared.types.Ty.{Ty}
 use Rattle.fy_types.specs.Paths.{PlainPaths}
 use Rattle.fy_types.specs.Reading.{plain_paths, plain_type}
@@ -17,6 +16,7 @@ use Rattle.fy_phrase.specs.declared.phrase.Phrase.TheVariants.{rolls-Lit, rolls-
 use Rattle.fy_phrase.specs.Tree.{Tree, Trees, lit, skip, mark}
 use Rattle.fy_phrase.specs.Reads.{reads, reads_form, reads_list}
 use Rattle.fy_derive.specs.Least.{forms_of, visits}
+use Rattle.fy_least.specs.declared.bound.Bound.{Bound}
 use Rattle.fy_least.specs.declared.error.LeastError.{LeastError}
 use Rattle.fy_least.specs.declared.error.LeastError.TheVariants.{TypeTooLarge}
 use Rattle.fy_least.specs.declared.found.Found.{Found}
@@ -60,7 +60,7 @@ too-large types.TypeTooLarge e = refl
 too-large types.OutOfMemory e = absurd (cc)
 
 -- the path forms of a scope, by its form
-pub scope-under : (P : Bor Paths) (o : Bor Scope) → scope_forms (scope_form.Under P o) ≡ plain_paths P.now ∷ scope_forms o.now
+pub scope-under : (P : Bor Bound) (o : Bor Scope) → scope_forms (scope_form.Under P o) ≡ plain_paths P.now.paths ∷ scope_forms o.now
 scope-under P o = forms-under (scope_form.Under P o) P o refl
 
 pub scope-around : (ts : Bor (List Ty)) → scope_forms (scope_form.Around ts) ≡ forms_of (reverse (map plain_type ts.now))

@@ -1,6 +1,5 @@
 -- A scope by its form.
 use Rattle.std.proofs.Common.{ℕ, zero, suc, ◌-◌, ◌≡◌, ◌≢◌, List, [], ◌∷◌, map, reverse, Option, Some, None, option_map, slice_get, sym, ap, ◌∙◌, refl, Bor, arith}
-use Rattle.fy_types.specs.declared.paths.Paths.{Paths}
 use Rattle.fy_types.specs.declared.types.Ty.{Ty}
 use Rattle.fy_types.specs.Types.{PlainType}
 use Rattle.fy_types.specs.Paths.{PlainPaths, no_paths, paths}
@@ -9,12 +8,13 @@ use Rattle.fy_types.specs.Reading.{plain_paths, plain_type}
 use Rattle.fy_derive.specs.Derivations.{by_ns, rule, no_derivations}
 use Rattle.fy_derive.specs.Least.{forms_of, paths_at}
 use Rattle.fy_least.specs.Forms.{variable_rule}
+use Rattle.fy_least.specs.declared.bound.Bound.{Bound}
 use Rattle.fy_least.specs.declared.scope.Scope as form
 use Rattle.fy_least.specs.declared.scope.Scope.{Scope, Scope-F, fold-roll-Scope}
 use Rattle.fy_least.specs.declared.scope.Scope.TheVariants.{rolls-Around, rolls-Under}
 use Rattle.fy_least.specs.Scopes.{scope_forms, forms_step}
 
-pub forms-under : (c : Scope) (P : Bor Paths) (o : Bor Scope) → c ≡ form.Under P o → scope_forms c ≡ plain_paths P.now ∷ scope_forms o.now
+pub forms-under : (c : Scope) (P : Bor Bound) (o : Bor Scope) → c ≡ form.Under P o → scope_forms c ≡ plain_paths P.now.paths ∷ scope_forms o.now
 forms-under c P o e = rw e (ap scope_forms (sym (rolls-Under P o)) ∙ fold-roll-Scope (List PlainPaths) forms_step (Scope-F.Under P o))
 
 pub forms-around : (c : Scope) (ts : Bor (List Ty)) → c ≡ form.Around ts → scope_forms c ≡ forms_of (reverse (map plain_type ts.now))
@@ -74,7 +74,7 @@ pub around-out : (c : Scope) (ts : Bor (List Ty)) (k : ℕ) (o : Option PlainPat
 around-out c ts k o is e h =
     type-out (reverse (map plain_type ts.now)) k e ∙ (ap (λ Gs. slice_get Gs k) (sym (forms-around c ts is)) ∙ h)
 
-pub under-there : (c : Scope) (P : Bor Paths) (outer : Bor Scope) (k : ℕ) (o : Option PlainPaths) → c ≡ form.Under P outer → k ≡ 0 →
-    slice_get (scope_forms c) k ≡ o → Some (plain_paths P.now) ≡ o
+pub under-there : (c : Scope) (P : Bor Bound) (outer : Bor Scope) (k : ℕ) (o : Option PlainPaths) → c ≡ form.Under P outer → k ≡ 0 →
+    slice_get (scope_forms c) k ≡ o → Some (plain_paths P.now.paths) ≡ o
 under-there c P outer k o is first h =
-    ap (slice_get (plain_paths P.now ∷ scope_forms outer.now)) (sym first) ∙ (ap (λ Gs. slice_get Gs k) (sym (forms-under c P outer is)) ∙ h)
+    ap (slice_get (plain_paths P.now.paths ∷ scope_forms outer.now)) (sym first) ∙ (ap (λ Gs. slice_get Gs k) (sym (forms-under c P outer is)) ∙ h)

@@ -7,7 +7,7 @@ use Rattle.fy_least.specs.declared.scope.Scope.{Scope, Scope-F, fold-Scope}
 
 abbrev pub forms_step : Scope-F (List PlainPaths) → List PlainPaths
 forms_step (Scope-F.Around types) = forms_of (reverse (map plain_type types.now))
-forms_step (Scope-F.Under P G) = plain_paths P.now ∷ G.now
+forms_step (Scope-F.Under P G) = plain_paths P.now.paths ∷ G.now
 
 -- the path forms, the innermost first
 abbrev pub scope_forms : Scope → List PlainPaths

@@ -13,6 +13,7 @@ ghost use Rattle.fy_least.specs.Many.{AreFound, AreFoundUnder};
 ghost use Rattle.fy_least.specs.Scopes.{scope_forms};
 ghost use Rattle.fy_least.specs.Visited.{IsFound};
 
+use crate::bound::Bound;
 use crate::demands::one_end;
 use crate::error::LeastError;
 use crate::forms::{
@@ -27,7 +28,7 @@ use fy_derive::{
     acceptor_atom, data_atom, datum_atom, demand_of, operand_atom, put_atom, unary_atom,
 };
 use fy_phrase::{DataTy, Parts, Phrase};
-use fy_types::{Atom, ElemList, Name, Path, Paths, Ty, TyList, paths_of};
+use fy_types::{Atom, ElemList, Name, Path, Paths, Ty, TyList, copy_paths, paths_of};
 use std::alloc::Global;
 
 /// What is found of a phrase, where the variables have the paths of the scope.
@@ -244,7 +245,9 @@ fn found_in_definition(
         (m : ℕ) → PassLimits (visits m (scope_forms scope.now) (tree.let_in d (reads defined.now) (reads body.now) at)) }
 {
     let defined = found_in(alloc, defined, &*scope)?;
-    let body = found_in(alloc, body, &Scope::Under(&defined.paths, &*scope))?;
+    let copied = copy_paths(alloc, &defined.paths)?;
+    let bound = Bound::new(alloc, copied)?;
+    let body = found_in(alloc, body, &Scope::Under(&bound, &*scope))?;
     definition(alloc, defined, body, at)
 }
 
@@ -261,8 +264,9 @@ fn found_in_recursion(
         (m : ℕ) → PassLimits (visits m (scope_forms scope.now) (tree.rec d (plain_type ty.now) (reads body.now) at)) }
 {
     let form = paths_of(alloc, ty)?;
-    let body = found_in(alloc, body, &Scope::Under(&form, &*scope))?;
-    recursion(alloc, ty, &form, body, at)
+    let bound = Bound::new(alloc, form)?;
+    let body = found_in(alloc, body, &Scope::Under(&bound, &*scope))?;
+    recursion(alloc, ty, &bound.paths, body, at)
 }
 
 #[cycle(least)]
@@ -352,7 +356,8 @@ fn found_in_cell(
 {
     let first = found_in(alloc, first, &*scope)?;
     let cell = cell_form(alloc, ty)?;
-    let body = found_in(alloc, body, &Scope::Under(&cell, &*scope))?;
+    let bound = Bound::new(alloc, cell)?;
+    let body = found_in(alloc, body, &Scope::Under(&bound, &*scope))?;
     command(alloc, (first, body), data_atom(ty), at)
 }
 
@@ -368,7 +373,8 @@ fn found_in_escape(
         (m : ℕ) → PassLimits (visits m (scope_forms scope.now) (tree.escape d (reads body.now) at)) }
 {
     let end = one_end(alloc, Atom::Compl)?;
-    let body = found_in(alloc, body, &Scope::Under(&end, &*scope))?;
+    let bound = Bound::new(alloc, end)?;
+    let body = found_in(alloc, body, &Scope::Under(&bound, &*scope))?;
     with_one(alloc, body, Atom::Comm, Atom::Comm, at)
 }
 
@@ -385,7 +391,8 @@ fn found_in_acceptor(
         (m : ℕ) → PassLimits (visits m (scope_forms scope.now) (tree.accept d ty (reads body.now) at)) }
 {
     let value = one_end(alloc, data_atom(ty))?;
-    let body = found_in(alloc, body, &Scope::Under(&value, &*scope))?;
+    let bound = Bound::new(alloc, value)?;
+    let body = found_in(alloc, body, &Scope::Under(&bound, &*scope))?;
     with_one(alloc, body, Atom::Comm, acceptor_atom(ty), at)
 }
 
@@ -453,7 +460,8 @@ fn found_under(
     let mut made = Vec::new(alloc);
     for ty in alternatives {
         let form = paths_of(alloc, ty)?;
-        made.push(found_in(alloc, body, &Scope::Under(&form, &*scope))?)?;
+        let bound = Bound::new(alloc, form)?;
+        made.push(found_in(alloc, body, &Scope::Under(&bound, &*scope))?)?;
     }
     Ok(made)
 }

@@ -1,6 +1,7 @@
 //! Least types, and the derivations that are found by them.
 #![tactic(auto)]
 
+mod bound;
 mod demands;
 mod error;
 mod finder;

@@ -7,8 +7,8 @@ ghost use Rattle.fy_types.specs.Reading.{plain_paths, plain_type};
 ghost use Rattle.fy_derive.specs.Least.{paths_at};
 ghost use Rattle.fy_least.specs.Scopes.{scope_forms};
 
+use crate::bound::Bound;
 use crate::error::LeastError;
-use crate::forms::once;
 use crate::written::once_in;
 use fy_types::{Paths, Ty};
 use std::alloc::Global;
@@ -19,7 +19,7 @@ pub(crate) enum Scope<'a> {
     /// The variables that are bound around the whole phrase, by their types, the outermost first.
     Around(&'a [Ty]),
     /// One that is bound in it, and those around.
-    Under(&'a Paths, &'a Scope<'a>),
+    Under(&'a Bound, &'a Scope<'a>),
 }
 
 /// The paths of a variable, each once, if the variable is in scope.
@@ -44,9 +44,9 @@ pub(crate) fn form_at(
                 let made = once_in(alloc, ty)?;
                 return Ok(Some(made));
             }
-            Scope::Under(paths, outer) => {
+            Scope::Under(bound, outer) => {
                 if left == 0 {
-                    let made = once(alloc, paths)?;
+                    let made = bound.each(alloc)?;
                     return Ok(Some(made));
                 }
                 left -= 1;

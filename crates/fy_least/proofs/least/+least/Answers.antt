@@ -1,6 +1,6 @@
 mod Commands
 mod Forms
-use Rattle.std.proofs.Common.{◌+◌, ◌∷◌, ◌++◌, map, inl, inr, refl, sym, ap, subst, arith, IfOk}
+use Rattle.std.proofs.Common.{◌+◌, ◌∷◌, ◌++◌, map, inl, inr, refl, sym, ap, ◌∙◌, subst, arith, IfOk}
 use Rattle.std.proofs.lemmas.List.{length-map}
 use Rattle.std.proofs.lemmas.Result.{err_from_is_err_and}
 use Rattle.fy_types.specs.Types.{no_types}
@@ -529,7 +529,7 @@ found_in_definition-returns-in_err-body-clause-large t c =
     let hf = c.in_ok-defined.ensures.ok in
     let err = err_from_is_err_and c.from_residual-in_err-body.result c.from_residual-in_err-body.ensures.1 in
     rw (err.1, err.2) (λ d e. second-part G (least_type G p ∷ G) p q (let_in d p q c.args.at) (λ m. refl)
-    (rw (scope-under, hf.paths) at (c.in_err-body.ensures.large e)))
+    (rw (scope-under, c.in_ok-bound.ensures, c.in_ok-copied.ensures, hf.paths) at (c.in_err-body.ensures.large e)))
 
 pub found_in_definition-returns-clause-ok : goal.found_in_definition-returns-clause-ok
 found_in_definition-returns-clause-ok t c =
@@ -539,7 +539,7 @@ found_in_definition-returns-clause-ok t c =
     let f = c.in_ok-defined.defined in
     let g = c.in_ok-body.body in
     let hf = c.in_ok-defined.ensures.ok in
-    let hg = rw scope-under at c.in_ok-body.ensures.ok in
+    let hg = rw (scope-under, c.in_ok-bound.ensures, c.in_ok-copied.ensures) at c.in_ok-body.ensures.ok in
     λ d. ok-of c.definition.result refl (λ r. let-found G d p q c.args.at f g r hf hg)
     c.definition.ensures.made c.definition.ensures.derived
 
@@ -551,7 +551,7 @@ found_in_definition-returns-clause-large t c =
     let f = c.in_ok-defined.defined in
     let g = c.in_ok-body.body in
     let hf = c.in_ok-defined.ensures.ok in
-    let hg = rw scope-under at c.in_ok-body.ensures.ok in
+    let hg = rw (scope-under, c.in_ok-bound.ensures, c.in_ok-copied.ensures) at c.in_ok-body.ensures.ok in
     let inner : IsFound (least_type G p ∷ G) q g = rw hf.paths at hg in
     λ d e. two-refused G (least_type G p ∷ G) p q (let_in d p q c.args.at) f g hf inner refl (λ m. refl)
     (rw inner.paths at (c.definition.ensures.large e))
@@ -572,7 +572,7 @@ found_in_recursion-returns-in_err-body-clause-large t c =
     let p = reads c.args.body.now in
     let err = err_from_is_err_and c.from_residual-in_err-body.result c.from_residual-in_err-body.ensures.1 in
     rw (err.1, err.2) (λ d e. only-part G (paths T ∷ G) p (rec d T p c.args.at) (λ m. refl)
-    (rw (scope-under, c.in_ok-form.ensures.ok) at (c.in_err-body.ensures.large e)))
+    (rw (scope-under, c.in_ok-bound.ensures, c.in_ok-form.ensures.ok) at (c.in_err-body.ensures.large e)))
 
 pub found_in_recursion-returns-clause-ok : goal.found_in_recursion-returns-clause-ok
 found_in_recursion-returns-clause-ok t c =
@@ -581,8 +581,8 @@ found_in_recursion-returns-clause-ok t c =
     let p = reads c.args.body.now in
     let form = c.in_ok-form.ensures in
     let part = c.in_ok-body.body in
-    let h = rw (scope-under, c.in_ok-form.ensures.ok) at c.in_ok-body.ensures.ok in
-    λ d. ok-of c.recursion.result refl (λ r. rec-found G d T p c.args.at (plain_paths c.in_ok-form.form) part r form.ok form.within h)
+    let h = rw (scope-under, c.in_ok-bound.ensures, c.in_ok-form.ensures.ok) at c.in_ok-body.ensures.ok in
+    λ d. ok-of c.recursion.result refl (λ r. rec-found G d T p c.args.at (plain_paths c.in_ok-bound.bound.paths) part r (c.in_ok-bound.ensures ∙ form.ok) form.within h)
     c.recursion.ensures.made c.recursion.ensures.derived
 
 pub found_in_recursion-returns-clause-large : goal.found_in_recursion-returns-clause-large
@@ -592,9 +592,9 @@ found_in_recursion-returns-clause-large t c =
     let p = reads c.args.body.now in
     let form = c.in_ok-form.ensures in
     let part = c.in_ok-body.body in
-    let h = rw (scope-under, c.in_ok-form.ensures.ok) at c.in_ok-body.ensures.ok in
+    let h = rw (scope-under, c.in_ok-bound.ensures, c.in_ok-form.ensures.ok) at c.in_ok-body.ensures.ok in
     λ d e. one-refused G (paths T ∷ G) p (rec d T p c.args.at) part h refl (λ m. refl)
-    (rw (h.paths, c.in_ok-form.ensures.ok) at (c.recursion.ensures.large e))
+    (rw (h.paths, c.in_ok-bound.ensures, c.in_ok-form.ensures.ok) at (c.recursion.ensures.large e))
 
 pub found_in_sequence-returns-in_err-first-clause-large : goal.found_in_sequence-returns-in_err-first-clause-large
 found_in_sequence-returns-in_err-first-clause-large = commands.found_in_sequence-returns-in_err-first-clause-large
@@ -719,7 +719,7 @@ found_under-loop-ty-preserved t c =
     let form = c.in_ok-form.ensures in
     alternative-more (scope_forms c.args.scope.now) (reads c.args.body.now) c.args.alternatives.now c.loop-ty.ty-index c.ty-item.result
     c.loop-ty.made.items _ c.in_ok-found_in.field-0 c.loop-ty-test.true c.ty-item.is c.in_ok-push.ensures.items c.loop-ty.invariant form.within
-    (rw (scope-under, form.ok) at c.in_ok-found_in.ensures.ok)
+    (rw (scope-under, c.in_ok-bound.ensures, form.ok) at c.in_ok-found_in.ensures.ok)
 
 pub found_under-returns-clause-ok : goal.found_under-returns-clause-ok
 found_under-returns-clause-ok t c =
@@ -737,4 +737,4 @@ found_under-returns-in_err-found_in-clause-large t c =
     let p = err_from_is_err_and c.from_residual-in_err-found_in.result c.from_residual-in_err-found_in.ensures.1 in
     rw (p.1, p.2) (λ e. inr (alternative-refused (scope_forms c.args.scope.now) (reads c.args.body.now) c.args.alternatives.now
     c.loop-ty.ty-index c.ty-item.result c.loop-ty-test.true c.ty-item.is
-    (rw (scope-under, c.in_ok-form.ensures.ok) at (c.in_err-found_in.ensures.large (turned _ _ e)))))
+    (rw (scope-under, c.in_ok-bound.ensures, c.in_ok-form.ensures.ok) at (c.in_err-found_in.ensures.large (turned _ _ e)))))

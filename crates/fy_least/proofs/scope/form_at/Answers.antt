@@ -27,11 +27,11 @@ returns-in-Around-clause-ok c =
 pub returns-in_err-made-in-Under-clause-large : goal.returns-in_err-made-in-Under-clause-large
 returns-in_err-made-in-Under-clause-large c =
     let p = err_from_is_err_and c.from_residual-in_err-made-in-Under.result c.from_residual-in_err-made-in-Under.ensures.1 in
-    let there = under-there c.loop-rest.rest.now c.in-Under.paths c.in-Under.outer c.loop-rest.left _ c.in-Under.is c.if-left-eq0.true c.loop-rest.invariant in
+    let there = under-there c.loop-rest.rest.now c.in-Under.bound c.in-Under.outer c.loop-rest.left _ c.in-Under.is c.if-left-eq0.true c.loop-rest.invariant in
     rw (p.1, p.2) (λ e. subst (λ P. IsTooLarge (once P)) (sym (paths-there (scope_forms c.args.scope.now) c.args.variable _ there))
     (c.in_err-made-in-Under.ensures.large (large-again _ e)))
 
 pub loop-rest-preserved : goal.loop-rest-preserved
 loop-rest-preserved c =
-    sym (next_place (plain_paths c.in-Under.paths.now) (scope_forms c.in-Under.outer.now) c.loop-rest.left c.if-left-eq0.false)
+    sym (next_place (plain_paths c.in-Under.bound.now.paths) (scope_forms c.in-Under.outer.now) c.loop-rest.left c.if-left-eq0.false)
     ∙ (ap (λ Ps. slice_get Ps c.loop-rest.left) (sym (forms-under _ _ _ c.in-Under.is)) ∙ c.loop-rest.invariant)
