@@ -1,0 +1,33 @@
+mod PieceLemmas
+mod NamingLemmas
+mod Cuts
+mod Ends
+mod Tails
+mod TokenPlaces
+mod UniqueLemmas
+mod ComposedLemmas
+mod PlaceOrder
+mod JoinLemmas
+mod SourceLemmas
+mod HeadLemmas
+mod SameSources
+mod NotRefused
+mod KnownNames
+mod TailSteps
+mod ProgramLemmas
+mod TextLemmas
+mod TypeDepths
+mod LinkLemmas
+mod SaidLemmas
+mod TextRefusals
+pub mod TypeParts
+pub mod Shapes
+pub mod CleanPieces
+pub mod Meanings
+pub mod Verdicts
+pub mod Made
+pub mod ReadUnits
+mod CauseLemmas
+mod PlacingLemmas
+mod UnitLemmas
+mod PutLemmas

@@ -1,0 +1,98 @@
+-- Values of the code that are units, and refusals of their makers.
+use Rattle.std.proofs.Common.{◌≡◌, ◌⊎◌, inl, inr, ℕ, ◌≤◌, List, length, map, reverse, refl, sym, ap, ◌∙◌, subst, arith}
+use Rattle.std.specs.Prelude.{Option, Some, None, Result, Ok, Err, IfErr, IsErrAnd}
+use Rattle.fy_base.specs.Outside.{Bytes}
+use Rattle.fy_types.specs.Types.{PlainType}
+use Rattle.fy_types.specs.Nested.{type_nesting}
+use Rattle.fy_types.specs.declared.types.TyList.{TyList}
+use Rattle.fy_types.specs.Reading.{plain_type, types_in}
+use Rattle.fy_lexer.specs.Tokens.{HasAdded}
+use Rattle.fy_phrase.specs.declared.phrase.Phrase.{Phrase}
+use Rattle.fy_phrase.specs.CoreLimits.{KeepsCoreLimits}
+use Rattle.fy_phrase.specs.Reads.{reads}
+use Rattle.fy_phrase.specs.Tree.{Tree}
+use Rattle.fy_derive.specs.Derivations.{PlainDerivation}
+use Rattle.fy_derive.specs.declared.derivation.Derivation.{Derivation}
+use Rattle.fy_derive.specs.Judging.{judged, concludes, refusal_at, in_scope}
+use Rattle.fy_derive.specs.Limits.{KeepsLimits, most_type_nesting}
+use Rattle.fy_derive.specs.Reading.{plain_derivation}
+use Rattle.fy_least.specs.declared.error.FindError.{FindError}
+use Rattle.fy_least.specs.declared.error.FindError.TheVariants as unfound
+use Rattle.fy_least.specs.Finding.{IsFindingOf}
+use Rattle.fy_link.specs.declared.error.UnitError.{UnitError}
+use Rattle.fy_link.specs.declared.error.UnitError.TheVariants as refused
+use Rattle.fy_link.specs.declared.source.Said.{Said}
+use Rattle.fy_link.specs.declared.unit.Unit.{Unit as UnitValue}
+use Rattle.fy_link.specs.Answers.{of_find}
+use Rattle.fy_link.specs.Read.{plain_named, plain_said, plain_unit}
+use Rattle.fy_link.specs.Sources.{PlainSource, IsSource, IsSourceFault}
+use Rattle.fy_link.specs.Units.{PlainUnit, context_of, IsTyped, IsUnit, IsUnitFault}
+use Rattle.fy_link.proofs.Meanings.{source-limits, own-shallow}
+use Rattle.fy_link.proofs.Verdicts.{verdict-concludes, verdict-refuses}
+
+-- what stands in the code for a unit's context and phrase
+pub record Stands (said : Said) (context : TyList) (p : Phrase) : Type 0 where
+  pub context_is : map plain_type (types_in context) ≡ context_of (map plain_named said.imports.items)
+  pub phrase_is : reads p ≡ (plain_said said).phrase
+
+-- the verdict on a derivation, about the source itself
+stands-judged : (said : Said) (context : TyList) (p : Phrase) (d : PlainDerivation) → Stands said context p →
+    judged d 0 (in_scope context) (reads p) ≡ judged d 0 (reverse (context_of (plain_said said).imports)) (plain_said said).phrase
+stands-judged said context p d s =
+    ap (λ (G : List PlainType). judged d 0 (reverse G) (reads p)) s.context_is ∙ ap (λ (q : Tree). judged d 0 (reverse (context_of (plain_said said).imports)) q) s.phrase_is
+
+pub stands-concludes : (said : Said) (context : TyList) (p : Phrase) (d : PlainDerivation) → Stands said context p →
+    refusal_at (plain_type said.own.ty) (judged d 0 (in_scope context) (reads p)) ≡ None →
+    judged d 0 (reverse (context_of (plain_said said).imports)) (plain_said said).phrase ≡ concludes (plain_said said).own.type
+stands-concludes said context p d s e = sym (stands-judged said context p d s) ∙ verdict-concludes (plain_type said.own.ty) (judged d 0 (in_scope context) (reads p)) e
+
+pub stands-refused : (said : Said) (context : TyList) (p : Phrase) (d : PlainDerivation) (n : ℕ) → Stands said context p →
+    refusal_at (plain_type said.own.ty) (judged d 0 (in_scope context) (reads p)) ≡ Some n →
+    judged d 0 (reverse (context_of (plain_said said).imports)) (plain_said said).phrase ≡ concludes (plain_said said).own.type → ⊥
+stands-refused said context p d n s e f = verdict-refuses (plain_type said.own.ty) (judged d 0 (in_scope context) (reads p)) n e (stands-judged said context p d s ∙ f)
+
+-- the limits of a derivation that is found
+pub found-limits : (before after : List Bytes) (source : Bytes) (said : Said) (context : TyList) (p : Phrase) (d : PlainDerivation) → IsSource before source after (plain_said said) →
+    Stands said context p → (KeepsCoreLimits (reads p) → type_nesting (plain_type said.own.ty) ≤ most_type_nesting → KeepsLimits d) → KeepsLimits d
+found-limits before after source said context p d h s f =
+    let shallow = own-shallow before after source (plain_said said) h in
+    f (subst KeepsCoreLimits (sym s.phrase_is) (source-limits before after source (plain_said said) h)) (omega (arith, shallow))
+
+-- a value with a source that says something and with a derivation of it is a unit
+pub unit-made : (before after names : List Bytes) (source : Bytes) (value : UnitValue) (said : Said) → length source ≤ 1048576 → value.source ≡ source →
+    IsSource before source after (plain_said said) → HasAdded after names → IsTyped (plain_unit said value.derivation) → IsUnit names value
+unit-made before after names source value said short is h kept typed = record {
+  u = plain_unit said value.derivation;
+  is = record {
+    short = subst (λ (bytes : Bytes). length bytes ≤ 1048576) (sym is) short;
+    before = before;
+    after = after;
+    said = subst (λ (bytes : Bytes). IsSource before bytes after (plain_said said)) (sym is) h;
+    kept = kept;
+    derivation = refl;
+    typed = typed;
+  };
+}
+
+-- what holds of what an error was made into
+pub err-made : {T E : Type 0} (r : Result T E) (e : E) (P : E → Type 0) → IsErrAnd r (λ (x : E). x ≡ e) → P e → IfErr r P
+err-made (Ok x) e P h k = absurd h
+err-made (Err y) e P h k = subst P (sym h) k
+
+pub said-fault : (names : List Bytes) (source : Bytes) (e : UnitError) → (e ≡ refused.OutOfMemory) ⊎ IsSourceFault names source e → IsUnitFault names source e
+said-fault names source e (inl is) = subst (IsUnitFault names source) (sym is) IsUnitFault.of_memory
+said-fault names source e (inr h) = IsUnitFault.before_typing h
+
+of-find : (names after : List Bytes) (source : Bytes) (u : PlainSource) (e : FindError) → IsSource names source after u →
+    IsFindingOf (reverse (context_of u.imports)) u.phrase u.own.type (Err e) → IsUnitFault names source (of_find e)
+of-find names after source u (unfound.NoType at) h f = IsUnitFault.of_typing h (λ k. absurd (cc)) f
+of-find names after source u unfound.TypeTooLarge h f = IsUnitFault.of_typing h (λ k. absurd (cc)) f
+of-find names after source u unfound.OutOfMemory h f = IsUnitFault.of_memory
+
+pub find-fault : (names after : List Bytes) (source : Bytes) (said : Said) (context : TyList) (p : Phrase) (e : FindError) → IsSource names source after (plain_said said) →
+    Stands said context p → IsFindingOf (in_scope context) (reads p) (plain_type said.own.ty) (Err e) → IsUnitFault names source (of_find e)
+find-fault names after source said context p e h s f =
+    let own = plain_type said.own.ty in
+    of-find names after source (plain_said said) e h
+    (subst (λ (q : Tree). IsFindingOf (reverse (context_of (plain_said said).imports)) q own (Err e)) s.phrase_is
+    (subst (λ (G : List PlainType). IsFindingOf (reverse G) (reads p) own (Err e)) s.context_is f))

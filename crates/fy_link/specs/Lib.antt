@@ -1,0 +1,12 @@
+pub mod Header
+pub mod Sources
+pub mod Answers
+pub mod Units
+pub mod UnitBytes
+pub mod Joined
+pub mod Composed
+pub mod Links
+pub mod Read
+pub mod Placing
+pub mod Laws
+pub mod Again

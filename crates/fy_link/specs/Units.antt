@@ -1,0 +1,57 @@
+-- Units: sources with derivations of their phrases, typed apart.
+use Rattle.std.specs.Prelude.{◌≡◌, ◌≢◌, ◌≤◌, List, [], ◌∷◌, ◌++◌, length, map, reverse, Err}
+use Rattle.fy_base.specs.Outside.{Bytes}
+use Rattle.fy_types.specs.declared.types.Atom.TheVariants.{Int, Bool as Truth, Char, Comm, IntAcc}
+use Rattle.fy_types.specs.Types.{PlainType, atom, arrow}
+use Rattle.fy_lexer.specs.Tokens.{HasAdded}
+use Rattle.fy_derive.specs.Derivations.{PlainDerivation}
+use Rattle.fy_derive.specs.Judging.{judged, concludes}
+use Rattle.fy_derive.specs.Limits.{KeepsLimits}
+use Rattle.fy_derive.specs.Reading.{plain_derivation}
+use Rattle.fy_least.specs.declared.error.FindError.{FindError}
+use Rattle.fy_least.specs.declared.error.FindError.TheVariants as unfound
+use Rattle.fy_least.specs.Finding.{IsFindingOf}
+use Rattle.fy_link.specs.declared.error.UnitError.{UnitError}
+use Rattle.fy_link.specs.declared.error.UnitError.TheVariants as refused
+use Rattle.fy_link.specs.declared.unit.Unit.{Unit as UnitValue}
+use Rattle.fy_link.specs.Sources.{Named, PlainSource, IsSource, IsSourceFault}
+
+-- the types of the prelude's names, the outermost first: `putint`, `putchar`, `putbool` and `read`
+abbrev pub prelude_types : List PlainType
+prelude_types = arrow (atom Int) (atom Comm) ∷ arrow (atom Char) (atom Comm) ∷ arrow (atom Truth) (atom Comm) ∷ arrow (atom IntAcc) (atom Comm) ∷ []
+
+-- the context of a unit, the outermost first: the types of the prelude and then of its imports
+abbrev pub context_of : List Named → List PlainType
+context_of imports = prelude_types ++ map (λ (x : Named). x.type) imports
+
+-- a unit: what its source says, and its derivation
+pub record PlainUnit : Type 0 where
+  pub source : PlainSource
+  pub derivation : PlainDerivation
+
+-- the derivation concludes the unit's type for its phrase in its context
+pub record IsTyped (u : PlainUnit) : Type 0 where
+  pub limits : KeepsLimits u.derivation
+  pub concluded : judged u.derivation 0 (reverse (context_of u.source.imports)) u.source.phrase ≡ concludes u.source.own.type
+
+-- the value is this unit, whose source's names have their numbers in the list
+pub record IsUnitOf (names : List Bytes) (value : UnitValue) (u : PlainUnit) : Type 0 where
+  pub short : length value.source ≤ 1048576
+  pub before : List Bytes
+  pub after : List Bytes
+  pub said : IsSource before value.source after u.source
+  pub kept : HasAdded after names
+  pub derivation : u.derivation ≡ plain_derivation value.derivation
+  pub typed : IsTyped u
+
+-- the value is a unit
+pub record IsUnit (names : List Bytes) (value : UnitValue) : Type 0 where
+  pub u : PlainUnit
+  pub is : IsUnitOf names value u
+
+-- why a source is no unit: it is refused before typing, else its phrase hasn't the type; want of memory may come anywhere
+pub data IsUnitFault (names : List Bytes) (source : Bytes) : UnitError → Type 0 where
+  before_typing : {e : UnitError} → IsSourceFault names source e → IsUnitFault names source e
+  of_typing : {after : List Bytes} {u : PlainSource} {e : FindError} → IsSource names source after u → e ≢ unfound.OutOfMemory →
+      IsFindingOf (reverse (context_of u.imports)) u.phrase u.own.type (Err e) → IsUnitFault names source (refused.Find e)
+  of_memory : IsUnitFault names source refused.OutOfMemory

@@ -1,0 +1,39 @@
+//! Units typed apart.
+
+ghost use Rattle.std.specs.Prelude.{◌≡◌, ◌+◌, ◌≤◌, IfOk, IfErr, length};
+ghost use Rattle.fy_lexer.specs.Tokens.{HasAdded};
+ghost use Rattle.fy_link.specs.Units.{IsUnit, IsUnitFault};
+
+use crate::error::UnitError;
+use crate::source::{context_of, said_in};
+use crate::unit::{Unit, copied};
+use fy_least::find_as;
+use fy_types::Names;
+use std::alloc::Global;
+
+/// The unit of a source: `{ ident ":" type "," } ident ":" type "==" phrase`, its imports with their types, and then the unit's own
+/// name, its type and its phrase. The names get those of its names that are new. In its phrase the prelude's names and the imports
+/// stand for phrases of their types, and the derivation concludes the unit's type.
+///
+/// # Errors
+///
+/// The first stage that refuses decides. `Lex`: the source has no tokens. `Header`, at the first token: no `==` stands in it, or the
+/// tokens before it aren't pieces between commas, each an identifier, `:` and tokens without `.` and `|`, or a piece's name is
+/// repeated or is one of the prelude's. `Parse` and `Expand`: the type of a piece, the first such, is refused in `\ name : type . skip`;
+/// then what stands behind the `==` is no program; then it is refused in parentheses inside an abstraction for each import. `Find`:
+/// the phrase doesn't have the unit's type, or a type is too large. And `OutOfMemory`.
+pub fn compile_unit(alloc: Global, names: &mut Names, source: &[u8]) -> Result<Unit, UnitError>
+    requires text { length source.now ≤ 1048576 }
+    requires names { length names.old ≤ 3000000000 }
+    ensures source { IfOk result (λ unit. unit.source ≡ source.now) }
+    ensures unit { IfOk result (λ unit. IsUnit names.new unit) }
+    ensures err { IfErr result (IsUnitFault names.old source.now) }
+    ensures names { HasAdded names.old names.new }
+    ensures few { length names.new ≤ length names.old + length source.now }
+{
+    let said = said_in(alloc, names, source)?;
+    let context = context_of(alloc, &said.imports)?;
+    let derivation = find_as(alloc, &context, said.phrase(), &said.own.ty)?;
+    let source = copied(alloc, source)?;
+    Ok(Unit { source, derivation })
+}

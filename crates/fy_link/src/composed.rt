@@ -1,0 +1,433 @@
+//! The derivation of units put together.
+
+ghost use Rattle.std.specs.Prelude.{◌≡◌, [], ◌∷◌, true, false, IfOk, length, map, replicate, reverse};
+ghost use Rattle.fy_phrase.specs.Reads.{reads, reads_parts};
+ghost use Rattle.fy_derive.specs.Placed.{all_placed, body_of, left_of, placed, raised_use, right_of, those_of};
+ghost use Rattle.fy_derive.specs.Derivations.{and_derivation, count, no_derivations, rule};
+ghost use Rattle.fy_derive.specs.Rules.{nothing, of_parts, premises};
+ghost use Rattle.fy_derive.specs.Reading.{plain_derivation, plain_derivations};
+ghost use Rattle.fy_link.specs.Composed.{behind_provided, composed_derivation, placed_unit, provided_derivation, units_derivation};
+ghost use Rattle.fy_link.specs.Read.{owns_before, plain_named, plain_unit, plain_units};
+ghost use Rattle.fy_link.specs.Placing.{behind_part, plain_optional, plain_premise, plain_premises, plain_wanted, premises_of, wanted_for};
+
+use crate::causes::type_named;
+use crate::source::{Named, Said};
+use crate::unit::Unit;
+use fy_base::OutOfMemory;
+use fy_derive::{Derivation, DerivationList};
+use fy_phrase::{Parts, Phrase};
+use fy_types::{Ty, copy_ty, same_ty};
+use std::alloc::Global;
+
+/// To which types the uses of variables are subsumed.
+#[derive(Clone, Copy, Drop)]
+enum Wanted<'a> {
+    /// The imports' types, the innermost first, each where the exporting type is another tree.
+    Imports(&'a [Option<&'a Ty>]),
+    /// Behind one more binder, whose variable is used as it is.
+    Behind(&'a Wanted<'a>),
+}
+
+// The type to which the uses of the variable are subsumed, if they are.
+fn wanted_at<'a>(wanted: &Wanted<'a>, variable: u32) -> Option<&'a Ty>
+    ensures { plain_optional result ≡ plain_wanted wanted.now variable }
+{
+    let mut rest = wanted;
+    let mut left = variable;
+    loop {
+        match rest {
+            Wanted::Imports(types) => {
+                let place = left as usize;
+                if place < types.len() {
+                    return types[place];
+                }
+                return None;
+            }
+            Wanted::Behind(outer) => {
+                if left == 0 {
+                    return None;
+                }
+                left -= 1;
+                rest = outer;
+            }
+        }
+    }
+}
+
+// What is wanted inside a phrase, below its binder or not.
+fn inside<'a>(wanted: &'a Wanted<'a>, is_bound: bool) -> Wanted<'a>
+    ensures { plain_wanted result ≡ behind_part is_bound (plain_wanted wanted.now) }
+{
+    if is_bound {
+        Wanted::Behind(wanted)
+    } else {
+        *wanted
+    }
+}
+
+// What a premise is about, and whether that stands under the phrase's binder.
+#[derive(Clone, Copy)]
+struct Premise<'a> {
+    phrase: &'a Phrase,
+    is_bound: bool,
+}
+
+fn free(phrase: &Phrase) -> Premise<'_>
+    ensures { plain_premise result ≡ (false, reads phrase.now) }
+{
+    Premise {
+        phrase,
+        is_bound: false,
+    }
+}
+
+fn bound(phrase: &Phrase) -> Premise<'_>
+    ensures { plain_premise result ≡ (true, reads phrase.now) }
+{
+    Premise {
+        phrase,
+        is_bound: true,
+    }
+}
+
+// What the premises of the phrase's rule are about, in order; nothing where it has no rule of its own.
+fn parts_of<'a>(alloc: Global, p: &'a Phrase) -> Result<Vec<Premise<'a>>, OutOfMemory>
+    ensures { IfOk result (λ parts. map plain_premise parts.items ≡ premises_of (reads p.now)) }
+{
+    match p {
+        Phrase::Var(..)
+        | Phrase::Lit(..)
+        | Phrase::Skip(_)
+        | Phrase::Lam(..)
+        | Phrase::Merge(..)
+        | Phrase::Mark(..) => Ok(Vec::new(alloc)),
+        Phrase::Unary(_, p, _)
+        | Phrase::Field(_, p, _)
+        | Phrase::Sel(p, _, _)
+        | Phrase::Forever(p, _)
+        | Phrase::Put(_, p, _)
+        | Phrase::Read(p, _) => Ok(Vec::from_array(alloc, [free(p)])?),
+        Phrase::Binary(_, p, q, _)
+        | Phrase::App(p, q, _)
+        | Phrase::Seq(p, q, _)
+        | Phrase::Assign(p, q, _)
+        | Phrase::WhileDo(p, q, _) => Ok(Vec::from_array(alloc, [free(p), free(q)])?),
+        Phrase::Cond(b, p, q, _) => Ok(Vec::from_array(alloc, [free(b), free(p), free(q)])?),
+        Phrase::Case(e, parts, _) => case_parts(alloc, e, parts),
+        Phrase::LetIn(_, p, body, _) | Phrase::New(_, _, p, body, _) => {
+            Ok(Vec::from_array(alloc, [free(p), bound(body)])?)
+        }
+        Phrase::Rec(_, _, body, _) | Phrase::Escape(_, body, _) | Phrase::Accept(_, _, body, _) => {
+            Ok(Vec::from_array(alloc, [bound(body)])?)
+        }
+    }
+}
+
+// An index and the parts that it picks from.
+fn case_parts<'a>(
+    alloc: Global,
+    e: &'a Phrase,
+    parts: &'a Parts,
+) -> Result<Vec<Premise<'a>>, OutOfMemory>
+    ensures { IfOk result (λ all. map plain_premise all.items ≡ (false, reads e.now) ∷ plain_premises (of_parts (reads_parts parts.now))) }
+{
+    let mut all = Vec::new(alloc);
+    all.push(free(e))?;
+    for part in parts.as_slice() {
+        all.push(free(part))?;
+    }
+    Ok(all)
+}
+
+// The body of an abstraction, the left operand of a merge and the right one; other phrases stand for themselves.
+fn body_of(p: &Phrase) -> &Phrase
+    ensures { reads result.now ≡ body_of (reads p.now) }
+{
+    match p {
+        Phrase::Lam(_, _, body, _) => body,
+        _ => p,
+    }
+}
+
+fn left_of(p: &Phrase) -> &Phrase
+    ensures { reads result.now ≡ left_of (reads p.now) }
+{
+    match p {
+        Phrase::Merge(left, _, _) => left,
+        _ => p,
+    }
+}
+
+fn right_of(p: &Phrase) -> &Phrase
+    ensures { reads result.now ≡ right_of (reads p.now) }
+{
+    match p {
+        Phrase::Merge(_, right, _) => right,
+        _ => p,
+    }
+}
+
+// The derivation of the phrase with a subsumption above each use of a variable that is wanted at a type.
+#[cycle(placing)]
+fn placed(
+    alloc: Global,
+    d: &Derivation,
+    wanted: &Wanted<'_>,
+    p: &Phrase,
+) -> Result<Derivation, OutOfMemory>
+    ensures { IfOk result (λ made. plain_derivation made ≡ placed (plain_wanted wanted.now) (reads p.now) (plain_derivation d.now)) }
+{
+    match d {
+        Derivation::Ns => Ok(Derivation::Ns),
+        Derivation::Sub(ty, inner) => {
+            let inner = Box::new(alloc, placed(alloc, inner, wanted, p)?)?;
+            let ty = copy_ty(alloc, ty)?;
+            Ok(Derivation::Sub(ty, inner))
+        }
+        Derivation::Meet(list) => {
+            let list = repeated(alloc, list, wanted, p)?;
+            Ok(Derivation::Meet(list))
+        }
+        Derivation::Alt(index, inner) => {
+            let within = inside(&*wanted, true);
+            let inner = Box::new(alloc, placed(alloc, inner, &within, body_of(&*p))?)?;
+            Ok(Derivation::Alt(*index, inner))
+        }
+        Derivation::Left(inner) => {
+            let inner = Box::new(alloc, placed(alloc, inner, wanted, left_of(&*p))?)?;
+            Ok(Derivation::Left(inner))
+        }
+        Derivation::Right(inner) => {
+            let inner = Box::new(alloc, placed(alloc, inner, wanted, right_of(&*p))?)?;
+            Ok(Derivation::Right(inner))
+        }
+        Derivation::Rule(list) => {
+            let list = premises_placed(alloc, list, wanted, p)?;
+            used(alloc, wanted, p, Derivation::Rule(list))
+        }
+    }
+}
+
+// The members of a meet, each placed with the phrase.
+#[cycle(placing)]
+fn repeated(
+    alloc: Global,
+    list: &DerivationList,
+    wanted: &Wanted<'_>,
+    p: &Phrase,
+) -> Result<DerivationList, OutOfMemory>
+    ensures { IfOk result (λ made. plain_derivations made
+        ≡ all_placed (plain_wanted wanted.now) (replicate (count (plain_derivations list.now)) (nothing, reads p.now)) (plain_derivations list.now)) }
+{
+    let mut made = DerivationList::new(alloc);
+    for d in list.as_slice() {
+        made.push(placed(alloc, d, wanted, p)?)?;
+    }
+    Ok(made)
+}
+
+// The premises of the phrase's rule, each placed with its part. Those past the rule's stay as they are.
+#[cycle(placing)]
+fn premises_placed(
+    alloc: Global,
+    list: &DerivationList,
+    wanted: &Wanted<'_>,
+    p: &Phrase,
+) -> Result<DerivationList, OutOfMemory>
+    ensures { IfOk result (λ made. plain_derivations made
+        ≡ all_placed (plain_wanted wanted.now) (those_of (premises (reads p.now))) (plain_derivations list.now)) }
+{
+    let all = parts_of(alloc, &*p)?;
+    let parts = all.as_slice();
+    let items = list.as_slice();
+    let mut made = DerivationList::new(alloc);
+    for i in 0..items.len() {
+        let d = if i < parts.len() {
+            let part = &parts[i];
+            let within = inside(&*wanted, part.is_bound);
+            placed(alloc, &items[i], &within, part.phrase)?
+        } else {
+            copied(alloc, &items[i])?
+        };
+        made.push(d)?;
+    }
+    Ok(made)
+}
+
+// The derivation again.
+#[cycle(copying)]
+fn copied(alloc: Global, d: &Derivation) -> Result<Derivation, OutOfMemory>
+    ensures { IfOk result (λ made. plain_derivation made ≡ plain_derivation d.now) }
+{
+    match d {
+        Derivation::Ns => Ok(Derivation::Ns),
+        Derivation::Sub(ty, inner) => {
+            let inner = Box::new(alloc, copied(alloc, inner)?)?;
+            let ty = copy_ty(alloc, ty)?;
+            Ok(Derivation::Sub(ty, inner))
+        }
+        Derivation::Meet(list) => {
+            let list = all_copied(alloc, list)?;
+            Ok(Derivation::Meet(list))
+        }
+        Derivation::Alt(index, inner) => {
+            let inner = Box::new(alloc, copied(alloc, inner)?)?;
+            Ok(Derivation::Alt(*index, inner))
+        }
+        Derivation::Left(inner) => {
+            let inner = Box::new(alloc, copied(alloc, inner)?)?;
+            Ok(Derivation::Left(inner))
+        }
+        Derivation::Right(inner) => {
+            let inner = Box::new(alloc, copied(alloc, inner)?)?;
+            Ok(Derivation::Right(inner))
+        }
+        Derivation::Rule(list) => {
+            let list = all_copied(alloc, list)?;
+            Ok(Derivation::Rule(list))
+        }
+    }
+}
+
+#[cycle(copying)]
+fn all_copied(alloc: Global, list: &DerivationList) -> Result<DerivationList, OutOfMemory>
+    ensures { IfOk result (λ made. plain_derivations made ≡ plain_derivations list.now) }
+{
+    let mut made = DerivationList::new(alloc);
+    for d in list.as_slice() {
+        made.push(copied(alloc, d)?)?;
+    }
+    Ok(made)
+}
+
+// The derivation of a rule, below a subsumption where the phrase is a variable that is wanted at a type.
+fn used(
+    alloc: Global,
+    wanted: &Wanted<'_>,
+    p: &Phrase,
+    d: Derivation,
+) -> Result<Derivation, OutOfMemory>
+    ensures { IfOk result (λ made. plain_derivation made ≡ raised_use (plain_wanted wanted.now) (reads p.now) (plain_derivation d)) }
+{
+    let Phrase::Var(variable, _) = p else {
+        return Ok(d);
+    };
+    match wanted_at(wanted, *variable) {
+        Some(ty) => {
+            let d = Box::new(alloc, d)?;
+            let ty = copy_ty(alloc, ty)?;
+            Ok(Derivation::Sub(ty, d))
+        }
+        None => Ok(d),
+    }
+}
+
+// The type to which the uses of an import are subsumed, where these units stand before it.
+fn wanted_type<'a>(before: &[Said], import: &'a Named) -> Option<&'a Ty>
+    ensures { plain_optional result ≡ wanted_for (owns_before before.now) (plain_named import.now) }
+{
+    let Some(ty) = type_named(before, import.name) else {
+        return None;
+    };
+    if same_ty(ty, &import.ty) {
+        None
+    } else {
+        Some(&import.ty)
+    }
+}
+
+// The same of all imports, the innermost first.
+fn wanted_types<'a>(
+    alloc: Global,
+    before: &[Said],
+    imports: &'a [Named],
+) -> Result<Vec<Option<&'a Ty>>, OutOfMemory>
+    ensures { IfOk result (λ types. map plain_optional types.items
+        ≡ map (wanted_for (owns_before before.now)) (reverse (map plain_named imports.now))) }
+{
+    let mut types = Vec::new(alloc);
+    let mut i = imports.len();
+    while i > 0 {
+        i -= 1;
+        types.push(wanted_type(before, &imports[i]))?;
+    }
+    Ok(types)
+}
+
+// A unit's own derivation behind the units before it.
+fn placed_unit(
+    alloc: Global,
+    before: &[Said],
+    said: &Said,
+    d: &Derivation,
+) -> Result<Derivation, OutOfMemory>
+    ensures { IfOk result (λ made. plain_derivation made ≡ placed_unit (owns_before before.now) (plain_unit said.now d.now)) }
+{
+    let imports = said.imports.as_slice();
+    let types = wanted_types(alloc, before, imports)?;
+    let within = Wanted::Imports(types.as_slice());
+    placed(alloc, d, &within, said.phrase())
+}
+
+fn rule(alloc: Global, first: Derivation, second: Derivation) -> Result<Derivation, OutOfMemory>
+    ensures { IfOk result (λ made. plain_derivation made
+        ≡ rule (and_derivation (plain_derivation first) (and_derivation (plain_derivation second) no_derivations))) }
+{
+    let mut premises = DerivationList::new(alloc);
+    premises.push(first)?;
+    premises.push(second)?;
+    Ok(Derivation::Rule(premises))
+}
+
+// The derivation of a definition of the prelude.
+fn provided(alloc: Global) -> Result<Derivation, OutOfMemory>
+    ensures { IfOk result (λ made. plain_derivation made ≡ provided_derivation) }
+{
+    let mut premises = DerivationList::new(alloc);
+    premises.push(Derivation::Rule(DerivationList::new(alloc)))?;
+    let command = Box::new(alloc, Derivation::Rule(premises))?;
+    Ok(Derivation::Alt(0, command))
+}
+
+// A derivation inside a definition of the prelude.
+fn behind_provided(alloc: Global, d: Derivation) -> Result<Derivation, OutOfMemory>
+    ensures { IfOk result (λ made. plain_derivation made ≡ behind_provided (plain_derivation d)) }
+{
+    let definition = provided(alloc)?;
+    rule(alloc, definition, d)
+}
+
+// The derivation of the units put together.
+fn units_derivation(alloc: Global, said: &[Said], units: &[Unit]) -> Result<Derivation, OutOfMemory>
+    requires { length said.now ≡ length units.now }
+    ensures { IfOk result (λ made. plain_derivation made ≡ units_derivation [] (plain_units said.now units.now)) }
+{
+    let mut made = Derivation::Ns;
+    let mut i = units.len();
+    while i > 0 {
+        i -= 1;
+        let own = placed_unit(alloc, &said[..i], &said[i], &units[i].derivation)?;
+        made = if i + 1 == units.len() {
+            own
+        } else {
+            rule(alloc, own, made)?
+        };
+    }
+    Ok(made)
+}
+
+/// The derivation of the units put together, inside the prelude.
+pub(crate) fn composed(
+    alloc: Global,
+    said: &[Said],
+    units: &[Unit],
+) -> Result<Derivation, OutOfMemory>
+    requires { length said.now ≡ length units.now }
+    ensures { IfOk result (λ made. plain_derivation made ≡ composed_derivation (plain_units said.now units.now)) }
+{
+    let made = units_derivation(alloc, said, units)?;
+    let made = behind_provided(alloc, made)?;
+    let made = behind_provided(alloc, made)?;
+    let made = behind_provided(alloc, made)?;
+    behind_provided(alloc, made)
+}

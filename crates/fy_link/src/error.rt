@@ -1,0 +1,209 @@
+//! Refusals.
+
+ghost use Rattle.std.specs.Prelude.{◌≡◌};
+ghost use Rattle.fy_link.specs.Answers.{link_of_expand, link_of_lex, link_of_parse, of_expand, of_find, of_lex, of_parse};
+ghost use Rattle.fy_link.specs.declared.error.UnitError.TheVariants as refused;
+ghost use Rattle.fy_link.specs.declared.error.UnitReadError.TheVariants as unread;
+ghost use Rattle.fy_link.specs.declared.error.LinkError.TheVariants as unlinked;
+
+use fy_base::{OutOfMemory, Place};
+use fy_expand::ExpandError;
+use fy_grammar::ParseError;
+use fy_least::FindError;
+use fy_lexer::LexError;
+use std::alloc::AllocFailed;
+use thiserror::Error;
+
+/// Why a source is no unit. The first stage that refuses is told.
+#[derive(Clone, Copy, PartialEq, Eq, Debug, Error)]
+pub enum UnitError {
+    /// What stands before the first `==` is no header, at the place of the first token.
+    #[error("header")]
+    Header(Place),
+    /// The source has no tokens.
+    #[error("tokens")]
+    Lex(LexError),
+    /// A type of the header, or the phrase, is no program's part.
+    #[error("syntax")]
+    Parse(ParseError),
+    /// A type of the header, or the phrase, has no core phrase.
+    #[error("expansion")]
+    Expand(ExpandError),
+    /// The phrase doesn't have the unit's type.
+    #[error("type")]
+    Find(FindError),
+    /// Memory was wanting.
+    #[error("out of memory")]
+    OutOfMemory,
+}
+
+impl From<OutOfMemory> for UnitError {
+    ghost from_gives = { λ _ e. e ≡ refused.OutOfMemory };
+
+    fn from(_error: OutOfMemory) -> UnitError {
+        UnitError::OutOfMemory
+    }
+}
+
+impl<T: Drop> From<AllocFailed<T>> for UnitError {
+    ghost from_gives = { λ _ e. e ≡ refused.OutOfMemory };
+
+    fn from(_error: AllocFailed<T>) -> UnitError {
+        UnitError::OutOfMemory
+    }
+}
+
+impl From<LexError> for UnitError {
+    ghost from_gives = { λ error e. e ≡ of_lex error };
+
+    fn from(error: LexError) -> UnitError {
+        match error {
+            LexError::OutOfMemory => UnitError::OutOfMemory,
+            error => UnitError::Lex(error),
+        }
+    }
+}
+
+impl From<ParseError> for UnitError {
+    ghost from_gives = { λ error e. e ≡ of_parse error };
+
+    fn from(error: ParseError) -> UnitError {
+        match error {
+            ParseError::OutOfMemory => UnitError::OutOfMemory,
+            error => UnitError::Parse(error),
+        }
+    }
+}
+
+impl From<ExpandError> for UnitError {
+    ghost from_gives = { λ error e. e ≡ of_expand error };
+
+    fn from(error: ExpandError) -> UnitError {
+        match error {
+            ExpandError::OutOfMemory => UnitError::OutOfMemory,
+            error => UnitError::Expand(error),
+        }
+    }
+}
+
+impl From<FindError> for UnitError {
+    ghost from_gives = { λ error e. e ≡ of_find error };
+
+    fn from(error: FindError) -> UnitError {
+        match error {
+            FindError::OutOfMemory => UnitError::OutOfMemory,
+            error => UnitError::Find(error),
+        }
+    }
+}
+
+/// Why bytes are no unit.
+#[derive(Clone, Copy, PartialEq, Eq, Debug, Error)]
+pub enum UnitReadError {
+    /// The bytes aren't of the form, a part is too long, the source is refused, or its derivation is.
+    #[error("no unit")]
+    BadUnit,
+    /// Memory was wanting.
+    #[error("out of memory")]
+    OutOfMemory,
+}
+
+impl From<OutOfMemory> for UnitReadError {
+    ghost from_gives = { λ _ e. e ≡ unread.OutOfMemory };
+
+    fn from(_error: OutOfMemory) -> UnitReadError {
+        UnitReadError::OutOfMemory
+    }
+}
+
+impl<T: Drop> From<AllocFailed<T>> for UnitReadError {
+    ghost from_gives = { λ _ e. e ≡ unread.OutOfMemory };
+
+    fn from(_error: AllocFailed<T>) -> UnitReadError {
+        UnitReadError::OutOfMemory
+    }
+}
+
+/// Why units aren't linked. A unit is told by its place in the list, from 0.
+#[derive(Clone, Copy, PartialEq, Eq, Debug, Error)]
+pub enum LinkError {
+    /// The unit has the name of an earlier one.
+    #[error("unit {0} has the name of an earlier one")]
+    Double(u32),
+    /// An import of the unit is the name of no earlier one.
+    #[error("an import of unit {0} is no earlier unit")]
+    Missing(u32),
+    /// The type of an earlier unit isn't below that of an import of this one.
+    #[error("an import of unit {0} has another type")]
+    Interface(u32),
+    /// The last unit is no command.
+    #[error("the last unit is no command")]
+    NotMain,
+    /// The joined text has over 1,048,576 bytes.
+    #[error("the joined text is too long")]
+    Length,
+    /// The joined text has no tokens.
+    #[error("tokens")]
+    Lex(LexError),
+    /// The joined text is no program.
+    #[error("syntax")]
+    Parse(ParseError),
+    /// The joined text has no core phrase.
+    #[error("expansion")]
+    Expand(ExpandError),
+    /// The composed derivation has over 262,144 nodes, or nests more than 2,048.
+    #[error("the derivation is too large")]
+    TooLarge,
+    /// Memory was wanting.
+    #[error("out of memory")]
+    OutOfMemory,
+}
+
+impl From<OutOfMemory> for LinkError {
+    ghost from_gives = { λ _ e. e ≡ unlinked.OutOfMemory };
+
+    fn from(_error: OutOfMemory) -> LinkError {
+        LinkError::OutOfMemory
+    }
+}
+
+impl<T: Drop> From<AllocFailed<T>> for LinkError {
+    ghost from_gives = { λ _ e. e ≡ unlinked.OutOfMemory };
+
+    fn from(_error: AllocFailed<T>) -> LinkError {
+        LinkError::OutOfMemory
+    }
+}
+
+impl From<LexError> for LinkError {
+    ghost from_gives = { λ error e. e ≡ link_of_lex error };
+
+    fn from(error: LexError) -> LinkError {
+        match error {
+            LexError::OutOfMemory => LinkError::OutOfMemory,
+            error => LinkError::Lex(error),
+        }
+    }
+}
+
+impl From<ParseError> for LinkError {
+    ghost from_gives = { λ error e. e ≡ link_of_parse error };
+
+    fn from(error: ParseError) -> LinkError {
+        match error {
+            ParseError::OutOfMemory => LinkError::OutOfMemory,
+            error => LinkError::Parse(error),
+        }
+    }
+}
+
+impl From<ExpandError> for LinkError {
+    ghost from_gives = { λ error e. e ≡ link_of_expand error };
+
+    fn from(error: ExpandError) -> LinkError {
+        match error {
+            ExpandError::OutOfMemory => LinkError::OutOfMemory,
+            error => LinkError::Expand(error),
+        }
+    }
+}

@@ -1,0 +1,181 @@
+//! Units linked.
+
+ghost use Rattle.std.specs.Prelude.{◌≡◌, ◌<◌, ◌≤◌, ◌⊎◌, ◌||◌, All, Ok, IfOk, IfErr, OnOk, length, nat_lt};
+ghost use Rattle.fy_phrase.specs.Reads.{reads};
+ghost use Rattle.fy_derive.specs.Derivations.{most_nesting, most_nodes, nesting, nodes};
+ghost use Rattle.fy_derive.specs.Reading.{plain_derivation};
+ghost use Rattle.fy_expand.specs.Judged.{IsJudgedFrom};
+ghost use Rattle.fy_lexer.specs.Tokens.{HasAdded};
+ghost use Rattle.fy_link.specs.Again.{AreSaidOf, IsSaidOf};
+ghost use Rattle.fy_link.specs.Composed.{composed_derivation};
+ghost use Rattle.fy_link.specs.Joined.{IsJoinedText, IsTextPart};
+ghost use Rattle.fy_link.specs.Read.{plain_part, plain_units};
+ghost use Rattle.fy_link.specs.Links.{IsLinked, IsTextRefused, IsTooLarge, IsUnlinked};
+ghost use Rattle.fy_link.specs.Units.{IsUnit};
+ghost use Rattle.fy_link.specs.declared.error.LinkError.TheVariants.{OutOfMemory as NoMemory, TooLarge as NoRoom};
+
+use crate::causes::judge_units;
+use crate::composed::composed;
+use crate::error::{LinkError, UnitError};
+use crate::joined::{Part, joined_text, tail};
+use crate::source::{Said, said_in};
+use crate::unit::{Unit, UnitList};
+use fy_base::{OutOfMemory, Text};
+use fy_derive::{Derivation, nesting_of, nodes_of};
+use fy_expand::expand;
+use fy_grammar::parse;
+use fy_lexer::lex;
+use fy_phrase::Phrase;
+use fy_types::Names;
+use std::alloc::Global;
+
+// The most bytes of a text, and the most nodes of a derivation and of a path in one.
+const MOST_BYTES: usize = 1_048_576;
+
+const MOST_NODES: u32 = 262_144;
+
+const MOST_NESTING: u32 = 2_048;
+
+/// Units put together: their text, its core phrase, and a derivation that this is a command.
+#[derive(Debug, Drop)]
+pub struct Linked {
+    pub text: Text,
+    pub phrase: Phrase,
+    pub derivation: Derivation,
+}
+
+/// Units put together without a new search for types: the text in which each unit but the last is a definition around those behind
+/// it, its core phrase, and the derivation that is composed of the units' own ones. They are units that `compile_unit` or `read_unit`
+/// gave with these names, one or more.
+///
+/// # Errors
+///
+/// The units are judged in order, and in each its name and then its imports in order: `Double` where it has the name of an earlier
+/// unit, `Missing` where an import is the name of no earlier unit, `Interface` where the exporting type isn't below the import's. Then
+/// `NotMain` where the last unit's type isn't `comm`. Then `Length` where the joined text has over 1,048,576 bytes, and `Lex`, `Parse`
+/// and `Expand` as it is refused. Then `TooLarge` exactly where the composed derivation has over 262,144 nodes or nests more than
+/// 2,048. And `OutOfMemory`.
+pub fn link(alloc: Global, names: &mut Names, units: &UnitList) -> Result<Linked, LinkError>
+    requires units { All (IsUnit names.old) units.now }
+    requires some { 0 < length units.now }
+    requires few { length units.now < 4294967296 }
+    requires names { length names.old ≤ 3000000000 }
+    ensures linked { IfOk result (IsLinked names.old units.now) }
+    ensures err { IfErr result (IsUnlinked names.old units.now) }
+    ensures names { HasAdded names.old names.new }
+{
+    let said = all_said(alloc, names, units.as_slice())?;
+    judge_units(alloc, &said)?;
+    let text = text_of(alloc, names, &said, units.as_slice())?;
+    if text.len() > MOST_BYTES {
+        return Err(LinkError::Length);
+    }
+    let phrase = meaning(alloc, names, &text)?;
+    let derivation = derived(alloc, &said, units.as_slice())?;
+    let text = Text::from_vec(text);
+    Ok(Linked {
+        text,
+        phrase,
+        derivation,
+    })
+}
+
+// What a unit says. Its source was read before, so it isn't refused, and its names are known.
+fn said_again(alloc: Global, names: &mut Names, unit: &Unit) -> Result<Said, OutOfMemory>
+    requires unit { IsUnit names.old unit.now }
+    requires names { length names.old ≤ 3000000000 }
+    ensures said { IfOk result (IsSaidOf names.old unit.now) }
+    ensures known { OnOk result (names.new ≡ names.old) }
+    ensures names { HasAdded names.old names.new }
+{
+    match said_in(alloc, names, unit.source.as_slice()) {
+        Ok(said) => Ok(said),
+        Err(error) => match error {
+            UnitError::OutOfMemory => Err(OutOfMemory),
+            _ => unreachable!(),
+        },
+    }
+}
+
+// What the units say.
+fn all_said(alloc: Global, names: &mut Names, units: &[Unit]) -> Result<Vec<Said>, OutOfMemory>
+    requires units { All (IsUnit names.old) units.now }
+    requires names { length names.old ≤ 3000000000 }
+    ensures said { IfOk result (λ all. AreSaidOf names.old units.now all.items) }
+    ensures known { OnOk result (names.new ≡ names.old) }
+    ensures names { HasAdded names.old names.new }
+{
+    let mut all = Vec::new(alloc);
+    for unit in units {
+        all.push(said_again(alloc, names, unit)?)?;
+    }
+    Ok(all)
+}
+
+// The unit's part of the text.
+fn part_of<'a>(names: &'a Names, said: &Said, unit: &'a Unit) -> Part<'a>
+    requires { IsSaidOf names.now unit.now said.now }
+    ensures { IsTextPart names.now unit.now.source (plain_part result) }
+{
+    let Some(name) = names.text(said.own.name) else {
+        unreachable!()
+    };
+    let Some(tail) = tail(unit.source.as_slice(), said.equals_at) else {
+        unreachable!()
+    };
+    Part { name, tail }
+}
+
+// The text of the units put together.
+fn text_of(
+    alloc: Global,
+    names: &Names,
+    said: &[Said],
+    units: &[Unit],
+) -> Result<Vec<u8>, OutOfMemory>
+    requires said { AreSaidOf names.now units.now said.now }
+    requires length { length said.now ≡ length units.now }
+    ensures { IfOk result (λ text. IsJoinedText names.now units.now text.items) }
+{
+    let mut parts = Vec::new(alloc);
+    for i in 0..units.len() {
+        parts.push(part_of(names, &said[i], &units[i]))?;
+    }
+    joined_text(alloc, &parts)
+}
+
+// Whether the derivation has too many nodes, or nests too deep.
+fn is_large(d: &Derivation) -> bool
+    ensures { result ≡ (nat_lt most_nodes (nodes (plain_derivation d.now)) || nat_lt most_nesting (nesting (plain_derivation d.now))) }
+{
+    nodes_of(d) > MOST_NODES || nesting_of(d) > MOST_NESTING
+}
+
+// The derivation of the units put together, unless it is too large.
+fn derived(alloc: Global, said: &[Said], units: &[Unit]) -> Result<Derivation, LinkError>
+    requires { length said.now ≡ length units.now }
+    ensures composed { IfOk result (λ d. plain_derivation d ≡ composed_derivation (plain_units said.now units.now)) }
+    ensures few { IfOk result (λ d. nodes (plain_derivation d) ≤ most_nodes) }
+    ensures shallow { IfOk result (λ d. nesting (plain_derivation d) ≤ most_nesting) }
+    ensures err { IfErr result (λ e. (e ≡ NoMemory) ⊎ ((e ≡ NoRoom) × IsTooLarge (plain_units said.now units.now))) }
+{
+    let derivation = composed(alloc, said, units)?;
+    if is_large(&derivation) {
+        return Err(LinkError::TooLarge);
+    }
+    Ok(derivation)
+}
+
+// The core phrase of a text.
+fn meaning(alloc: Global, names: &mut Names, text: &[u8]) -> Result<Phrase, LinkError>
+    requires text { length text.now ≤ 1048576 }
+    requires names { length names.old ≤ 3000000000 }
+    ensures ok { IfOk result (λ p. IsJudgedFrom names.old text.now (Ok (reads p))) }
+    ensures err { IfErr result (λ e. (e ≡ NoMemory) ⊎ IsTextRefused names.old text.now e) }
+    ensures names { HasAdded names.old names.new }
+{
+    let tokens = lex(alloc, names, text)?;
+    let tree = parse(alloc, &tokens)?;
+    let phrase = expand(alloc, &tree)?;
+    Ok(phrase)
+}

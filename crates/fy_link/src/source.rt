@@ -1,0 +1,210 @@
+//! What sources say.
+
+ghost use Rattle.std.specs.Prelude.{◌≡◌, ◌+◌, ◌≤◌, ◌⊎◌, ◌∷◌, ◌++◌, [], IfOk, IfErr, OnOk, length, map};
+ghost use Rattle.fy_phrase.specs.Reads.{reads};
+ghost use Rattle.fy_syntax.specs.Signs.{front};
+ghost use Rattle.fy_types.specs.declared.types.Atom.TheVariants.{Comm};
+ghost use Rattle.fy_types.specs.Reading.{plain_type, types_in};
+ghost use Rattle.fy_types.specs.Types.{arrow, atom as of_atom};
+ghost use Rattle.fy_link.specs.Units.{context_of};
+ghost use Rattle.fy_grammar.specs.Program.{IsEnded};
+ghost use Rattle.fy_lexer.specs.Tokens.{HasAdded};
+ghost use Rattle.fy_lexer.specs.Again.{HaveNoEnd};
+ghost use Rattle.fy_link.specs.Header.{type_program as type_program_of};
+ghost use Rattle.fy_link.specs.Read.{plain_header, plain_named, plain_piece, plain_said};
+ghost use Rattle.fy_link.specs.Sources.{AreInside, HasEquals, IsInside, IsMeaningless, IsSourceFault, IsSource, IsSaid, IsSaidFault, IsTypeFault, Means, NameAll, Names as NamesOf, behind_definitions, below_abstractions, domain_of, without_prelude};
+ghost use Rattle.fy_link.specs.declared.error.UnitError.TheVariants.{OutOfMemory as NoMemory};
+
+use crate::error::UnitError;
+use crate::header::{Header, Piece, header_in};
+use crate::written::{type_program, unit_program};
+use fy_base::{OutOfMemory, Place};
+use fy_expand::expand;
+use fy_grammar::parse;
+use fy_lexer::{Token, lex};
+use fy_phrase::Phrase;
+use fy_types::{Atom, Name, Names, Ty, TyList, copy_ty};
+use std::alloc::Global;
+
+// The prelude has that many names.
+const PROVIDED: u32 = 4;
+
+/// A name with its type.
+#[derive(Debug, Drop)]
+pub(crate) struct Named {
+    pub name: Name,
+    pub ty: Ty,
+}
+
+/// What a source says.
+#[derive(Debug, Drop)]
+pub(crate) struct Said {
+    pub imports: Vec<Named>,
+    pub own: Named,
+    /// The place of the header's `==`.
+    pub equals_at: Place,
+    // The unit's phrase inside an abstraction for each import, inside the prelude.
+    whole: Phrase,
+}
+
+impl Said {
+    /// The unit's phrase.
+    pub fn phrase(&self) -> &Phrase
+        ensures { reads result.now ≡ (plain_said self.now).phrase }
+    {
+        below_abstractions(
+            self.imports.len(),
+            behind_definitions(PROVIDED, &self.whole),
+        )
+    }
+}
+
+// What stands behind so many definitions.
+fn behind_definitions(count: u32, p: &Phrase) -> &Phrase
+    ensures { reads result.now ≡ behind_definitions count (reads p.now) }
+{
+    if count == 0 {
+        return p;
+    }
+    match p {
+        Phrase::LetIn(_, _, body, _) => behind_definitions(count - 1, body),
+        _ => p,
+    }
+}
+
+// What stands below so many abstractions.
+fn below_abstractions(count: usize, p: &Phrase) -> &Phrase
+    ensures { reads result.now ≡ below_abstractions count (reads p.now) }
+{
+    if count == 0 {
+        return p;
+    }
+    match p {
+        Phrase::Lam(_, _, body, _) => below_abstractions(count - 1, body),
+        _ => p,
+    }
+}
+
+// The first type of an abstraction's parameter, or `ns` for other phrases.
+fn domain_of(alloc: Global, p: &Phrase) -> Result<Ty, OutOfMemory>
+    ensures { IfOk result (λ ty. plain_type ty ≡ domain_of (reads p.now)) }
+{
+    let Phrase::Lam(_, types, _, _) = p else {
+        return Ok(Ty::Ns);
+    };
+    match types.as_slice() {
+        [first, ..] => copy_ty(alloc, first),
+        [] => Ok(Ty::Ns),
+    }
+}
+
+// The core phrase that a program of these tokens means.
+fn meaning(alloc: Global, tokens: &[Token]) -> Result<Phrase, UnitError>
+    requires { IsEnded tokens.now }
+    ensures ok { IfOk result (λ p. Means tokens.now (reads p)) }
+    ensures err { IfErr result (λ e. (e ≡ NoMemory) ⊎ IsMeaningless tokens.now e) }
+{
+    let tree = parse(alloc, tokens)?;
+    let phrase = expand(alloc, &tree)?;
+    Ok(phrase)
+}
+
+// What a piece of a header names.
+fn named_by(alloc: Global, at: Place, piece: &Piece<'_>) -> Result<Named, UnitError>
+    requires { HaveNoEnd piece.now.ty.now }
+    ensures ok { IfOk result (λ named. NamesOf at (plain_piece piece.now) (plain_named named)) }
+    ensures err { IfErr result (λ e. (e ≡ NoMemory) ⊎ IsMeaningless (type_program_of at (plain_piece piece.now)) e) }
+{
+    let tokens = type_program(alloc, at, piece)?;
+    let phrase = meaning(alloc, &tokens)?;
+    let ty = domain_of(alloc, behind_definitions(PROVIDED, &phrase))?;
+    Ok(Named {
+        name: piece.name,
+        ty,
+    })
+}
+
+// What the pieces of a header name, in order.
+fn all_named(alloc: Global, at: Place, pieces: &[Piece<'_>]) -> Result<Vec<Named>, UnitError>
+    requires { AreInside (map plain_piece pieces.now) }
+    ensures ok { IfOk result (λ all. NameAll at (map plain_piece pieces.now) (map plain_named all.items)) }
+    ensures err { IfErr result (λ e. (e ≡ NoMemory) ⊎ IsTypeFault at (map plain_piece pieces.now) e) }
+{
+    let mut all = Vec::new(alloc);
+    for piece in pieces {
+        all.push(named_by(alloc, at, piece)?)?;
+    }
+    Ok(all)
+}
+
+// What a source with this header says, whose first token has that place.
+fn said_behind(alloc: Global, at: Place, header: &Header<'_>) -> Result<Said, UnitError>
+    requires { IsInside (plain_header header.now) }
+    ensures ok { IfOk result (λ said. IsSaid at (plain_header header.now) (plain_said said)) }
+    ensures equals_at { IfOk result (λ said. said.equals_at ≡ header.now.equals_at) }
+    ensures err { IfErr result (λ e. (e ≡ NoMemory) ⊎ IsSaidFault at (plain_header header.now) e) }
+{
+    let imports = all_named(alloc, at, &header.imports)?;
+    let own = named_by(alloc, at, &header.own)?;
+    parse(alloc, header.tail)?;
+    let tokens = unit_program(alloc, at, header)?;
+    let whole = meaning(alloc, &tokens)?;
+    Ok(Said {
+        imports,
+        own,
+        equals_at: header.equals_at,
+        whole,
+    })
+}
+
+/// What a source says, or why it is refused before typing. The names get those of its names that are new.
+pub(crate) fn said_in(alloc: Global, names: &mut Names, source: &[u8]) -> Result<Said, UnitError>
+    requires text { length source.now ≤ 1048576 }
+    requires names { length names.old ≤ 3000000000 }
+    ensures ok { IfOk result (λ said. IsSource names.old source.now names.new (plain_said said)) }
+    ensures equals_at { IfOk result (λ said. HasEquals names.old source.now names.new said.equals_at) }
+    ensures err { IfErr result (λ e. (e ≡ NoMemory) ⊎ IsSourceFault names.old source.now e) }
+    ensures names { HasAdded names.old names.new }
+    ensures few { length names.new ≤ length names.old + length source.now }
+{
+    let tokens = lex(alloc, names, source)?;
+    let at = front(&tokens);
+    match header_in(alloc, &tokens)? {
+        Some(header) => said_behind(alloc, at, &header),
+        None => Err(UnitError::Header(at)),
+    }
+}
+
+// The place of the first token.
+fn front(tokens: &[Token]) -> Place
+    ensures { result ≡ front tokens.now }
+{
+    match tokens {
+        [] => Place::first(),
+        [first, ..] => first.place,
+    }
+}
+
+// Adds the type of a procedure of the prelude: from this atom to commands.
+fn put_procedure(alloc: Global, context: &mut TyList, atom: Atom) -> Result<(), OutOfMemory>
+    ensures { OnOk result (map plain_type (types_in context.new) ≡ map plain_type (types_in context.old) ++ arrow (of_atom atom) (of_atom Comm) ∷ []) }
+{
+    let domain = Box::new(alloc, Ty::Atom(atom))?;
+    let command = Box::new(alloc, Ty::Atom(Atom::Comm))?;
+    context.push(Ty::Arrow(domain, command))
+}
+
+/// The types of the prelude's names and then of the imports.
+pub(crate) fn context_of(alloc: Global, imports: &[Named]) -> Result<TyList, OutOfMemory>
+    ensures { IfOk result (λ context. map plain_type (types_in context) ≡ context_of (map plain_named imports.now)) }
+{
+    let mut context = TyList::new(alloc);
+    put_procedure(alloc, &mut context, Atom::Int)?;
+    put_procedure(alloc, &mut context, Atom::Char)?;
+    put_procedure(alloc, &mut context, Atom::Bool)?;
+    put_procedure(alloc, &mut context, Atom::IntAcc)?;
+    for import in imports {
+        context.push(copy_ty(alloc, &import.ty)?)?;
+    }
+    Ok(context)
+}
