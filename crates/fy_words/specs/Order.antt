@@ -24,6 +24,9 @@ pub data Order : Type 0 where
   migrate : (from to : Bytes) → Order
   elf : (from to : Bytes) → Order
   unelf : (from to : Bytes) → Order
+  unit : (file to : Bytes) → Order
+  join : (file to : Bytes) → Order
+  link : (file to : Bytes) (stack : Option ℕ) → Order
 
 -- the order that a command stands for
 abbrev pub order_of : Command → Order
@@ -40,6 +43,9 @@ order_of (command.Audit image) = audit image.now
 order_of (command.Migrate from to) = migrate from.now to.now
 order_of (command.Elf from to) = elf from.now to.now
 order_of (command.Unelf from to) = unelf from.now to.now
+order_of (command.Unit file to) = unit file.now to.now
+order_of (command.Join file to) = join file.now to.now
+order_of (command.Link file to stack) = link file.now to.now stack
 
 -- ---- options and operands
 
@@ -224,6 +230,22 @@ elf_from words = if are_known [] words then option_map (λ both. elf both.0 both
 abbrev pub unelf_from : List Bytes → Option Order
 unelf_from words = if are_known [] words then option_map (λ both. unelf both.0 both.1) (both_names (operands words)) else None
 
+-- `unit FILE OUT`
+abbrev pub unit_from : List Bytes → Option Order
+unit_from words = if are_known [] words then option_map (λ both. unit both.0 both.1) (both_names (operands words)) else None
+
+-- `join LIST OUT`
+abbrev pub join_from : List Bytes → Option Order
+join_from words = if are_known [] words then option_map (λ both. join both.0 both.1) (both_names (operands words)) else None
+
+-- `link LIST OUT [--stack=W]`
+abbrev pub link_with : Option (Bytes × Bytes) → Option (Option ℕ) → Option Order
+link_with (Some both) (Some stack) = Some (link both.0 both.1 stack)
+link_with _ _ = None
+
+abbrev pub link_from : List Bytes → Option Order
+link_from words = if are_known (codes "--stack=" ∷ []) words then link_with (both_names (operands words)) (stack_option words) else None
+
 -- the order that words are, if they are one: the first word is the command
 abbrev pub command_from : List Bytes → Option Order
 command_from [] = None
@@ -241,7 +263,10 @@ command_from (name ∷ words) =
     else (if bytes_eq name (codes "migrate") then migrate_from words
     else (if bytes_eq name (codes "elf") then elf_from words
     else (if bytes_eq name (codes "unelf") then unelf_from words
-    else None))))))))))))
+    else (if bytes_eq name (codes "unit") then unit_from words
+    else (if bytes_eq name (codes "join") then join_from words
+    else (if bytes_eq name (codes "link") then link_from words
+    else None)))))))))))))))
 
 -- ---- what is wanted where no option says it
 
@@ -276,3 +301,6 @@ IsInRange (audit image) = Unit {0}
 IsInRange (migrate from to) = Unit {0}
 IsInRange (elf from to) = Unit {0}
 IsInRange (unelf from to) = Unit {0}
+IsInRange (unit file to) = Unit {0}
+IsInRange (join file to) = Unit {0}
+IsInRange (link file to stack) = (1024 ≤ stack_wanted stack) × (stack_wanted stack ≤ 67108864)

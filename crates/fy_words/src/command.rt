@@ -3,7 +3,7 @@
 ghost use Rattle.std.specs.Prelude.{◌≡◌, ◌≤◌, map, string_bytes, IfSome};
 ghost use Rattle.std.specs.Option.{option_map};
 ghost use Rattle.fy_words.specs.Order.{IsInRange, copy_wanted, trace_steps_wanted, stack_wanted};
-ghost use Rattle.fy_words.specs.Order.{stack_option, trace_option, steps_option, check_from, build_from, exec_from, run_from, list_from, sample_from, command_from, order_of, copy_option, copy_from, trace_steps_option, trace_from, derive_from, audit_from, migrate_from, elf_from, unelf_from};
+ghost use Rattle.fy_words.specs.Order.{stack_option, trace_option, steps_option, check_from, build_from, exec_from, run_from, list_from, sample_from, command_from, order_of, copy_option, copy_from, trace_steps_option, trace_from, derive_from, audit_from, migrate_from, elf_from, unelf_from, unit_from, join_from, link_from};
 
 use crate::words::{
     are_known, both_names, both_operands, name_option, number_in, number_option, only_operand,
@@ -78,6 +78,22 @@ pub enum Command<'a> {
     Unelf {
         from: &'a str,
         to: &'a str,
+    },
+    /// Keeps the unit whose source is in the file.
+    Unit {
+        file: &'a str,
+        to: &'a str,
+    },
+    /// Keeps the joined text of the units on a list.
+    Join {
+        list: &'a str,
+        to: &'a str,
+    },
+    /// Links the units on a list, and keeps the image.
+    Link {
+        list: &'a str,
+        to: &'a str,
+        stack: Option<u32>,
     },
 }
 
@@ -317,6 +333,43 @@ fn unelf_of(words: &[String]) -> Option<Command<'_>>
     Some(Command::Unelf { from, to })
 }
 
+// `unit FILE OUT`
+fn unit_of(words: &[String]) -> Option<Command<'_>>
+    ensures order { option_map order_of result ≡ unit_from (map string_bytes words.now) }
+    ensures stack { IfSome result (λ command. IsInRange (order_of command)) }
+{
+    if !are_known(&[], words) {
+        return None;
+    }
+    let (file, to) = both_names(words)?;
+    Some(Command::Unit { file, to })
+}
+
+// `join LIST OUT`
+fn join_of(words: &[String]) -> Option<Command<'_>>
+    ensures order { option_map order_of result ≡ join_from (map string_bytes words.now) }
+    ensures stack { IfSome result (λ command. IsInRange (order_of command)) }
+{
+    if !are_known(&[], words) {
+        return None;
+    }
+    let (list, to) = both_names(words)?;
+    Some(Command::Join { list, to })
+}
+
+// `link LIST OUT [--stack=W]`
+fn link_of(words: &[String]) -> Option<Command<'_>>
+    ensures order { option_map order_of result ≡ link_from (map string_bytes words.now) }
+    ensures stack { IfSome result (λ command. IsInRange (order_of command)) }
+{
+    if !are_known(&["--stack="], words) {
+        return None;
+    }
+    let (list, to) = both_names(words)?;
+    let stack = stack_option(words)?;
+    Some(Command::Link { list, to, stack })
+}
+
 /// The command that the words are, or `None` exactly where they are none: the first word names it,
 /// a word that begins with `--` is an option, and every other word is an operand. Options stand
 /// anywhere behind the first word, each at most once. It takes no memory.
@@ -341,6 +394,9 @@ pub fn command_of(words: &[String]) -> Option<Command<'_>>
         "migrate" => migrate_of(words),
         "elf" => elf_of(words),
         "unelf" => unelf_of(words),
+        "unit" => unit_of(words),
+        "join" => join_of(words),
+        "link" => link_of(words),
         _ => None,
     }
 }
