@@ -1,5 +1,5 @@
 -- The text of each note.
-use Rattle.std.specs.Prelude.{List, [], ◌∷◌, ◌++◌, codes, map, Some, None}
+use Rattle.std.specs.Prelude.{ℕ, List, [], ◌∷◌, ◌++◌, codes, map, Some, None}
 use Rattle.std.specs.Fmt.{decimal}
 use Rattle.std.specs.declared.option.Option.{Option}
 use Rattle.fy_base.specs.Outside.{Bytes}
@@ -15,9 +15,11 @@ use Rattle.fy_base.specs.declared.data.FaultKind.TheVariants.{Overflow, Zero, Ra
 use Rattle.fy_base.specs.declared.data.TrapKind.{TrapKind}
 use Rattle.fy_base.specs.declared.data.TrapKind.TheVariants.{Illegal, FetchAlign, FetchRange, LoadAlign, LoadRange, StoreAlign, StoreRange, Service}
 use Rattle.fy_world.specs.declared.refusal.Refusal.{Refusal}
-use Rattle.fy_world.specs.declared.refusal.Refusal.TheVariants.{Length, Byte, Unclosed, Number, Tokens, Syntax, Deep, Name, TypeName, Double, Letrec, Merge, Alternatives, TypeSize, CoreDepth, CoreSize, Visits, NoType, LeastSize, Shapes, Entries, Tables}
+use Rattle.fy_world.specs.declared.refusal.Refusal.TheVariants.{Length, Byte, Unclosed, Number, Tokens, Syntax, Deep, Name, TypeName, Double, Letrec, Merge, Alternatives, TypeSize, CoreDepth, CoreSize, Visits, NoType, LeastSize, Shapes, Entries, Tables, Header}
+use Rattle.fy_world.specs.declared.unlinked.Unlinked.{Unlinked}
+use Rattle.fy_world.specs.declared.unlinked.Unlinked.TheVariants as unlinked
 use Rattle.fy_world.specs.declared.note.Note.{Note}
-use Rattle.fy_world.specs.declared.note.Note.TheVariants.{Fault, StackExhausted, StepsSpent, CopyLimit, Trapped, Refused, DerivationText, DerivationSize, DerivationDeep, DerivationLength, DerivationNode, Usage, OutsideFiles, OutsideInput, OutsideOutput, Memory, Instructions, Copied, ImageMagic, ImageVersion, ImageTruncated, ImageTrailing, ImageField, ImageLength, ImageElf, Audit}
+use Rattle.fy_world.specs.declared.note.Note.TheVariants.{Fault, StackExhausted, StepsSpent, CopyLimit, Trapped, Refused, DerivationText, DerivationSize, DerivationDeep, DerivationLength, DerivationNode, Usage, OutsideFiles, OutsideInput, OutsideOutput, Memory, Instructions, Copied, ImageMagic, ImageVersion, ImageTruncated, ImageTrailing, ImageField, ImageLength, ImageElf, Audit, Link}
 
 -- a place, as it is printed: line, colon, column
 abbrev pub place_text : Place → Bytes
@@ -62,6 +64,7 @@ word_of LeastSize = codes "least"
 word_of Shapes = codes "shapes"
 word_of Entries = codes "entries"
 word_of Tables = codes "tables"
+word_of (Header place) = codes "header "
 
 abbrev pub place_of : Refusal → Option Place
 place_of Length = None
@@ -86,10 +89,34 @@ place_of LeastSize = None
 place_of Shapes = None
 place_of Entries = None
 place_of Tables = None
+place_of (Header place) = Some place
 
 abbrev pub maybe_place_text : Option Place → Bytes
 maybe_place_text None = []
 maybe_place_text (Some place) = place_text place
+
+-- the first words of the note of units that aren't linked, with a blank where the number of a unit follows, and that number
+abbrev pub link_word : Unlinked → Bytes
+link_word unlinked.List = codes "link list"
+link_word (unlinked.Object j) = codes "link object "
+link_word (unlinked.Double j) = codes "link double "
+link_word (unlinked.Missing j) = codes "link missing "
+link_word (unlinked.Interface j) = codes "link interface "
+link_word unlinked.Main = codes "link main"
+link_word unlinked.Size = codes "link size"
+
+abbrev pub unit_of : Unlinked → Option ℕ
+unit_of unlinked.List = None
+unit_of (unlinked.Object j) = Some j
+unit_of (unlinked.Double j) = Some j
+unit_of (unlinked.Missing j) = Some j
+unit_of (unlinked.Interface j) = Some j
+unit_of unlinked.Main = None
+unit_of unlinked.Size = None
+
+abbrev pub maybe_decimal : Option ℕ → Bytes
+maybe_decimal None = []
+maybe_decimal (Some n) = decimal n
 
 abbrev pub note_text : Note → Bytes
 note_text (Fault kind place) = fault_name kind ++ place_text place
@@ -116,6 +143,7 @@ note_text (ImageField field) = codes "image field " ++ decimal field
 note_text ImageLength = codes "image length"
 note_text (ImageElf offset) = codes "image elf " ++ decimal offset
 note_text (Audit word) = codes "audit word " ++ decimal word
+note_text (Link why) = link_word why ++ maybe_decimal (unit_of why)
 note_text (Instructions count) = codes "instructions " ++ decimal count
 note_text (Copied steps peak) = codes "steps " ++ decimal steps ++ codes " peak " ++ decimal peak
 

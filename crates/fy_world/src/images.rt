@@ -61,8 +61,13 @@ pub fn execute<W: World>(
     }
 }
 
-// Keeps bytes under a name.
-fn keep_bytes<W: World>(alloc: Global, bytes: &[u8], name: &str, world: &mut W) -> Result<u8, Stop>
+/// Keeps bytes under a name.
+pub fn keep_bytes<W: World>(
+    alloc: Global,
+    bytes: &[u8],
+    name: &str,
+    world: &mut W,
+) -> Result<u8, Stop>
     ensures keeps { KeepsSuch (λ held. held ≡ bytes.now) name.now (W.holds world.old) (W.holds world.new) result }
     ensures own { IfOk result IsOwn }
     ensures counted { Counted [] (name.now ∷ []) (W.counts world.old) (W.counts world.new) result }

@@ -9,12 +9,16 @@ mod shown;
 mod steps;
 mod telling;
 mod trace;
+mod unlinked;
 mod world;
 
-pub use images::{execute, keep_and_run, keep_and_sample, keep_elf, keep_image, list_image};
+pub use images::{
+    execute, keep_and_run, keep_and_sample, keep_bytes, keep_elf, keep_image, list_image,
+};
 pub use note::{Note, elf_note, read_note, refusal_note};
 pub use refusal::Refusal;
 pub use runs::run_copied;
 pub use steps::run_stepped;
 pub use telling::{refuse, tell, write};
+pub use unlinked::Unlinked;
 pub use world::{Outside, Stop, World};

@@ -2,9 +2,10 @@
 
 ghost use Rattle.std.specs.Prelude.{◌≡◌, ◌≤◌, ◌+◌, [], ◌∷◌, ◌++◌, codes, length};
 ghost use Rattle.std.specs.Fmt.{decimal};
-ghost use Rattle.fy_world.specs.Note.{note_text, place_text, maybe_place_text, fault_name, trap_name, refusal_note, elf_note, read_note};
+ghost use Rattle.fy_world.specs.Note.{note_text, place_text, maybe_decimal, maybe_place_text, fault_name, trap_name, refusal_note, elf_note, read_note};
 
 use crate::refusal::Refusal;
+use crate::unlinked::Unlinked;
 use arrayvec::ArrayString;
 use fy_base::{FaultKind, Place, TrapKind};
 use fy_elf::ElfError;
@@ -64,6 +65,8 @@ pub enum Note {
     ImageElf(u64),
     /// The image isn't guarded at the word with this number.
     Audit(u32),
+    /// The units on a list aren't linked.
+    Link(Unlinked),
 }
 
 /// A line of text with its end.
@@ -113,6 +116,16 @@ fn push_maybe_place(line: &mut Line, place: Option<Place>)
 {
     if let Some(place) = place {
         push_place(line, place);
+    }
+}
+
+fn push_maybe_number(line: &mut Line, number: Option<u32>)
+    requires { length line.old.bytes ≤ 20 }
+    ensures text { line.new.bytes ≡ line.old.bytes ++ maybe_decimal number }
+    ensures length { length line.new.bytes ≤ length line.old.bytes + 20 }
+{
+    if let Some(number) = number {
+        push_number(line, number.into());
     }
 }
 
@@ -174,10 +187,12 @@ pub fn line_of(note: Note) -> Line
         Note::ImageLength => begun("image length"),
         Note::ImageElf(_) => begun("image elf "),
         Note::Audit(_) => begun("audit word "),
+        Note::Link(why) => begun(why.word()),
     };
     match note {
         Note::Fault { place, .. } => push_place(&mut line, place),
         Note::Refused(why) => push_maybe_place(&mut line, why.place()),
+        Note::Link(why) => push_maybe_number(&mut line, why.unit()),
         Note::Instructions(count) | Note::ImageTrailing(count) | Note::DerivationText(count) => {
             push_number(&mut line, count)
         }

@@ -52,6 +52,9 @@ pub enum Refusal {
     Entries,
     /// The tables for its demand shapes would have over 1,048,576 words.
     Tables,
+    /// What stands before the first `==` of a unit's source is no header; the place is that of the first
+    /// token.
+    Header(Place),
 }
 
 impl Refusal {
@@ -83,6 +86,7 @@ impl Refusal {
             Refusal::Shapes => "shapes",
             Refusal::Entries => "entries",
             Refusal::Tables => "tables",
+            Refusal::Header(_) => "header ",
         }
     }
 
@@ -112,7 +116,8 @@ impl Refusal {
             | Refusal::Merge(place)
             | Refusal::Alternatives(place)
             | Refusal::TypeSize(place)
-            | Refusal::NoType(place) => Some(place),
+            | Refusal::NoType(place)
+            | Refusal::Header(place) => Some(place),
         }
     }
 }
