@@ -59,7 +59,7 @@ answer_outside order b c d k k1 k2 stop status other w e =
       due = w.due;
       explained = w.explained;
       stop = stop;
-      caused = λ _. (other, caused_later (all_reads_of order) (all_keeps_of order) stop k k1 k2 e.later w.counted.caused);
+      caused = λ _. (other, caused_later (all_reads_of order w.explained.sources) (all_keeps_of order) stop k k1 k2 e.later w.counted.caused);
       others = λ _. others_later stop k k1 k2 e.others w.counted.others;
       quiet = λ not_seven. absurd (not_seven last.0);
       due_done = λ not_seven _. absurd (not_seven last.0);
@@ -75,12 +75,12 @@ answer_outside order b c d k k1 k2 stop status other w e =
               second = last.1.bytes;
               gained = gained_both b.notes c.notes d.notes p.notes.part last.1.bytes p.notes.gained last.1.gained;
               begins = inl p.notes.begins;
-              ends = last_line_of last.1.bytes stop k k1 k2 (later_counted (all_reads_of order) (all_keeps_of order) k k1 (failed stop) w.counted) last.1.is;
+              ends = last_line_of last.1.bytes stop k k1 k2 (later_counted (all_reads_of order w.explained.sources) (all_keeps_of order) k k1 (failed stop) w.counted) last.1.is;
             };
           };
       memory = λ nine. absurd (let seven : status ≡ 7 = last.0 in omega arith);
       ready = λ _ nine. absurd (let seven : status ≡ 7 = last.0 in omega arith);
-      never_less = later_more k k1 k2 (later_counted (all_reads_of order) (all_keeps_of order) k k1 (failed stop) w.counted) e.later;
+      never_less = later_more k k1 k2 (later_counted (all_reads_of order w.explained.sources) (all_keeps_of order) k k1 (failed stop) w.counted) e.later;
     }
 
 -- a status of the command's own
@@ -98,7 +98,7 @@ answer_done order b c d k k1 k2 code status w e =
       outside = λ seven. absurd (w.own.0 (sym last.0 ∙ seven));
       memory = λ nine. absurd (w.own.1 (sym last.0 ∙ nine));
       ready = λ _ nine. absurd (w.own.1 (sym last.0 ∙ nine));
-      never_less = later_more k k1 k2 (later_counted (all_reads_of order) (all_keeps_of order) k k1 (done code) w.counted) e.later;
+      never_less = later_more k k1 k2 (later_counted (all_reads_of order w.explained.sources) (all_keeps_of order) k k1 (done code) w.counted) e.later;
     }
 
 -- want of memory
@@ -148,7 +148,7 @@ answer_memory order b c d k k1 k2 status w e =
             notes = gained_both b.notes c.notes d.notes _ (last_line Memory) whole.gained last;
           };
       ready = λ first nine. ap (λ (x : Contents). x.output) e.rest ∙ w.ready first refl;
-      never_less = later_more k k1 k2 (later_counted (all_reads_of order) (all_keeps_of order) k k1 (failed Memory) w.counted) e.later;
+      never_less = later_more k k1 k2 (later_counted (all_reads_of order w.explained.sources) (all_keeps_of order) k k1 (failed Memory) w.counted) e.later;
     }
 
 -- how any work is answered

@@ -49,14 +49,14 @@ use Rattle.fy_world.specs.declared.refusal.Refusal.TheVariants as refusal
 use Rattle.fy_world.specs.declared.world.Stop.{Stop}
 
 -- what a check of a text answers
-abbrev Checked : {T : Type 0} → (T → Type 0) → (Refusal → Type 0) → Result (Result T Refusal) Stop → Type 0
+abbrev pub Checked : {T : Type 0} → (T → Type 0) → (Refusal → Type 0) → Result (Result T Refusal) Stop → Type 0
 Checked P R result = IfOk result (λ found. MatchResult found P R)
 
 -- a refusal was found, or memory was wanting
-abbrev Found : {T : Type 0} → Option Refusal → Result (Result T Refusal) Stop → Type 0
+abbrev pub Found : {T : Type 0} → Option Refusal → Result (Result T Refusal) Stop → Type 0
 Found why result = IfOk result (λ found. MatchResult found (λ _. ⊥) (λ w. why ≡ Some w))
 
-found_so : {T : Type 0} (P : T → Type 0) (R : Refusal → Type 0) (why : Option Refusal) (result : Result (Result T Refusal) Stop) → Found why result → ((w : Refusal) → why ≡ Some w → R w) → Checked P R result
+pub found_so : {T : Type 0} (P : T → Type 0) (R : Refusal → Type 0) (why : Option Refusal) (result : Result (Result T Refusal) Stop) → Found why result → ((w : Refusal) → why ≡ Some w → R w) → Checked P R result
 found_so P R why (Err stop) found is = tt
 found_so P R why (Ok (Ok x)) found is = absurd found
 found_so P R why (Ok (Err w)) found is = is w found

@@ -144,7 +144,7 @@ run_completes text named derivation stack steps input image bytes n end has m ar
     p = has.built.phrase
 
     runs : RunsAsCopyRule p image
-    runs = has.built.runs
+    runs = has.built.is.runs
 
     bound : ℕ
     bound = instruction_bound p m

@@ -1,5 +1,5 @@
 -- From the parts of the commands on images to what is due for the words.
-use Rattle.std.proofs.Common.{◌≡◌, ◌≢◌, ℕ, ◌∷◌, [], ◌<◌, ◌≤◌, drop, sym, ap, refl, subst, length, if◌then◌else◌, codes, Some, None, inl, inr}
+use Rattle.std.proofs.Common.{◌≡◌, ◌≢◌, ℕ, List, ◌∷◌, [], ◌<◌, ◌≤◌, drop, sym, ap, refl, subst, length, if◌then◌else◌, codes, Some, None, inl, inr}
 use Rattle.std.proofs.lemmas.Bool.{lt-ltb}
 use Rattle.std.specs.declared.option.Option.{Option}
 use Rattle.std.specs.declared.result.Result.{Result}
@@ -14,7 +14,8 @@ use Rattle.fy_image.specs.Refusals.{refusal_of, or_else, magic_refusal, first_re
 use Rattle.fy_image.specs.declared.error.ImageError.{ImageError}
 use Rattle.fy_image.specs.declared.error.ImageError.TheVariants.{TooLarge}
 use Rattle.fy_image.specs.declared.image.Image.{Image}
-use Rattle.fy_expand.specs.Judged.{IsJudged}
+use Rattle.fy_types.specs.Names.{first_names}
+use Rattle.fy_expand.specs.Judged.{IsJudgedFrom}
 use Rattle.fy_phrase.specs.Reads.{reads}
 use Rattle.fy_phrase.specs.Tree.{Tree}
 use Rattle.fy_sample.specs.Sample.{sample_text}
@@ -31,13 +32,13 @@ use Rattle.fy_world.specs.declared.note.Note.{Note}
 use Rattle.fy_world.specs.declared.world.Stop.{Stop}
 use Rattle.fy_world.specs.declared.world.Stop.TheVariants.{Memory}
 use Rattle.fy_tool.specs.Audited.{Audits}
-use Rattle.fy_tool.specs.Due.{Sources, IsBuilt, RunsBuilt, IsReadyFirst, image_of, kept_as, unread, builds, lists, executes, runs, samples, audits, unguarded, migrates}
+use Rattle.fy_tool.specs.Due.{Sources, IsImageBy, IsBuilt, RunsBuilt, IsReadyFirst, image_of, kept_as, unread, builds, lists, executes, runs, samples, audits, unguarded, migrates}
 use Rattle.fy_tool.specs.Answers.{Serves}
-use Rattle.fy_tool.specs.Working.{IsOfText, IsGivenFor, IsImageFor, Builds, BuildsAndRuns, BuildsAndSamples, Lists}
+use Rattle.fy_tool.specs.Working.{IsOfText, IsGivenFor, IsBuildable, IsImageFor, Builds, BuildsAndRuns, BuildsAndSamples, Lists}
 use Rattle.fy_tool.specs.Given.{found}
 use Rattle.fy_tool.specs.declared.texts.Program.{Program}
 use Rattle.fy_tool.proofs.Programs.{judged-whole, judged-closed, judged-depths, judged-made, judged-nodes, judged-depth}
-use Rattle.fy_tool.proofs.Serving.{After, done, done_quietly, none_done, only}
+use Rattle.fy_tool.proofs.Serving.{holding, After, done, done_quietly, none_done, only}
 
 -- ---- images of texts
 
@@ -51,11 +52,12 @@ given_found text written program is = record {
   table_limits = is.table_limits;
 }
 
-is_built : (text : Bytes) (named written : Option Bytes) (stack : ℕ) (program : Program) (image : Image) → IsGivenFor text named written program → IsImageFor program stack image → IsBuilt text named written stack image
-is_built text named written stack program image is of = record {
-  phrase = reads program.phrase;
-  by = plain_derivation program.derivation;
-  given = is.given;
+-- and a program of which images are built
+pub buildable : (text : Bytes) (named written : Option Bytes) (program : Program) → IsGivenFor text named written program → IsBuildable program
+buildable text named written program is = record { names = first_names; text = text; is_judged = is.is_judged; derived = is.derived; table_is = is.table_is; table_limits = is.table_limits }
+
+pub by_image : (program : Program) (stack : ℕ) (image : Image) → IsBuildable program → IsImageFor program stack image → IsImageBy (reads program.phrase) (plain_derivation program.derivation) stack image
+by_image program stack image is of = record {
   in_use = record { accepted = is.derived; table = program.table; just = is.table_is; limits = is.table_limits };
   stack_is = of.stack_is;
   table_is = of.table_is;
@@ -63,12 +65,20 @@ is_built text named written stack program image is of = record {
   runs = of.runs;
 }
 
+is_built : (text : Bytes) (named written : Option Bytes) (stack : ℕ) (program : Program) (image : Image) → IsGivenFor text named written program → IsImageFor program stack image → IsBuilt text named written stack image
+is_built text named written stack program image is of = record {
+  phrase = reads program.phrase;
+  by = plain_derivation program.derivation;
+  given = is.given;
+  is = by_image program stack image (buildable text named written program is) of;
+}
+
 -- a stack that is wanted is of a size that images have
 pub stack_size : (words stack : ℕ) → words ≡ stack → (1024 ≤ stack) × (stack ≤ 67108864) → IsStackSize words
 stack_size words stack is within = subst IsStackSize (sym is) (record { least = within.0; most = within.1 })
 
 -- the phrase of a judged text is one that images are built of
-pub program_phrase : (text : Bytes) (p : Tree) → IsJudged text (Ok p) → IsProgramPhrase p
+pub program_phrase : {names : List Bytes} (text : Bytes) (p : Tree) → IsJudgedFrom names text (Ok p) → IsProgramPhrase p
 program_phrase text p judged = record {
   whole = judged-whole text p judged;
   closed = judged-closed text p judged;
@@ -80,11 +90,11 @@ program_phrase text p judged = record {
 
 -- what the files hold that `build` and `run` read
 abbrev pub both : Bytes → Option Bytes → Sources
-both text written = record { file = Some text; derivation = written }
+both text written = holding (Some text) written
 
 -- what they hold where none is read
 abbrev pub nothing_read : Sources
-nothing_read = record { file = None; derivation = None }
+nothing_read = holding None None
 
 -- `build` of a program
 pub serves_build : (file name : Bytes) (stack : Option ℕ) (named : Option Bytes) (text : Bytes) (written : Option Bytes) (program : Program) (b c d : Contents) (k k1 k2 : Counts) (result : Result ℕ Stop) → IsGivenFor text named written program
@@ -107,7 +117,7 @@ pub serves_list : (file text : Bytes) (program : Program) (b c d : Contents) (k 
 serves_list file text program b c d k k1 k2 result is a (inl unbegun) = none_done (list file) (only text) b c d k k1 k2 result a unbegun
 serves_list file text program b c d k k1 k2 result is a (inr has) =
     let built = is_built text None None (stack_wanted None) program has.image (given_found text None program is) has.is in
-    done_quietly (list file) (only text) b c d k k1 k2 result (listed built.runs.program) a (λ input. lists file text has.image refl built) (has.did built.runs.program built.runs.is_the_images) (λ ready. absurd ready)
+    done_quietly (list file) (only text) b c d k k1 k2 result (listed built.is.runs.program) a (λ input. lists file text has.image refl built) (has.did built.is.runs.program built.is.runs.is_the_images) (λ ready. absurd ready)
 
 -- `run` of a program
 pub serves_run : (file : Bytes) (steps stack : Option ℕ) (named name : Option Bytes) (text : Bytes) (written : Option Bytes) (program : Program) (b c d : Contents) (k k1 k2 : Counts) (result : Result ℕ Stop) → RunsShowCopyRule
@@ -125,14 +135,14 @@ serves_run file steps stack named name text written program b c d k k1 k2 result
     ran (inr e) =
         let image = has.image in
         let built = is_built text named written (stack_wanted stack) program image is has.is in
-        let code = one_program image e.executed.program built.runs.program e.executed.is_the_images built.runs.is_the_images in
+        let code = one_program image e.executed.program built.is.runs.program e.executed.is_the_images built.is.runs.is_the_images in
         let R : Code → Type 0 = λ code. HasRun code (start_of image) (steps_wanted steps) None (Some (kept_as file name, e.bytes)) c d result in
         let r = subst R code e.executed.has_run in
         let has_run : RunsBuilt text named written stack steps r.input image e.bytes r.n r.end = record {
           built = built;
           spelled = e.spelled;
           is_run = r.is_run;
-          shows = λ bytes. law built.phrase image built.runs r.input r.n (steps_wanted steps) r.end (accepted-never_stuck built.phrase built.by is.derived) bytes r.is_run.ends;
+          shows = λ bytes. law built.phrase image built.is.runs r.input r.n (steps_wanted steps) r.end (accepted-never_stuck built.phrase built.by is.derived) bytes r.is_run.ends;
         } in
         done order (both text written) b c d k k1 k2 result _ r.input a r.fed (λ _. r.bytes) (runs file steps stack named name text image e.bytes r.n r.end refl has_run) r.did (λ _ memory. absurd (e.ready memory))
 
@@ -152,14 +162,14 @@ serves_sample number size program b c d k k1 k2 result law is a (inr has) = ran 
         let image = has.image in
         let given = given_found (sample_text number size) None program is in
         let built = is_built (sample_text number size) None None (stack_wanted None) program image given has.is in
-        let code = one_program image e.program built.runs.program e.is_the_images built.runs.is_the_images in
+        let code = one_program image e.program built.is.runs.program e.is_the_images built.is.runs.is_the_images in
         let R : Code → Type 0 = λ code. HasSampled code (start_of image) (steps_wanted None) (Some (codes "sample.img", e.bytes)) c d result in
         let r = subst R code e.has_sampled in
         let has_run : RunsBuilt (sample_text number size) None None None None r.input image e.bytes r.n r.end = record {
           built = built;
           spelled = e.spelled;
           is_run = r.is_run;
-          shows = λ bytes. law built.phrase image built.runs r.input r.n (steps_wanted None) r.end (accepted-never_stuck built.phrase built.by is.derived) bytes r.is_run.ends;
+          shows = λ bytes. law built.phrase image built.is.runs r.input r.n (steps_wanted None) r.end (accepted-never_stuck built.phrase built.by is.derived) bytes r.is_run.ends;
         } in
         done order nothing_read b c d k k1 k2 result _ r.input a r.fed (λ _. r.bytes) (samples number size image e.bytes r.n r.end has_run) r.did (λ _ memory. absurd (e.ready memory))
 

@@ -10,3 +10,7 @@ pub mod Completing
 pub mod Named
 pub mod Answering
 pub mod Direct
+pub mod Lists
+pub mod ReadUnits
+pub mod Linking
+pub mod UnitCommands

@@ -1,5 +1,5 @@
 -- What holds of the core phrase of a judged text, so that code is made of it.
-use Rattle.std.proofs.Common.{◌≡◌, ◌≤◌, Bool, true, false, if◌then◌else◌, refl, subst, arith, Some, None}
+use Rattle.std.proofs.Common.{◌≡◌, ◌≤◌, List, Bool, true, false, if◌then◌else◌, refl, subst, arith, Some, None}
 use Rattle.std.specs.Prelude.{Result, Ok, Err, nat_lt}
 use Rattle.std.specs.declared.option.Option.{Option}
 use Rattle.fy_base.specs.Outside.{Bytes}
@@ -15,7 +15,7 @@ use Rattle.fy_expand.specs.Core.{core, in_prelude}
 use Rattle.fy_expand.specs.Expansion.{unless, within_limits, core_of}
 use Rattle.fy_expand.specs.Faults.{fault}
 use Rattle.fy_expand.specs.Front.{front}
-use Rattle.fy_expand.specs.Judged.{IsJudged, expanded}
+use Rattle.fy_expand.specs.Judged.{IsJudgedFrom, expanded}
 use Rattle.fy_expand.specs.Scope.{program_scope}
 use Rattle.fy_expand.specs.Sizes.{limited}
 use Rattle.fy_expand.proofs.DepthLemmas.{depth-below}
@@ -57,19 +57,19 @@ mutual
 
 -- ---- core phrases
 
-pub judged-nodes : (text : Bytes) (p : Tree) → IsJudged text (Ok p) → nodes p ≤ 65536
+pub judged-nodes : {names : List Bytes} (text : Bytes) (p : Tree) → IsJudgedFrom names text (Ok p) → nodes p ≤ 65536
 judged-nodes text p is = let small = (judged-limits text p is).small in let le = nodes-size p in omega arith
 
-pub judged-closed : (text : Bytes) (p : Tree) → IsJudged text (Ok p) → IsClosed p
+pub judged-closed : {names : List Bytes} (text : Bytes) (p : Tree) → IsJudgedFrom names text (Ok p) → IsClosed p
 judged-closed text p (expanded {tree = tree} h a is) = core_of-closed tree p is
 
-pub judged-depths : (text : Bytes) (p : Tree) → IsJudged text (Ok p) → HasDepths p
+pub judged-depths : {names : List Bytes} (text : Bytes) (p : Tree) → IsJudgedFrom names text (Ok p) → HasDepths p
 judged-depths text p (expanded {tree = tree} h a is) = core_of-depths tree p is
 
-pub judged-made : (text : Bytes) (p : Tree) → IsJudged text (Ok p) → IsWellMade p
+pub judged-made : {names : List Bytes} (text : Bytes) (p : Tree) → IsJudgedFrom names text (Ok p) → IsWellMade p
 judged-made text p (expanded {tokens = tokens} {tree = tree} h a is) = core_of-made tree p tokens is a.spelled
 
-pub judged-depth : (text : Bytes) (p : Tree) → IsJudged text (Ok p) → depth p ≤ 511
+pub judged-depth : {names : List Bytes} (text : Bytes) (p : Tree) → IsJudgedFrom names text (Ok p) → depth p ≤ 511
 judged-depth text p is = let below = depth-below 0 p (judged-depths text p is) in let shallow = (judged-limits text p is).shallow in omega arith
 
 -- the whole stands in a definition
@@ -95,5 +95,5 @@ unless_whole (Some e) q p plain h = cc
 core_whole : (tree : written.Tree) (p : Tree) → core_of tree ≡ Ok p → is_merge p ≡ false
 core_whole tree p h = unless_whole (fault program_scope tree) (in_prelude (front tree) (core program_scope tree)) p refl h
 
-pub judged-whole : (text : Bytes) (p : Tree) → IsJudged text (Ok p) → is_merge p ≡ false
+pub judged-whole : {names : List Bytes} (text : Bytes) (p : Tree) → IsJudgedFrom names text (Ok p) → is_merge p ≡ false
 judged-whole text p (expanded {tree = tree} h a is) = core_whole tree p is

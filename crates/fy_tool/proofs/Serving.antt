@@ -1,7 +1,8 @@
 -- From the parts of a command's work to what is due for the words.
-use Rattle.std.proofs.Common.{◌≡◌, ◌≢◌, ℕ, [], ◌∷◌, sym, ap, ◌∙◌, refl, subst, Some, None}
+use Rattle.std.proofs.Common.{◌≡◌, ◌≢◌, ℕ, [], ◌∷◌, ◌++◌, sym, ap, ◌∙◌, refl, subst, inl, Some, None}
+use Rattle.std.proofs.lemmas.List.Elements.{All-nil}
 use Rattle.std.specs.Prelude.{IfOk}
-use Rattle.std.specs.Option.{ForSome}
+use Rattle.std.specs.Option.{ForSome, option_to_list}
 use Rattle.std.specs.declared.option.Option.{Option}
 use Rattle.std.specs.declared.result.Result.{Result}
 use Rattle.std.specs.declared.result.Result.TheVariants.{Err}
@@ -21,7 +22,7 @@ use Rattle.fy_world.proofs.Counting.{short_of_memory, faulted_keeps, counted_aft
 use Rattle.fy_world.proofs.Keeping.{some_input}
 use Rattle.fy_world.proofs.Parts.{content_of, part_none}
 use Rattle.fy_tool.specs.Given.{IsTurnedDown, by_text, before_typing, by_derivation, by_shapes}
-use Rattle.fy_tool.specs.Due.{Sources, TellsNamed, TellsSources, IsDue, usage, stopped, turned_down, named_by, text_of, file_of, reads_of, keeps_of, IsReadyFirst, RunsImage}
+use Rattle.fy_tool.specs.Due.{Sources, TellsNamed, TellsSources, IsDue, usage, stopped, turned_down, named_by, text_of, list_of, file_of, AreListed, reads_of, keeps_of, IsReadyFirst, RunsImage}
 use Rattle.fy_tool.specs.Answers.{Serves}
 
 -- words that are no command
@@ -34,7 +35,7 @@ serves_usage b c k k1 result counted own ready did =
       own = own;
       due = told 5 (note.Usage ∷ []);
       explained = record {
-        sources = record { file = None; derivation = None };
+        sources = record { file = None; derivation = None; units = [] };
         told = tt;
         input = input.0;
         fed = input.1;
@@ -50,8 +51,20 @@ pub named_content : (files : Option Folder) (name : Option Bytes) → (content :
 named_content files None = (None, tt)
 named_content files (Some name) = content_of files name
 
+-- no file on a list is read
+pub none_listed : (list : Option Bytes) → AreListed list []
+none_listed None = refl
+none_listed (Some list) = inl refl
+
+-- what the files hold that an order reads which takes no list
+abbrev pub holding : Option Bytes → Option Bytes → Sources
+holding file derivation = record { file = file; derivation = derivation; units = [] }
+
+pub tells : (order : Order) (files : Option Folder) (file derivation : Option Bytes) → TellsNamed files (file_of order) file → TellsNamed files (named_by order) derivation → TellsSources order files (holding file derivation)
+tells order files file derivation holds holds_named = record { file = holds; derivation = holds_named; listed = none_listed (list_of order (holding file derivation)); units = All-nil _ }
+
 -- a call that was stopped before it did anything
-pub serves_stopped : (order : Order) (sources : Sources) (b c : Contents) (k k1 : Counts) (stop : Stop) → TellsSources order b.files sources → c ≡ b → Faulted (reads_of order) (keeps_of order) stop k k1 → stop ≢ Input
+pub serves_stopped : (order : Order) (sources : Sources) (b c : Contents) (k k1 : Counts) (stop : Stop) → TellsSources order b.files sources → c ≡ b → Faulted (reads_of order sources) (keeps_of order) stop k k1 → stop ≢ Input
     → Serves (Some order) b c k k1 (Err stop)
 serves_stopped order sources b c k k1 stop held same fault other =
     let input = some_input b.input in
@@ -66,12 +79,12 @@ serves_stopped order sources b c k k1 stop held same fault other =
     }
 
 -- files that weren't fetched
-pub serves_unread : (order : Order) (b c : Contents) (k k1 : Counts) (stop : Stop) → c ≡ b → Faulted (reads_of order) [] stop k k1 → stop ≢ Input → Serves (Some order) b c k k1 (Err stop)
+pub serves_unread : (order : Order) (b c : Contents) (k k1 : Counts) (stop : Stop) → c ≡ b → Faulted (option_to_list (file_of order) ++ option_to_list (named_by order)) [] stop k k1 → stop ≢ Input → Serves (Some order) b c k k1 (Err stop)
 serves_unread order b c k k1 stop same fault other =
     let file = named_content b.files (file_of order) in
     let derivation = named_content b.files (named_by order) in
-    serves_stopped order (record { file = file.0; derivation = derivation.0 }) b c k k1 stop (record { file = file.1; derivation = derivation.1 }) same
-    (faulted_keeps (reads_of order) (keeps_of order) stop k k1 fault) other
+    let sources = holding file.0 derivation.0 in
+    serves_stopped order sources b c k k1 stop (tells order b.files file.0 derivation.0 file.1 derivation.1) same (faulted_keeps (reads_of order sources) (keeps_of order) stop k k1 fault) other
 
 -- memory was wanting before anything was read
 pub serves_nothing : (order : Order) (b : Contents) (k : Counts) (stop : Stop) → stop ≡ Memory → Serves (Some order) b b k k (Err stop)
@@ -90,14 +103,13 @@ pub after : (order : Order) (sources : Sources) (b c d : Contents) (k k1 k2 : Co
     → Counted [] (keeps_of order) k1 k2 result → After order sources b c d k k1 k2 result
 after order sources b c d k k1 k2 result held same first own counted = record { held = held; same = same; first = first; own = own; counted = counted }
 
-all_counted : (order : Order) (sources : Sources) (b c d : Contents) (k k1 k2 : Counts) (result : Result ℕ Stop) → After order sources b c d k k1 k2 result → Counted (reads_of order) (keeps_of order) k k2 result
-all_counted order sources b c d k k1 k2 result a = counted_reads (reads_of order) (keeps_of order) k k2 result (counted_after [] (keeps_of order) k k1 k2 result a.first a.counted)
+all_counted : (order : Order) (sources : Sources) (b c d : Contents) (k k1 k2 : Counts) (result : Result ℕ Stop) → After order sources b c d k k1 k2 result → Counted (reads_of order sources) (keeps_of order) k k2 result
+all_counted order sources b c d k k1 k2 result a = counted_reads (reads_of order sources) (keeps_of order) k k2 result (counted_after [] (keeps_of order) k k1 k2 result a.first a.counted)
 
 -- what was done is what is due
 pub done : (order : Order) (sources : Sources) (b c d : Contents) (k k1 k2 : Counts) (result : Result ℕ Stop) (due : Due) (input : Bytes) → After order sources b c d k k1 k2 result → ForSome c.input (λ left. input ≡ left)
     → (RunsImage order → ForSome c.input AreBytes → AreBytes input) → IsDue sources input (Some order) due → Did due c d result → (IsReadyFirst order → result ≡ Err Memory → d.output ≡ c.output) → Serves (Some order) b d k k2 result
 done order sources b c d k k1 k2 result due input a fed bytes is_due did ready = record {
-  counted = all_counted order sources b c d k k1 k2 result a;
   own = a.own;
   due = due;
   explained = record {
@@ -108,6 +120,7 @@ done order sources b c d k k1 k2 result due input a fed bytes is_due did ready =
     bytes = subst (λ (x : Contents). RunsImage order → ForSome x.input AreBytes → AreBytes input) a.same bytes;
     is_due = is_due;
   };
+  counted = all_counted order sources b c d k k1 k2 result a;
   did = subst (λ (x : Contents). Did due x d result) a.same did;
   ready = λ first memory. ready first memory ∙ ap (λ (x : Contents). x.output) a.same;
 }
@@ -124,7 +137,7 @@ pub none_done : (order : Order) (sources : Sources) (b c d : Contents) (k k1 k2 
 none_done order sources b c d k k1 k2 result a unbegun =
     subst (λ r. Serves (Some order) b d k k2 r) (sym unbegun.memory)
     (serves_stopped order sources b d k k2 Memory a.held (unbegun.same ∙ a.same)
-    (subst (λ r. Counted (reads_of order) (keeps_of order) k k2 r) unbegun.memory (all_counted order sources b c d k k1 k2 result a)) (λ clash. cc))
+    (subst (λ r. Counted (reads_of order sources) (keeps_of order) k k2 r) unbegun.memory (all_counted order sources b c d k k1 k2 result a)) (λ clash. cc))
 
 -- ---- what is turned down
 
@@ -144,4 +157,4 @@ serves_down order sources text status why b c d k k1 k2 result is_text is a read
 
 -- what the files hold then
 abbrev pub only : Bytes → Sources
-only content = record { file = Some content; derivation = None }
+only content = holding (Some content) None

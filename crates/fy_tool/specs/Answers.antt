@@ -19,9 +19,9 @@ use Rattle.fy_world.specs.declared.world.Stop.TheVariants.{Fetch, Keep, Input, O
 use Rattle.fy_tool.specs.Due.{IsDue, Sources, TellsSources, reads_of, keeps_of, IsReadyFirst, RunsImage}
 
 -- what a call reads, keeps, and asks of what is told
-abbrev pub all_reads_of : Option Order → List Bytes
-all_reads_of None = []
-all_reads_of (Some order) = reads_of order
+abbrev pub all_reads_of : Option Order → Sources → List Bytes
+all_reads_of None sources = []
+all_reads_of (Some order) sources = reads_of order sources
 
 abbrev pub all_keeps_of : Option Order → List Bytes
 all_keeps_of None = []
@@ -51,10 +51,10 @@ pub record Explains (order : Option Order) (files : Option Folder) (left : Optio
 
 -- the work of an order, or of none
 pub record Serves (order : Option Order) (before now : Contents) (counts counts' : Counts) (result : Result ℕ Stop) : Type 0 where
-  pub counted : Counted (all_reads_of order) (all_keeps_of order) counts counts' result
   pub own : IfOk result IsOwn
   pub due : Due
   pub explained : Explains order before.files before.input due
+  pub counted : Counted (all_reads_of order explained.sources) (all_keeps_of order) counts counts' result
   pub did : Did due before now result
   pub ready : IsAllReadyFirst order → result ≡ Err Memory → now.output ≡ before.output
 
@@ -119,7 +119,7 @@ pub record Answers (order : Option Order) (before now : Contents) (counts counts
   pub due : Due
   pub explained : Explains order before.files before.input due
   pub stop : Stop
-  pub caused : status ≡ 7 → (stop ≢ Memory) × Caused (all_reads_of order) (all_keeps_of order) stop counts counts'
+  pub caused : status ≡ 7 → (stop ≢ Memory) × Caused (all_reads_of order explained.sources) (all_keeps_of order) stop counts counts'
   pub others : status ≡ 7 → OthersStand stop counts (record counts' { notes = counts.notes })
   pub quiet : status ≢ 7 → counts' ≡ counts
   pub due_done : status ≢ 7 → status ≢ 9 → (status ≡ due.status) × (now ≡ after_all due before)

@@ -47,7 +47,7 @@ RunCompletes = (text : Bytes) (named derivation : Option Bytes) (stack steps : O
     (run : RunsBuilt text named derivation stack steps input image bytes n end) (m : ℕ) → AreBytes input
     → IsOverStanding (copy_after run.built.phrase input m).standing → peak_load run.built.phrase input m ≤ image.stack_words
     → instruction_bound run.built.phrase m ≤ steps_wanted steps
-    → IsSameOver (machine_after run.built.runs.program image input n) (copy_after run.built.phrase input m)
+    → IsSameOver (machine_after run.built.is.runs.program image input n) (copy_after run.built.phrase input m)
 
 -- the bytes of an image aren't refused
 abbrev pub ImageIsRun : Type 0

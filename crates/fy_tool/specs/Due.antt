@@ -1,7 +1,8 @@
 -- What is due for an order: its status, its output, its notes, the file that it keeps and what it leaves at input.
-use Rattle.std.specs.Prelude.{◌≡◌, ℕ, List, [], ◌∷◌, ◌++◌, length, codes, Some, None, unwrap_or, option_to_list, All}
+use Rattle.std.specs.Prelude.{◌≡◌, ◌⊎◌, ℕ, List, [], ◌∷◌, ◌++◌, length, codes, Some, None, unwrap_or, option_to_list, All}
 use Rattle.std.specs.declared.option.Option.{Option}
 use Rattle.fy_base.specs.Outside.{Bytes, Folder, Tells}
+use Rattle.fy_phrase.specs.Reads.{reads}
 use Rattle.fy_phrase.specs.Tree.{Tree}
 use Rattle.fy_phrase.specs.declared.shapes.ShapeTable.{ShapeTable}
 use Rattle.pe_code.specs.Valid.{IsValid}
@@ -13,6 +14,7 @@ use Rattle.pe_right.specs.Follows.{FollowsCopyRule}
 use Rattle.fy_derive.specs.Derivations.{PlainDerivation}
 use Rattle.fy_derive.specs.Limits.{KeepsLimits}
 use Rattle.fy_derive.specs.Print.{derivation_text}
+use Rattle.fy_derive.specs.Reading.{plain_derivation}
 use Rattle.fy_read.specs.Spelling.{IsTextOf}
 use Rattle.fy_image.specs.Form.{IsImageBytes, IsSpelled}
 use Rattle.fy_image.specs.Refusals.{refusal_of}
@@ -29,6 +31,9 @@ use Rattle.rv_machine.specs.Start.{IsProgramOf}
 use Rattle.fy_build.specs.Building.{HasTableWords}
 use Rattle.fy_build.specs.Headline.{AreBytes, RunsAsCopyRule}
 use Rattle.fy_build.specs.Shown.{RunEnd, ShowsCopyRule}
+use Rattle.fy_link.specs.UnitBytes.{unit_bytes}
+use Rattle.fy_link.specs.declared.linking.Linked.{Linked}
+use Rattle.fy_link.specs.declared.unit.Unit.{Unit as UnitValue}
 use Rattle.fy_sample.specs.Sample.{sample_text}
 use Rattle.fy_words.specs.Order.{Order, stack_wanted, steps_wanted, copy_wanted, trace_steps_wanted}
 use Rattle.fy_words.specs.Order as orders
@@ -38,15 +43,18 @@ use Rattle.fy_world.specs.Shown.{listing}
 use Rattle.fy_world.specs.Steps.{StepEnd, IsSteppedRun}
 use Rattle.fy_world.specs.declared.note.Note.{Note}
 use Rattle.fy_world.specs.declared.note.Note.TheVariants as note
+use Rattle.fy_world.specs.declared.refusal.Refusal.{Refusal}
 use Rattle.fy_tool.specs.Checked.{IsProgramText, IsInUse, IsAccepted, HasNames}
 use Rattle.fy_tool.specs.Given.{IsGiven, IsTurnedDown}
+use Rattle.fy_tool.specs.Units.{Listed, ListsUnits, names_of, IsUnitOfText, IsNoUnit, IsLinkedBy, IsNotLinked, PassesShapes}
 
 -- ---- what an order reads and keeps
 
--- what the file that an order names holds, and what the derivation that it names does, if there are such
+-- what the file that an order names holds, and what the derivation that it names does, if there are such; and the files that the list holds which it names
 pub record Sources : Type 0 where
   pub file : Option Bytes
   pub derivation : Option Bytes
+  pub units : List Listed
 
 -- the derivation that an order names
 abbrev pub named_by : Order → Option Bytes
@@ -63,8 +71,11 @@ named_by (orders.audit image) = None
 named_by (orders.migrate from to) = None
 named_by (orders.elf from to) = None
 named_by (orders.unelf from to) = None
+named_by (orders.unit file to) = None
+named_by (orders.join file to) = None
+named_by (orders.link file to stack) = None
 
--- the text that an order takes; `exec`, `audit`, `migrate` and `elf` take an image, and `unelf` an ELF file
+-- the text of a program that an order takes; `exec`, `audit`, `migrate` and `elf` take an image, `unelf` an ELF file, `unit` the source of a unit, and `join` and `link` a list
 abbrev pub text_of : Order → Sources → Option Bytes
 text_of (orders.check file) sources = sources.file
 text_of (orders.derive file) sources = sources.file
@@ -79,6 +90,9 @@ text_of (orders.audit image) sources = None
 text_of (orders.migrate from to) sources = None
 text_of (orders.elf from to) sources = None
 text_of (orders.unelf from to) sources = None
+text_of (orders.unit file to) sources = None
+text_of (orders.join file to) sources = None
+text_of (orders.link file to stack) sources = None
 
 -- the bytes of the image that an order takes
 abbrev pub image_of : Order → Sources → Option Bytes
@@ -95,6 +109,28 @@ image_of (orders.copy file steps) sources = None
 image_of (orders.trace file steps) sources = None
 image_of (orders.list file) sources = None
 image_of (orders.sample number size) sources = None
+image_of (orders.unit file to) sources = None
+image_of (orders.join file to) sources = None
+image_of (orders.link file to stack) sources = None
+
+-- the list of units that an order takes
+abbrev pub list_of : Order → Sources → Option Bytes
+list_of (orders.join file to) sources = sources.file
+list_of (orders.link file to stack) sources = sources.file
+list_of (orders.check file) sources = None
+list_of (orders.derive file) sources = None
+list_of (orders.build file image stack named) sources = None
+list_of (orders.exec image steps last) sources = None
+list_of (orders.run file steps stack named image) sources = None
+list_of (orders.copy file steps) sources = None
+list_of (orders.trace file steps) sources = None
+list_of (orders.list file) sources = None
+list_of (orders.sample number size) sources = None
+list_of (orders.audit image) sources = None
+list_of (orders.migrate from to) sources = None
+list_of (orders.elf from to) sources = None
+list_of (orders.unelf from to) sources = None
+list_of (orders.unit file to) sources = None
 
 -- the file that an order names, if it reads one
 abbrev pub file_of : Order → Option Bytes
@@ -111,10 +147,13 @@ file_of (orders.audit image) = Some image
 file_of (orders.migrate from to) = Some from
 file_of (orders.elf from to) = Some from
 file_of (orders.unelf from to) = Some from
+file_of (orders.unit file to) = Some file
+file_of (orders.join file to) = Some file
+file_of (orders.link file to stack) = Some file
 
 -- the files that an order reads
-abbrev pub reads_of : Order → List Bytes
-reads_of order = option_to_list (file_of order) ++ option_to_list (named_by order)
+abbrev pub reads_of : Order → Sources → List Bytes
+reads_of order sources = names_of sources.units ++ (option_to_list (file_of order) ++ option_to_list (named_by order))
 
 -- the name under which `run` keeps its image: FILE followed by `.img`, where no option names another
 abbrev pub kept_as : Bytes → Option Bytes → Bytes
@@ -128,6 +167,9 @@ keeps_of (orders.sample number size) = codes "sample.img" ∷ []
 keeps_of (orders.migrate from to) = to ∷ []
 keeps_of (orders.elf from to) = to ∷ []
 keeps_of (orders.unelf from to) = to ∷ []
+keeps_of (orders.unit file to) = to ∷ []
+keeps_of (orders.join file to) = to ∷ []
+keeps_of (orders.link file to stack) = to ∷ []
 keeps_of (orders.check file) = []
 keeps_of (orders.derive file) = []
 keeps_of (orders.exec image steps last) = []
@@ -152,6 +194,9 @@ IsReadyFirst (orders.audit image) = Unit {0}
 IsReadyFirst (orders.migrate from to) = Unit {0}
 IsReadyFirst (orders.elf from to) = Unit {0}
 IsReadyFirst (orders.unelf from to) = Unit {0}
+IsReadyFirst (orders.unit file to) = Unit {0}
+IsReadyFirst (orders.join file to) = Unit {0}
+IsReadyFirst (orders.link file to stack) = Unit {0}
 
 -- an order that runs an image
 abbrev pub RunsImage : Order → Type 0
@@ -168,26 +213,33 @@ RunsImage (orders.audit image) = ⊥
 RunsImage (orders.migrate from to) = ⊥
 RunsImage (orders.elf from to) = ⊥
 RunsImage (orders.unelf from to) = ⊥
+RunsImage (orders.unit file to) = ⊥
+RunsImage (orders.join file to) = ⊥
+RunsImage (orders.link file to stack) = ⊥
 
 -- ---- images
 
--- the image of a text with so many stack words, by a derivation in use: its table has a row for each shape of the derivation, `audit` passes it, and it runs as the copy rule
-pub record IsBuilt (text : Bytes) (named derivation : Option Bytes) (stack : ℕ) (image : Image) : Type 0 where
-  pub phrase : Tree
-  pub by : PlainDerivation
-  pub given : IsGiven text phrase by named derivation
+-- the image of a phrase with so many stack words, by a derivation in use: its table has a row for each shape of the derivation, `audit` passes it, and it runs as the copy rule
+pub record IsImageBy (phrase : Tree) (by : PlainDerivation) (stack : ℕ) (image : Image) : Type 0 where
   pub in_use : IsInUse phrase by
   pub stack_is : image.stack_words ≡ stack
   pub table_is : HasTableWords phrase by (length image.table)
   pub guarded : IsGuarded image
   pub runs : RunsAsCopyRule phrase image
 
+-- the image of a text
+pub record IsBuilt (text : Bytes) (named derivation : Option Bytes) (stack : ℕ) (image : Image) : Type 0 where
+  pub phrase : Tree
+  pub by : PlainDerivation
+  pub given : IsGiven text phrase by named derivation
+  pub is : IsImageBy phrase by stack image
+
 -- an image of a text, its bytes in version 2, and a run of it that ended so after n instructions, which shows what the copy rule does
 pub record RunsBuilt (text : Bytes) (named derivation : Option Bytes) (stack steps : Option ℕ) (input : Bytes) (image : Image) (bytes : Bytes) (n : ℕ) (end : RunEnd) : Type 0 where
   pub built : IsBuilt text named derivation (stack_wanted stack) image
   pub spelled : IsSpelled Two image bytes
-  pub is_run : IsRun (running_of built.runs.program image input (steps_wanted steps)) n end
-  pub shows : AreBytes input → ShowsCopyRule end built.phrase image built.runs.program input n
+  pub is_run : IsRun (running_of built.is.runs.program image input (steps_wanted steps)) n end
+  pub shows : AreBytes input → ShowsCopyRule end built.phrase image built.is.runs.program input n
 
 -- ---- push-enter code
 
@@ -236,7 +288,7 @@ pub data IsDue (sources : Sources) (input : Bytes) : Option Order → Due → Ty
       → IsDue sources input (Some (orders.build file name stack named)) (kept name bytes)
   -- `list` writes the image's listing
   lists : (file text : Bytes) (image : Image) → sources.file ≡ Some text → (built : IsBuilt text None sources.derivation (stack_wanted None) image)
-      → IsDue sources input (Some (orders.list file)) (written (ended_lines (listing built.runs.program)))
+      → IsDue sources input (Some (orders.list file)) (written (ended_lines (listing built.is.runs.program)))
   -- `exec` of an image's bytes
   executes : (name : Bytes) (steps last : Option ℕ) (bytes : Bytes) (image : Image) (program : Program) (n : ℕ) (end : RunEnd) → sources.file ≡ Some bytes
       → IsImageBytes image bytes → IsProgramOf image program → IsRun (running_of program image input (steps_wanted steps)) n end
@@ -245,12 +297,12 @@ pub data IsDue (sources : Sources) (input : Bytes) : Option Order → Due → Ty
   runs : (file : Bytes) (steps stack : Option ℕ) (named name : Option Bytes) (text : Bytes) (image : Image) (bytes : Bytes) (n : ℕ) (end : RunEnd) → sources.file ≡ Some text
       → (has_run : RunsBuilt text named sources.derivation stack steps input image bytes n end)
       → IsDue sources input (Some (orders.run file steps stack named name))
-      (ran (running_of has_run.built.runs.program image input (steps_wanted steps)) None (Some (kept_as file name, bytes)) n end)
+      (ran (running_of has_run.built.is.runs.program image input (steps_wanted steps)) None (Some (kept_as file name, bytes)) n end)
   -- `sample` does so with a sample program, and then writes a summary
   samples : (number size : ℕ) (image : Image) (bytes : Bytes) (n : ℕ) (end : RunEnd)
       → (has_run : RunsBuilt (sample_text number size) None sources.derivation None None input image bytes n end)
       → IsDue sources input (Some (orders.sample number size))
-      (sampled (ran (running_of has_run.built.runs.program image input (steps_wanted None)) None (Some (codes "sample.img", bytes)) n end))
+      (sampled (ran (running_of has_run.built.is.runs.program image input (steps_wanted None)) None (Some (codes "sample.img", bytes)) n end))
   -- `copy` runs the phrase by the copy rule
   copies : (file : Bytes) (steps : Option ℕ) (text : Bytes) (p : Tree) (d : PlainDerivation) (n : ℕ) (end : CopyEnd) → sources.file ≡ Some text → IsProgramText text p → IsInUse p d
       → IsCopyRun (record { phrase = p; input = input; limit = copy_wanted steps }) n end
@@ -276,6 +328,23 @@ pub data IsDue (sources : Sources) (input : Bytes) : Option Order → Due → Ty
   -- bytes that are no image's ELF file
   no_elf : (from to bytes : Bytes) (error : ElfError) (why : Note) → sources.file ≡ Some bytes → elf.refusal_of bytes ≡ Some error → elf_note error ≡ Some why
       → IsDue sources input (Some (orders.unelf from to)) (told 6 (why ∷ []))
+  -- `unit` keeps the unit whose source the text is
+  compiles : (file to text : Bytes) (names : List Bytes) (value : UnitValue) → sources.file ≡ Some text → IsUnitOfText text names value
+      → IsDue sources input (Some (orders.unit file to)) (kept to (unit_bytes text (derivation_text names (plain_derivation value.derivation))))
+  -- a text that is the source of no unit
+  no_unit : (file to text : Bytes) (why : Refusal) → sources.file ≡ Some text → IsNoUnit text why → IsDue sources input (Some (orders.unit file to)) (told 2 (note.Refused why ∷ []))
+  -- units on a list that aren't linked
+  not_linked : (order : Order) (list : Bytes) (status : ℕ) (why : Note) → list_of order sources ≡ Some list → IsNotLinked list sources.units status why
+      → IsDue sources input (Some order) (told status (why ∷ []))
+  -- `join` keeps the joined text of the units
+  joins : (file to list : Bytes) (linked : Linked) → sources.file ≡ Some list → IsLinkedBy list sources.units linked → IsDue sources input (Some (orders.join file to)) (kept to linked.text)
+  -- `link` of units whose composed derivation has shapes that pass a limit
+  misshapes : (file to : Bytes) (stack : Option ℕ) (list : Bytes) (why : Refusal) → sources.file ≡ Some list → PassesShapes list sources.units why
+      → IsDue sources input (Some (orders.link file to stack)) (told 2 (note.Refused why ∷ []))
+  -- `link` keeps the bytes in version 2 of the image of the joined text's phrase by the composed derivation
+  links : (file to : Bytes) (stack : Option ℕ) (list : Bytes) (linked : Linked) (image : Image) (bytes : Bytes) → sources.file ≡ Some list → IsLinkedBy list sources.units linked
+      → IsImageBy (reads linked.phrase) (plain_derivation linked.derivation) (stack_wanted stack) image → IsSpelled Two image bytes
+      → IsDue sources input (Some (orders.link file to stack)) (kept to bytes)
 
 -- ---- what is told of the files
 
@@ -284,7 +353,18 @@ abbrev pub TellsNamed : Option Folder → Option Bytes → Option Bytes → Type
 TellsNamed files None content = Unit {0}
 TellsNamed files (Some name) content = Tells files name content
 
+-- the files are those on the list, or none of them is read
+abbrev pub AreListed : Option Bytes → List Listed → Type 0
+AreListed None files = files ≡ []
+AreListed (Some list) files = (files ≡ []) ⊎ ListsUnits list (names_of files)
+
+-- these files hold this, where files are told
+abbrev pub AreTold : Option Folder → List Listed → Type 0
+AreTold files units = All (λ (unit : Listed). Tells files unit.name unit.content) units
+
 -- the files that an order reads hold this
 pub record TellsSources (order : Order) (files : Option Folder) (sources : Sources) : Type 0 where
   pub file : TellsNamed files (file_of order) sources.file
   pub derivation : TellsNamed files (named_by order) sources.derivation
+  pub listed : AreListed (list_of order sources) sources.units
+  pub units : AreTold files sources.units

@@ -1,5 +1,6 @@
 pub mod Checked
 pub mod Given
+pub mod Units
 pub mod Due
 pub mod Answers
 pub mod Working

@@ -1,17 +1,21 @@
 -- What the parts of a command's work did with texts, derivations and the images of programs.
-use Rattle.std.specs.Prelude.{◌≡◌, ◌⊎◌, ℕ, ◌≤◌, List, length, Some, None, Ok, Err, MatchResult, IfOk}
+use Rattle.std.specs.Borrow.{Bor}
+use Rattle.std.specs.Prelude.{◌≡◌, ◌≢◌, ◌⊎◌, ℕ, ◌<◌, ◌≤◌, List, [], ◌∷◌, ◌++◌, length, map, All, IsUtf8, Some, None, Ok, Err, MatchOption, MatchResult, IfOk}
+use Rattle.std.specs.declared.alloc.Global.{Global}
 use Rattle.std.specs.declared.option.Option.{Option}
 use Rattle.std.specs.declared.result.Result.{Result}
+use Rattle.std.specs.declared.vec.Vec.{Vec}
 use Rattle.fy_base.specs.Outside.{Bytes, Folder, Tells}
 use Rattle.fy_phrase.specs.Tree.{Tree}
 use Rattle.fy_phrase.specs.Reads.{reads}
 use Rattle.fy_phrase.specs.Sizes.{depth}
 use Rattle.fy_phrase.specs.declared.shapes.ShapeTable.{ShapeTable}
-use Rattle.fy_expand.specs.Judged.{IsJudged}
+use Rattle.fy_expand.specs.Judged.{IsJudged, IsJudgedFrom}
 use Rattle.fy_expand.specs.Judged as judged
 use Rattle.fy_derive.specs.Derivations.{PlainDerivation}
 use Rattle.fy_derive.specs.Judging.{conclusion_of, refusal}
 use Rattle.fy_derive.specs.Limits.{KeepsLimits}
+use Rattle.fy_derive.specs.Print.{derivation_text}
 use Rattle.fy_derive.specs.Printable.{IsPrintable}
 use Rattle.fy_derive.specs.Reading.{plain_derivation}
 use Rattle.fy_derive.specs.Shapes.{shape_table}
@@ -36,8 +40,15 @@ use Rattle.fy_elf.specs.Refusals as elf
 use Rattle.fy_elf.specs.declared.error.ElfError.{ElfError}
 use Rattle.fy_build.specs.Building.{HasTableWords}
 use Rattle.fy_build.specs.Headline.{RunsAsCopyRule}
+use Rattle.fy_link.specs.Links.{IsLinked, IsUnlinked}
+use Rattle.fy_link.specs.UnitBytes.{IsUnitRead, IsBadUnit, unit_bytes}
+use Rattle.fy_link.specs.Units.{IsUnit}
+use Rattle.fy_link.specs.declared.error.LinkError.{LinkError}
+use Rattle.fy_link.specs.declared.linking.Linked.{Linked}
+use Rattle.fy_link.specs.declared.unit.Unit.{Unit as UnitValue}
 use Rattle.fy_sample.specs.Sample.{sample_text}
-use Rattle.fy_world.specs.World.{Contents}
+use Rattle.fy_world.specs.World.{Contents, Counts}
+use Rattle.fy_world.specs.Counted.{Faulted}
 use Rattle.fy_world.specs.Note.{read_note, refusal_note, elf_note}
 use Rattle.fy_world.specs.Stepping.{HasStepped}
 use Rattle.fy_world.specs.Did.{Did}
@@ -45,12 +56,16 @@ use Rattle.fy_world.specs.Working.{IsUnbegun, Keeps, KeepsAndRuns, KeepsAndSampl
 use Rattle.fy_world.specs.declared.note.Note.{Note}
 use Rattle.fy_world.specs.declared.refusal.Refusal.{Refusal}
 use Rattle.fy_world.specs.declared.world.Stop.{Stop}
+use Rattle.fy_world.specs.declared.world.Stop.TheVariants.{Input}
 use Rattle.fy_tool.specs.Checked.{IsProgramText, IsRefusedFor, HasNames, told_as, shapes_refusal}
 use Rattle.fy_tool.specs.Given.{IsGiven, IsTurnedDown}
-use Rattle.fy_tool.specs.Due.{IsRightCode, TellsNamed}
+use Rattle.fy_tool.specs.Due.{IsRightCode, TellsNamed, AreListed, AreTold}
+use Rattle.fy_tool.specs.Units.{most_unit, Listed, names_of, ListsUnits, ListsNone, IsUnitOfText, IsNoUnit, AreUnitsRead, IsBadObject, IsLinkedBy, IsNotLinked, link_note}
 use Rattle.fy_tool.specs.declared.texts.Core.{Core}
 use Rattle.fy_tool.specs.declared.texts.Program.{Program}
 use Rattle.fy_tool.specs.declared.given.TurnedDown.{TurnedDown}
+use Rattle.fy_tool.specs.declared.link.Together.{Together}
+use Rattle.fy_tool.specs.declared.objects.Objects.{Objects}
 
 -- ---- texts
 
@@ -90,8 +105,14 @@ pub record IsGivenFor (text : Bytes) (named written : Option Bytes) (program : P
 abbrev pub IsOfSomeText : Program → Type 0
 IsOfSomeText program = (text : Bytes) × IsOfText text program
 
-abbrev pub IsGivenForSome : Program → Type 0
-IsGivenForSome program = (text : Bytes) × (named : Option Bytes) × (written : Option Bytes) × IsGivenFor text named written program
+-- a program of which images are built: the phrase of a text, with names numbered by some list, and a derivation in use
+pub record IsBuildable (program : Program) : Type 0 where
+  pub names : List Bytes
+  pub text : Bytes
+  pub is_judged : IsJudgedFrom names text (Ok (reads program.phrase))
+  pub derived : refusal (conclusion_of (reads program.phrase) (plain_derivation program.derivation)) ≡ None
+  pub table_is : HasJustPairs program.table (shape_table (reads program.phrase) (plain_derivation program.derivation))
+  pub table_limits : KeepsShapeLimits (reads program.phrase) program.table
 
 abbrev pub IsDown : Bytes → Option Bytes → Option Bytes → TurnedDown → Type 0
 IsDown text named written down = IsTurnedDown text named written down.status down.note
@@ -205,3 +226,85 @@ pub record HasTraced (program : Program) (limit : ℕ) (before now : Contents) (
   pub code : PeCode
   pub right : IsRightCode (reads program.phrase) program.table code
   pub run : HasStepped code program.names limit before now result
+
+-- ---- units
+
+-- these are the bytes of the unit whose source the text is
+pub record AreUnitBytes (text bytes : Bytes) : Type 0 where
+  pub names : List Bytes
+  pub value : UnitValue
+  pub unit : IsUnitOfText text names value
+  pub are : bytes ≡ unit_bytes text (derivation_text names (plain_derivation value.derivation))
+
+-- the bytes of the unit whose source is in a file, or why there is none
+abbrev pub Compiles : Bytes → Option Folder → Result (Result (Vec ℕ Global) Refusal) Stop → Type 0
+Compiles file files result = IfOk result (λ found. (text : Bytes) × Tells files file (Some text) × MatchResult found (λ bytes. AreUnitBytes text bytes.items) (IsNoUnit text))
+
+-- a line that is a text of a byte or more
+pub record IsText (line : Bytes) : Type 0 where
+  pub some : 1 ≤ length line
+  pub text : IsUtf8 line
+
+abbrev pub texts_of : Vec (Bor Bytes) Global → List Bytes
+texts_of names = map (λ (name : Bor Bytes). name.now) names.items
+
+-- the lines are these texts, or one of them is none
+abbrev pub AreTexts : List Bytes → Option (Vec (Bor Bytes) Global) → Type 0
+AreTexts lines found = MatchOption found (¬ All IsText lines) (λ names. All IsText lines × (texts_of names ≡ lines))
+
+-- the bytes list units by these names, or none
+abbrev pub IsList : Bytes → Option (Vec (Bor Bytes) Global) → Type 0
+IsList bytes found = MatchOption found (ListsNone bytes) (λ names. ListsUnits bytes (texts_of names))
+
+-- a file holds a unit, read behind other names, or it holds none
+pub record ReadsObject (file : Bytes) (files : Option Folder) (before after : List Bytes) (found : Option UnitValue) : Type 0 where
+  pub bytes : Bytes
+  pub told : Tells files file (Some bytes)
+  pub is : MatchOption found ((most_unit < length bytes) ⊎ IsBadUnit before bytes) (λ value. (length bytes ≤ most_unit) × IsUnitRead before bytes after value × IsUnit after value)
+
+-- the files with these names hold units, or the one with that number is the first that holds none
+pub record ReadsObjects (names : List Bytes) (files : Option Folder) (found : Result Objects ℕ) : Type 0 where
+  pub units : List Listed
+  pub named : names_of units ≡ names
+  pub told : AreTold files units
+  pub is : MatchResult found (λ objects. AreUnitsRead units objects.units objects.names × All (IsUnit objects.names) objects.units × (length objects.names ≤ 3000000000)) (IsBadObject units)
+
+-- units put together, or why they aren't linked
+abbrev pub IsLinkedFrom : Objects → Result Together TurnedDown → Type 0
+IsLinkedFrom objects found =
+    MatchResult found (λ together. IsLinked objects.names objects.units together.linked)
+    (λ down. (error : LinkError) × IsUnlinked objects.names objects.units error × (link_note error ≡ Some (down.status, down.note)))
+
+-- the units on the list in a file put together, or why they aren't linked
+pub record WasLinked (file : Bytes) (files : Option Folder) (found : Result Together TurnedDown) : Type 0 where
+  pub list : Bytes
+  pub told : Tells files file (Some list)
+  pub units : List Listed
+  pub listed : AreListed (Some list) units
+  pub units_told : AreTold files units
+  pub is : MatchResult found (λ together. IsLinkedBy list units together.linked) (λ down. IsNotLinked list units down.status down.note)
+
+abbrev pub LinksList : Bytes → Option Folder → Result (Result Together TurnedDown) Stop → Type 0
+LinksList file files result = IfOk result (WasLinked file files)
+
+-- work on the units on the list in a file was stopped: a count of `fetch` of the list's name, or of one on it, rose, or memory was wanting
+pub record WasUnlisted (file : Bytes) (files : Option Folder) (before now : Counts) (stop : Stop) : Type 0 where
+  pub list : Option Bytes
+  pub told : Tells files file list
+  pub units : List Listed
+  pub listed : AreListed list units
+  pub units_told : AreTold files units
+  pub faulted : Faulted (names_of units ++ file ∷ []) [] stop before now
+  pub other : stop ≢ Input
+
+abbrev pub CountsList : Bytes → Option Folder → Counts → Counts → Result (Result Together TurnedDown) Stop → Type 0
+CountsList file files before now result = MatchResult result (λ _. now ≡ before) (WasUnlisted file files before now)
+
+abbrev pub IsSomeLinked : Linked → Type 0
+IsSomeLinked linked = (names : List Bytes) × (values : List UnitValue) × IsLinked names values linked
+
+-- the program of units put together, or which limit the shapes of its derivation pass
+abbrev pub ShapesLinked : Together → Result Program Refusal → Type 0
+ShapesLinked together found =
+    MatchResult found (λ program. (program.phrase ≡ together.linked.phrase) × (program.derivation ≡ together.linked.derivation) × IsBuildable program)
+    (λ why. (error : ShapeError) × IsShaping (Err error) (reads together.linked.phrase) (plain_derivation together.linked.derivation) × (shapes_refusal error ≡ Some why))

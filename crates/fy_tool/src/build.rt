@@ -8,7 +8,7 @@ ghost use Rattle.fy_words.specs.Order.{build, stack_wanted};
 ghost use Rattle.fy_world.specs.Counted.{Counted};
 ghost use Rattle.fy_world.specs.Did.{IsOwn};
 ghost use Rattle.fy_tool.specs.Answers.{Serves};
-ghost use Rattle.fy_tool.specs.Working.{Builds, IsGivenForSome, IsImageFor};
+ghost use Rattle.fy_tool.specs.Working.{Builds, IsBuildable, IsImageFor};
 
 use crate::given::given_in;
 use crate::texts::Program;
@@ -21,7 +21,7 @@ use std::alloc::Global;
 
 /// The image of a program.
 pub(crate) fn image_for(alloc: Global, program: &Program, stack_words: u32) -> Result<Image, Stop>
-    requires given { IsGivenForSome program.now }
+    requires given { IsBuildable program.now }
     requires stack { IsStackSize stack_words }
     ensures image { IfOk result (IsImageFor program.now stack_words) }
     ensures ranges { IfOk result IsImage }
@@ -33,15 +33,15 @@ pub(crate) fn image_for(alloc: Global, program: &Program, stack_words: u32) -> R
     }
 }
 
-// Keeps the image of a program.
-fn build_program<W: World>(
+/// Keeps the image of a program.
+pub(crate) fn build_program<W: World>(
     alloc: Global,
     program: &Program,
     name: &str,
     stack_words: u32,
     world: &mut W,
 ) -> Result<u8, Stop>
-    requires given { IsGivenForSome program.now }
+    requires given { IsBuildable program.now }
     requires stack { IsStackSize stack_words }
     ensures builds { Builds program.now stack_words name.now (W.holds world.old) (W.holds world.new) result }
     ensures own { IfOk result IsOwn }

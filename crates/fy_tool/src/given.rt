@@ -63,8 +63,8 @@ fn stop_of(alloc: Global, phrase: &Phrase, derivation: &Derivation) -> Result<Op
     }
 }
 
-// The table of the demand shapes of a derivation that is accepted, or which limit they pass.
-fn table_of(
+/// The table of the demand shapes of a derivation that is accepted, or which limit they pass.
+pub(crate) fn table_of(
     alloc: Global,
     phrase: &Phrase,
     derivation: &Derivation,

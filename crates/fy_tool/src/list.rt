@@ -5,7 +5,7 @@ ghost use Rattle.fy_words.specs.Order.{list};
 ghost use Rattle.fy_world.specs.Counted.{Counted};
 ghost use Rattle.fy_world.specs.Did.{IsOwn};
 ghost use Rattle.fy_tool.specs.Answers.{Serves};
-ghost use Rattle.fy_tool.specs.Working.{IsGivenForSome, Lists};
+ghost use Rattle.fy_tool.specs.Working.{IsBuildable, Lists};
 
 use crate::build::image_for;
 use crate::texts::{Program, program_in};
@@ -15,7 +15,7 @@ use std::alloc::Global;
 
 // Writes the listing of the image of a program.
 fn list_program<W: World>(alloc: Global, program: &Program, world: &mut W) -> Result<u8, Stop>
-    requires { IsGivenForSome program.now }
+    requires { IsBuildable program.now }
     ensures lists { Lists program.now 1048576 (W.holds world.old) (W.holds world.new) result }
     ensures own { IfOk result IsOwn }
     ensures counted { Counted [] [] (W.counts world.old) (W.counts world.new) result }

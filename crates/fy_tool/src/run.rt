@@ -8,7 +8,7 @@ ghost use Rattle.fy_world.specs.Counted.{Counted};
 ghost use Rattle.fy_world.specs.Did.{IsOwn};
 ghost use Rattle.fy_tool.specs.Answers.{Serves};
 ghost use Rattle.fy_tool.specs.Due.{kept_as};
-ghost use Rattle.fy_tool.specs.Working.{BuildsAndRuns, IsGivenForSome};
+ghost use Rattle.fy_tool.specs.Working.{BuildsAndRuns, IsBuildable};
 
 use crate::build::image_for;
 use crate::given::given_in;
@@ -27,7 +27,7 @@ fn run_program<W: World>(
     stack_words: u32,
     world: &mut W,
 ) -> Result<u8, Stop>
-    requires given { IsGivenForSome program.now }
+    requires given { IsBuildable program.now }
     requires stack { IsStackSize stack_words }
     ensures runs { BuildsAndRuns program.now stack_words steps name.now (W.holds world.old) (W.holds world.new) result }
     ensures own { IfOk result IsOwn }

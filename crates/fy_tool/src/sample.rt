@@ -5,7 +5,7 @@ ghost use Rattle.fy_words.specs.Order.{sample};
 ghost use Rattle.fy_world.specs.Counted.{Counted};
 ghost use Rattle.fy_world.specs.Did.{IsOwn};
 ghost use Rattle.fy_tool.specs.Answers.{Serves};
-ghost use Rattle.fy_tool.specs.Working.{BuildsAndSamples, IsGivenForSome, IsSampleOf};
+ghost use Rattle.fy_tool.specs.Working.{BuildsAndSamples, IsBuildable, IsSampleOf};
 
 use crate::build::image_for;
 use crate::texts::{Program, program_of};
@@ -35,7 +35,7 @@ fn program_for(alloc: Global, number: u32, size: u32) -> Result<Result<Program, 
 
 // Keeps the image of a program, runs it and writes a summary.
 fn sample_program<W: World>(alloc: Global, program: &Program, world: &mut W) -> Result<u8, Stop>
-    requires { IsGivenForSome program.now }
+    requires { IsBuildable program.now }
     ensures samples { BuildsAndSamples program.now 1048576 1000000000 (codes "sample.img") (W.holds world.old) (W.holds world.new) result }
     ensures own { IfOk result IsOwn }
     ensures counted { Counted [] (codes "sample.img" ∷ []) (W.counts world.old) (W.counts world.new) result }

@@ -11,11 +11,13 @@ use crate::copy::copy_file;
 use crate::derive::derive_file;
 use crate::elf::{elf_file, unelf_file};
 use crate::exec::exec_file;
+use crate::link::{join_file, link_file};
 use crate::list::list_file;
 use crate::migrate::migrate_file;
 use crate::run::run_file;
 use crate::sample::run_sample;
 use crate::trace::trace_file;
+use crate::unit::unit_file;
 use fy_words::Command;
 use fy_world::{Stop, World};
 use std::alloc::Global;
@@ -55,5 +57,8 @@ pub(crate) fn serve<W: World>(alloc: Global, command: Command, world: &mut W) ->
         Command::Migrate { from, to } => migrate_file(alloc, from, to, world),
         Command::Elf { from, to } => elf_file(alloc, from, to, world),
         Command::Unelf { from, to } => unelf_file(alloc, from, to, world),
+        Command::Unit { file, to } => unit_file(alloc, file, to, world),
+        Command::Join { list, to } => join_file(alloc, list, to, world),
+        Command::Link { list, to, stack } => link_file(alloc, list, to, stack, world),
     }
 }

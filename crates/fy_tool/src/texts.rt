@@ -18,8 +18,8 @@ use fy_world::{Refusal, Stop, World};
 use pe_shapes::shapes_of;
 use std::alloc::Global;
 
-// The most bytes that a text has.
-const TEXT_LIMIT: usize = 1_048_576;
+/// The most bytes that a text has.
+pub(crate) const TEXT_LIMIT: usize = 1_048_576;
 
 /// What a text stands for: its core phrase, a derivation that this is a command, the table of the
 /// derivation's demand shapes, and its names.
@@ -38,8 +38,8 @@ pub(crate) struct Core {
     pub names: Names,
 }
 
-// A refusal, or want of memory.
-fn refused<T: Drop>(why: Option<Refusal>) -> Result<Result<T, Refusal>, Stop>
+/// A refusal, or want of memory.
+pub(crate) fn refused<T: Drop>(why: Option<Refusal>) -> Result<Result<T, Refusal>, Stop>
     ensures why { IfOk result (λ found. MatchResult found (λ _. ⊥) (λ w. why ≡ Some w)) }
     ensures memory { IfErr result (λ stop. stop ≡ Stop.Memory) }
 {

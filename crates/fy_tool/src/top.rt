@@ -68,6 +68,7 @@ fn answer<W: World>(alloc: Global, command: Option<Command>, world: &mut W) -> u
 /// | 8 | the derivation that is named is refused |
 /// | 9 | memory was wanting |
 /// | 10 | the image trapped |
+/// | 11 | the units on a list aren't linked |
 /// | 12 | the image that `audit` judges isn't guarded |
 pub fn forsythe<F: Files, I: Source, O: Sink, N: Sink>(
     alloc: Global,

@@ -4,8 +4,8 @@ use Rattle.fy_words.specs.Order.{build}
 use Rattle.fy_world.proofs.Counting.{counted_keeps}
 use Rattle.fy_tool.specs.Due.{keeps_of}
 use Rattle.fy_tool.specs.Working.{Builds}
-use Rattle.fy_tool.proofs.Serving.{after, down_own, serves_down, serves_unread}
-use Rattle.fy_tool.proofs.ImageCommands.{both, serves_build, stack_size}
+use Rattle.fy_tool.proofs.Serving.{after, down_own, serves_down, serves_unread, tells}
+use Rattle.fy_tool.proofs.ImageCommands.{both, buildable, serves_build, stack_size}
 use Rattle.fy_tool.proofs.build.build_file.Goals as goal
 
 pub returns-in-Err-clause-serves : goal.returns-in-Err-clause-serves
@@ -20,13 +20,13 @@ returns-in-Ok-Err-clause-serves g c =
     let h = rw c.in-Ok-Err.field-0-is at c.in-Ok-Err.ensures.given in
     let order = build c.args.file.now c.args.name.now c.args.stack (option_map (λ name. name.now) c.args.derivation) in
     serves_down order (both h.text h.written) h.text _ _ _ _ _ _ _ _ _ refl h.is
-    (after order (both h.text h.written) _ _ _ _ _ _ _ (record { file = h.told; derivation = h.told_named }) c.in-Ok-Err.ensures.holds c.in-Ok-Err.ensures.counted c.refuse.ensures.own (counted_keeps [] (keeps_of order) _ _ c.refuse.result c.refuse.ensures.counted))
+    (after order (both h.text h.written) _ _ _ _ _ _ _ (tells order _ _ _ h.told h.told_named) c.in-Ok-Err.ensures.holds c.in-Ok-Err.ensures.counted c.refuse.ensures.own (counted_keeps [] (keeps_of order) _ _ c.refuse.result c.refuse.ensures.counted))
     c.refuse.ensures.memory c.refuse.ensures.did
 
 pub build_program-requires-clause-given : goal.build_program-requires-clause-given
 build_program-requires-clause-given g c =
     let h = rw c.in-Ok-Ok.field-0-is at c.in-Ok-Ok.ensures.given in
-    (h.text, option_map (λ name. name.now) c.args.derivation, h.written, h.is)
+    buildable h.text (option_map (λ name. name.now) c.args.derivation) h.written c.in-Ok-Ok.program h.is
 
 pub build_program-requires-clause-stack : goal.build_program-requires-clause-stack
 build_program-requires-clause-stack g c = stack_size _ _ c.stack_wanted.ensures c.requires
@@ -38,5 +38,5 @@ returns-in-Ok-Ok-clause-serves g c =
     let order = build c.args.file.now c.args.name.now c.args.stack named in
     let holds = g.W.World.holds in
     serves_build c.args.file.now c.args.name.now c.args.stack named h.text h.written c.in-Ok-Ok.program _ _ _ _ _ _ _ h.is
-    (after order (both h.text h.written) _ _ _ _ _ _ _ (record { file = h.told; derivation = h.told_named }) c.in-Ok-Ok.ensures.holds c.in-Ok-Ok.ensures.counted c.build_program.ensures.own c.build_program.ensures.counted)
+    (after order (both h.text h.written) _ _ _ _ _ _ _ (tells order _ _ _ h.told h.told_named) c.in-Ok-Ok.ensures.holds c.in-Ok-Ok.ensures.counted c.build_program.ensures.own c.build_program.ensures.counted)
     (subst (λ words. Builds c.in-Ok-Ok.program words c.args.name.now (holds c.given_in.new.world) (holds c.build_program.new.world) c.build_program.result) c.stack_wanted.ensures c.build_program.ensures.builds)

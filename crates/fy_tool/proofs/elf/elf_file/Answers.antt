@@ -2,7 +2,7 @@ use Rattle.std.proofs.Common.{[], refl}
 use Rattle.fy_words.specs.Order.{elf}
 use Rattle.fy_world.proofs.Counting.{counted_keeps}
 use Rattle.fy_tool.specs.Due.{keeps_of}
-use Rattle.fy_tool.proofs.Serving.{after, only, serves_unread}
+use Rattle.fy_tool.proofs.Serving.{after, only, serves_unread, tells}
 use Rattle.fy_tool.proofs.ImageCommands.{serves_no_image}
 use Rattle.fy_tool.proofs.ElfCommands.{serves_elf}
 use Rattle.fy_tool.proofs.elf.elf_file.Goals as goal
@@ -15,7 +15,7 @@ returns-in-Ok-Err-clause-serves g c =
     let h = rw c.in-Ok-Err.field-0-is at c.in-Ok-Err.ensures.read in
     let order = elf c.args.from.now c.args.to.now in
     serves_no_image order h.0 h.2.0 c.in-Ok-Err.why _ _ _ _ _ _ _ refl h.2.1 h.2.2
-    (after order (only h.0) _ _ _ _ _ _ _ (record { file = h.1; derivation = tt }) c.in-Ok-Err.ensures.holds c.in-Ok-Err.ensures.counted c.refuse.ensures.own (counted_keeps [] (keeps_of order) _ _ c.refuse.result c.refuse.ensures.counted))
+    (after order (only h.0) _ _ _ _ _ _ _ (tells order _ _ _ h.1 tt) c.in-Ok-Err.ensures.holds c.in-Ok-Err.ensures.counted c.refuse.ensures.own (counted_keeps [] (keeps_of order) _ _ c.refuse.result c.refuse.ensures.counted))
     c.refuse.ensures.memory c.refuse.ensures.did
 
 pub returns-in-Ok-Ok-clause-serves : goal.returns-in-Ok-Ok-clause-serves
@@ -23,4 +23,4 @@ returns-in-Ok-Ok-clause-serves g c =
     let h = rw c.in-Ok-Ok.field-0-is at c.in-Ok-Ok.ensures.read in
     let order = elf c.args.from.now c.args.to.now in
     serves_elf c.args.from.now c.args.to.now h.0 c.in-Ok-Ok.image _ _ _ _ _ _ _ h.2
-    (after order (only h.0) _ _ _ _ _ _ _ (record { file = h.1; derivation = tt }) c.in-Ok-Ok.ensures.holds c.in-Ok-Ok.ensures.counted c.keep_elf.ensures.own c.keep_elf.ensures.counted) c.keep_elf.ensures.keeps
+    (after order (only h.0) _ _ _ _ _ _ _ (tells order _ _ _ h.1 tt) c.in-Ok-Ok.ensures.holds c.in-Ok-Ok.ensures.counted c.keep_elf.ensures.own c.keep_elf.ensures.counted) c.keep_elf.ensures.keeps

@@ -2,8 +2,8 @@ use Rattle.std.proofs.Common.{refl, None}
 use Rattle.fy_words.specs.Order.{list}
 use Rattle.fy_world.specs.declared.note.Note.TheVariants as note
 use Rattle.fy_tool.specs.Given.{by_text}
-use Rattle.fy_tool.proofs.Serving.{after, only, serves_down, serves_unread}
-use Rattle.fy_tool.proofs.ImageCommands.{given_found, serves_list}
+use Rattle.fy_tool.proofs.Serving.{after, only, serves_down, serves_unread, tells}
+use Rattle.fy_tool.proofs.ImageCommands.{buildable, given_found, serves_list}
 use Rattle.fy_tool.proofs.list.list_file.Goals as goal
 
 pub returns-in-Err-clause-serves : goal.returns-in-Err-clause-serves
@@ -14,16 +14,16 @@ returns-in-Ok-Err-clause-serves g c =
     let h = rw c.in-Ok-Err.field-0-is at c.in-Ok-Err.ensures.read in
     let order = list c.args.file.now in
     serves_down order (only h.0) h.0 2 (note.Refused c.in-Ok-Err.why) _ _ _ _ _ _ _ refl (by_text None c.in-Ok-Err.why h.2)
-    (after order (only h.0) _ _ _ _ _ _ _ (record { file = h.1; derivation = tt }) c.in-Ok-Err.ensures.holds c.in-Ok-Err.ensures.counted c.refuse.ensures.own c.refuse.ensures.counted) c.refuse.ensures.memory c.refuse.ensures.did
+    (after order (only h.0) _ _ _ _ _ _ _ (tells order _ _ _ h.1 tt) c.in-Ok-Err.ensures.holds c.in-Ok-Err.ensures.counted c.refuse.ensures.own c.refuse.ensures.counted) c.refuse.ensures.memory c.refuse.ensures.did
 
 pub list_program-requires : goal.list_program-requires
 list_program-requires g c =
     let h = rw c.in-Ok-Ok.field-0-is at c.in-Ok-Ok.ensures.read in
-    (h.0, None, None, given_found h.0 None c.in-Ok-Ok.program h.2)
+    buildable h.0 None None c.in-Ok-Ok.program (given_found h.0 None c.in-Ok-Ok.program h.2)
 
 pub returns-in-Ok-Ok-clause-serves : goal.returns-in-Ok-Ok-clause-serves
 returns-in-Ok-Ok-clause-serves g c =
     let h = rw c.in-Ok-Ok.field-0-is at c.in-Ok-Ok.ensures.read in
     let order = list c.args.file.now in
     serves_list c.args.file.now h.0 c.in-Ok-Ok.program _ _ _ _ _ _ _ h.2
-    (after order (only h.0) _ _ _ _ _ _ _ (record { file = h.1; derivation = tt }) c.in-Ok-Ok.ensures.holds c.in-Ok-Ok.ensures.counted c.list_program.ensures.own c.list_program.ensures.counted) c.list_program.ensures.lists
+    (after order (only h.0) _ _ _ _ _ _ _ (tells order _ _ _ h.1 tt) c.in-Ok-Ok.ensures.holds c.in-Ok-Ok.ensures.counted c.list_program.ensures.own c.list_program.ensures.counted) c.list_program.ensures.lists

@@ -2,7 +2,7 @@ use Rattle.std.proofs.Common.{[], refl}
 use Rattle.fy_words.specs.Order.{migrate}
 use Rattle.fy_world.proofs.Counting.{counted_keeps}
 use Rattle.fy_tool.specs.Due.{keeps_of}
-use Rattle.fy_tool.proofs.Serving.{after, only, serves_unread}
+use Rattle.fy_tool.proofs.Serving.{after, only, serves_unread, tells}
 use Rattle.fy_tool.proofs.ImageCommands.{serves_no_image, serves_migrate}
 use Rattle.fy_tool.proofs.migrate.migrate_file.Goals as goal
 
@@ -14,7 +14,7 @@ returns-in-Ok-Err-clause-serves g c =
     let h = rw c.in-Ok-Err.field-0-is at c.in-Ok-Err.ensures.read in
     let order = migrate c.args.from.now c.args.to.now in
     serves_no_image order h.0 h.2.0 c.in-Ok-Err.why _ _ _ _ _ _ _ refl h.2.1 h.2.2
-    (after order (only h.0) _ _ _ _ _ _ _ (record { file = h.1; derivation = tt }) c.in-Ok-Err.ensures.holds c.in-Ok-Err.ensures.counted c.refuse.ensures.own (counted_keeps [] (keeps_of order) _ _ c.refuse.result c.refuse.ensures.counted))
+    (after order (only h.0) _ _ _ _ _ _ _ (tells order _ _ _ h.1 tt) c.in-Ok-Err.ensures.holds c.in-Ok-Err.ensures.counted c.refuse.ensures.own (counted_keeps [] (keeps_of order) _ _ c.refuse.result c.refuse.ensures.counted))
     c.refuse.ensures.memory c.refuse.ensures.did
 
 pub returns-in-Ok-Ok-clause-serves : goal.returns-in-Ok-Ok-clause-serves
@@ -22,4 +22,4 @@ returns-in-Ok-Ok-clause-serves g c =
     let h = rw c.in-Ok-Ok.field-0-is at c.in-Ok-Ok.ensures.read in
     let order = migrate c.args.from.now c.args.to.now in
     serves_migrate c.args.from.now c.args.to.now h.0 c.in-Ok-Ok.image _ _ _ _ _ _ _ h.2
-    (after order (only h.0) _ _ _ _ _ _ _ (record { file = h.1; derivation = tt }) c.in-Ok-Ok.ensures.holds c.in-Ok-Ok.ensures.counted c.keep_image.ensures.own c.keep_image.ensures.counted) c.keep_image.ensures.keeps
+    (after order (only h.0) _ _ _ _ _ _ _ (tells order _ _ _ h.1 tt) c.in-Ok-Ok.ensures.holds c.in-Ok-Ok.ensures.counted c.keep_image.ensures.own c.keep_image.ensures.counted) c.keep_image.ensures.keeps

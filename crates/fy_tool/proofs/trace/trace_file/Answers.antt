@@ -4,7 +4,7 @@ use Rattle.fy_world.specs.Working.{IsUnbegun}
 use Rattle.fy_world.specs.declared.note.Note.TheVariants as note
 use Rattle.fy_tool.specs.Given.{by_text}
 use Rattle.fy_tool.specs.Working.{HasTraced}
-use Rattle.fy_tool.proofs.Serving.{after, only, serves_down, serves_unread}
+use Rattle.fy_tool.proofs.Serving.{after, only, serves_down, serves_unread, tells}
 use Rattle.fy_tool.proofs.TextCommands.{serves_traced}
 use Rattle.fy_tool.proofs.trace.trace_file.Goals as goal
 
@@ -16,7 +16,7 @@ returns-in-Ok-Err-clause-serves g c =
     let h = rw c.in-Ok-Err.field-0-is at c.in-Ok-Err.ensures.read in
     let order = trace c.args.file.now c.args.steps in
     serves_down order (only h.0) h.0 2 (note.Refused c.in-Ok-Err.why) _ _ _ _ _ _ _ refl (by_text None c.in-Ok-Err.why h.2)
-    (after order (only h.0) _ _ _ _ _ _ _ (record { file = h.1; derivation = tt }) c.in-Ok-Err.ensures.holds c.in-Ok-Err.ensures.counted c.refuse.ensures.own c.refuse.ensures.counted) c.refuse.ensures.memory c.refuse.ensures.did
+    (after order (only h.0) _ _ _ _ _ _ _ (tells order _ _ _ h.1 tt) c.in-Ok-Err.ensures.holds c.in-Ok-Err.ensures.counted c.refuse.ensures.own c.refuse.ensures.counted) c.refuse.ensures.memory c.refuse.ensures.did
 
 pub trace_program-requires-clause-text : goal.trace_program-requires-clause-text
 trace_program-requires-clause-text g c =
@@ -31,5 +31,5 @@ returns-in-Ok-Ok-clause-serves g c =
     let before = holds c.program_in.new.world in
     let now = holds c.trace_program.new.world in
     serves_traced c.args.file.now c.args.steps h.0 c.in-Ok-Ok.program _ _ _ _ _ _ _ h.2
-    (after order (only h.0) _ _ _ _ _ _ _ (record { file = h.1; derivation = tt }) c.in-Ok-Ok.ensures.holds c.in-Ok-Ok.ensures.counted c.trace_program.ensures.own c.trace_program.ensures.counted)
+    (after order (only h.0) _ _ _ _ _ _ _ (tells order _ _ _ h.1 tt) c.in-Ok-Ok.ensures.holds c.in-Ok-Ok.ensures.counted c.trace_program.ensures.own c.trace_program.ensures.counted)
     (subst (λ steps. IsUnbegun before now c.trace_program.result ⊎ HasTraced c.in-Ok-Ok.program steps before now c.trace_program.result) c.trace_steps_wanted.ensures c.trace_program.ensures.traced)

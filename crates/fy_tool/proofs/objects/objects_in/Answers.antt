@@ -1,0 +1,38 @@
+use Rattle.std.proofs.Common.{refl, ap, ◌∙◌, length, arith}
+use Rattle.fy_tool.proofs.ReadUnits.{few_known, none_read, few_values, read_end, read_faulted, read_step, read_stop}
+use Rattle.fy_tool.proofs.objects.objects_in.Goals as goal
+
+pub loop-file-init : goal.loop-file-init
+loop-file-init g c = record { stays = refl; read = none_read _ _ _ c.new-units.ensures.items c.in-Ok.ensures; counts = refl; same = refl }
+
+pub object_in-requires : goal.object_in-requires
+object_in-requires g c = few_known _ c.loop-file.file-index c.args.files.now c.loop-file.units.items _ c.requires c.loop-file.invariant.read
+
+pub loop-file-preserved : goal.loop-file-preserved
+loop-file-preserved g c =
+    let object = rw c.in-Ok-Some.field-0-is at c.in-Ok-Some.ensures.read in
+    record {
+      stays = c.in-Ok-Some.ensures.holds ∙ c.loop-file.invariant.stays;
+      read = read_step _ _ c.args.files.now c.loop-file.file-index _ c.loop-file.units.items _ _ _ c.in-Ok-Some.unit c.loop-file.invariant.stays c.loop-file.invariant.read c.loop-file-test.true object c.in-Ok-Some.ensures.names
+          c.in-Ok-Some.ensures.few c.in-Ok-push.ensures.items;
+      counts = c.in-Ok-Some.ensures.counted ∙ c.loop-file.invariant.counts;
+      same = c.in-Ok-Some.ensures.same ∙ c.loop-file.invariant.same;
+    }
+
+pub returns-in-Ok-None-clause-read : goal.returns-in-Ok-None-clause-read
+returns-in-Ok-None-clause-read g c =
+    let object = rw c.in-Ok-None.field-0-is at c.in-Ok-None.ensures.read in
+    read_stop _ _ c.args.files.now c.loop-file.file-index _ c.loop-file.units.items _ _ _ c.loop-file.invariant.stays c.loop-file.invariant.read c.loop-file-test.true object (ap length c.as_slice.ensures.value)
+
+pub returns-in-Err-object_in-clause-counted : goal.returns-in-Err-object_in-clause-counted
+returns-in-Err-object_in-clause-counted g c =
+    read_faulted c.args.files.now c.loop-file.file-index _ c.in-Err-object_in.stop _ _ _ c.loop-file-test.true c.loop-file.invariant.counts c.in-Err-object_in.ensures.counted
+
+pub returns-clause-read : goal.returns-clause-read
+returns-clause-read g c = read_end (g.W.World.holds c.args.world.now) c.args.files.now c.loop-file.file-index c.loop-file.units.items _ (omega (arith, c.loop-file-test.false)) c.requires c.loop-file.invariant.read c.from_vec.ensures
+
+pub overflow_cast-result : goal.overflow_cast-result
+overflow_cast-result g c =
+    let few = few_values _ c.loop-file.file-index c.args.files.now c.loop-file.units.items _ c.requires c.loop-file.invariant.read in
+    let same = ap length c.as_slice.ensures.value in
+    omega arith

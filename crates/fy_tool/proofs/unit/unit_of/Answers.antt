@@ -1,0 +1,16 @@
+use Rattle.fy_tool.proofs.Checking.{few_first}
+use Rattle.fy_tool.proofs.UnitCommands.{not_unit, unit_written}
+use Rattle.fy_tool.specs.Working.{AreUnitBytes}
+use Rattle.fy_tool.proofs.unit.unit_of.Goals as goal
+
+pub compile_unit-requires-clause-names : goal.compile_unit-requires-clause-names
+compile_unit-requires-clause-names c = few_first _ c.in-Ok.ensures
+
+pub returns-in-Err-compile_unit-clause-unit : goal.returns-in-Err-compile_unit-clause-unit
+returns-in-Err-compile_unit-clause-unit c =
+    not_unit (λ bytes. AreUnitBytes c.args.text.now bytes.items) _ c.args.text.now c.in-Err-compile_unit.error c.refused.result c.requires c.in-Ok.ensures c.in-Err-compile_unit.ensures.err
+    (rw (← c.unit_refusal.ensures) c.refused.ensures.why)
+
+pub returns-in-Ok-write_unit-clause-unit : goal.returns-in-Ok-write_unit-clause-unit
+returns-in-Ok-write_unit-clause-unit c =
+    unit_written _ _ c.args.text.now c.in-Ok-write_unit.bytes.items c.in-Ok-compile_unit.unit c.in-Ok.ensures c.in-Ok-compile_unit.ensures.source c.in-Ok-compile_unit.ensures.unit c.in-Ok-compile_unit.ensures.names c.in-Ok-write_unit.ensures
