@@ -2,8 +2,8 @@
 use Rattle.std.proofs.Common.{ℕ, ◌≡◌, [], map, refl, sym, ap, ◌∙◌, subst}
 use Rattle.std.specs.Prelude.{IfOk, IsErrOf, Result, Ok, Err}
 use Rattle.fy_base.specs.declared.data.Place.{Place}
-use Rattle.fy_types.specs.declared.error.TypeError.{TypeError}
-use Rattle.fy_types.specs.declared.error.TypeError.TheVariants as types
+use Rattle.fy_forms.specs.declared.error.TypeError.{TypeError}
+use Rattle.fy_forms.specs.declared.error.TypeError.TheVariants as types
 use Rattle.fy_types.specs.declared.paths.Paths.{Paths}
 use Rattle.fy_types.specs.Types.{PlainType, arrow}
 use Rattle.fy_types.specs.Paths.{PlainPaths, no_paths, paths, picked}

@@ -2,8 +2,8 @@
 use Rattle.std.proofs.Common.{ℕ, ◌≡◌, List, ◌∷◌, map, reverse, Bor, refl, sym, ap, ◌∙◌, subst}
 use Rattle.std.specs.Prelude.{IfOk, IsErrOf, Result, Ok, Err}
 use Rattle.fy_base.specs.declared.data.Place.{Place}
-use Rattle.fy_types.specs.declared.error.TypeError.{TypeError}
-use Rattle.fy_types.specs.declared.error.TypeError.TheVariants as types
+use Rattle.fy_forms.specs.declared.error.TypeError.{TypeError}
+use Rattle.fy_forms.specs.declared.error.TypeError.TheVariants as types
 use Rattle.fy_types.specs.declared.types.Ty.{Ty}
 use Rattle.fy_types.specs.Paths.{PlainPaths}
 use Rattle.fy_types.specs.Reading.{plain_paths, plain_type}

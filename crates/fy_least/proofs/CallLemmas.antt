@@ -10,7 +10,7 @@ use Rattle.fy_types.specs.Bounds.{meet_of}
 use Rattle.fy_types.specs.Keeping.{all_added}
 use Rattle.fy_types.specs.Limits.{nesting, all_nesting, IsTooLarge}
 use Rattle.fy_types.proofs.Laws.{append_assoc, append-none}
-use Rattle.fy_types.proofs.KeepLemmas.{all_added-meet}
+use Rattle.fy_forms.proofs.KeepLemmas.{all_added-meet}
 use Rattle.fy_types.proofs.OnceLemmas.{is_same-sound, is_same-refl}
 use Rattle.fy_least.specs.declared.found.Found.{Found}
 use Rattle.fy_least.specs.Many.{called_bodies, AreOnce}

@@ -1,6 +1,6 @@
 -- What a refusal of a type is as one of a least type, and what that is as one of finding.
-use Rattle.fy_types.specs.declared.error.TypeError.{TypeError}
-use Rattle.fy_types.specs.declared.error.TypeError.TheVariants as types
+use Rattle.fy_forms.specs.declared.error.TypeError.{TypeError}
+use Rattle.fy_forms.specs.declared.error.TypeError.TheVariants as types
 use Rattle.fy_least.specs.declared.error.LeastError.{LeastError}
 use Rattle.fy_least.specs.declared.error.LeastError.TheVariants as least
 use Rattle.fy_least.specs.declared.error.FindError.{FindError}

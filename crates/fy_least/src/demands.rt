@@ -1,7 +1,7 @@
 //! What a path form has behind its first demands.
 
 ghost use Rattle.std.specs.Prelude.{◌≡◌, IfOk};
-ghost use Rattle.fy_types.specs.Keys.{indexed, IsWhole};
+ghost use Rattle.fy_forms.specs.Keys.{indexed, IsWhole};
 ghost use Rattle.fy_types.specs.Paths.{PlainPath, end};
 ghost use Rattle.fy_types.specs.Reading.{front, plain_elem, plain_path, plain_paths};
 ghost use Rattle.fy_derive.specs.Kinds.{begins as begins_of};
@@ -18,7 +18,8 @@ ghost use Rattle.fy_least.specs.Demands.{behind, takes_argument as takes_argumen
 
 use fy_base::OutOfMemory;
 use fy_derive::{Demand, is_acceptor};
-use fy_types::{Atom, ElemList, Name, Path, PathElem, PathIndex, Paths, copy_paths, is_end_below};
+use fy_forms::PathIndex;
+use fy_types::{Atom, ElemList, Name, Path, PathElem, Paths, copy_paths, is_end_below};
 use std::alloc::Global;
 
 /// The form of one path without demands.
@@ -49,7 +50,7 @@ pub(crate) fn has(paths: &Paths, atom: Atom) -> bool
 pub(crate) fn is_form_below(alloc: Global, a: &Paths, b: &Paths) -> Result<bool, OutOfMemory>
     ensures { IfOk result (λ r. r ≡ paths_below (plain_paths a.now) (plain_paths b.now)) }
 {
-    fy_types::is_form_below(alloc, a, b)
+    fy_forms::is_form_below(alloc, a, b)
 }
 
 fn ends_in(path: &Path, atom: Atom) -> bool

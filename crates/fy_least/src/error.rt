@@ -1,7 +1,7 @@
 //! Why a phrase has no derivation.
 
 use fy_base::{OutOfMemory, Place};
-use fy_types::TypeError;
+use fy_forms::TypeError;
 use std::alloc::AllocFailed;
 use thiserror::Error;
 

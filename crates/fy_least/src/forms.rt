@@ -29,7 +29,8 @@ use crate::rules::{rule_of_one, rule_of_two};
 use crate::scope::{Scope, form_at};
 use fy_base::{OutOfMemory, Place};
 use fy_derive::{Demand, Derivation, DerivationList};
-use fy_types::{Atom, Name, Paths, Ty, copy_ty, join, meet, paths_of, ty_of};
+use fy_forms::{join, meet, paths_of};
+use fy_types::{Atom, Name, Paths, Ty, copy_ty, ty_of};
 use std::alloc::Global;
 
 /// A variable.

@@ -10,7 +10,8 @@ use crate::demands::one_end;
 use crate::error::LeastError;
 use crate::found::field_of;
 use crate::many::paths_of_call;
-use fy_types::{Name, Paths, Ty, TyList, TypeError, meet, paths_of};
+use fy_forms::{TypeError, meet, paths_of};
+use fy_types::{Name, Paths, Ty, TyList};
 use std::alloc::Global;
 
 /// The paths of the type, each once. Repeats are left out part by part, so that a form that keeps the

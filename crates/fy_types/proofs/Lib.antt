@@ -10,11 +10,7 @@ pub mod TypeSizes
 pub mod RestLemmas
 pub mod OnceLemmas
 pub mod BoundLemmas
-pub mod KeepLemmas
-pub mod CommonLemmas
 pub mod NameLemmas
 pub mod NestLemmas
 pub mod FieldLemmas
 pub mod PrintLemmas
-pub mod KeyLemmas
-pub mod JoinLemmas

@@ -4,16 +4,12 @@ pub mod Paths
 pub mod PathOrder
 pub mod Reading
 pub mod Limits
-pub mod Sized
 pub mod Rests
 pub mod Once
 pub mod Bounds
 pub mod Keeping
-pub mod Merging
 pub mod Names
 pub mod Nested
 pub mod Words
 pub mod Print
 pub mod Fields
-pub mod Numbers
-pub mod Keys

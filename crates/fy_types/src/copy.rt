@@ -50,7 +50,7 @@ pub fn copy_paths(alloc: Global, paths: &Paths) -> Result<Paths, OutOfMemory>
 
 /// A path equal to the given one.
 #[cycle(copy_paths)]
-pub(crate) fn copy_path(alloc: Global, path: &Path) -> Result<Path, OutOfMemory>
+pub fn copy_path(alloc: Global, path: &Path) -> Result<Path, OutOfMemory>
     ensures { IfOk result (λ made. plain_path made ≡ plain_path path.now) }
 {
     let elems = copy_elems(alloc, &path.elems)?;

@@ -85,7 +85,7 @@ impl ElemList {
 
 impl Path {
     /// The path with the element in front.
-    pub(crate) fn after(self, elem: PathElem) -> Result<Path, OutOfMemory>
+    pub fn after(self, elem: PathElem) -> Result<Path, OutOfMemory>
         ensures { IfOk result
             (λ made. plain_path made ≡ front (plain_elem elem) (plain_path self)) }
     {
@@ -125,7 +125,7 @@ impl Paths {
     }
 
     /// The vector of the members.
-    pub(crate) fn into_vec(self) -> Vec<Path>
+    pub fn into_vec(self) -> Vec<Path>
         ensures { result.items ≡ paths_in self }
     {
         self.items

@@ -3,7 +3,7 @@ use Rattle.fy_types.specs.Paths.{and_path, no_paths}
 use Rattle.fy_types.specs.Reading.{plain_path}
 use Rattle.fy_types.specs.Limits.{all_nodes, all_nesting}
 use Rattle.fy_types.proofs.Sizes.{append-nodes, append-nesting}
-use Rattle.fy_types.proofs.KeepLemmas.{firsts, firsts-more}
+use Rattle.fy_forms.proofs.KeepLemmas.{firsts, firsts-more}
 use Rattle.fy_least.proofs.size.+size.Goals as goal
 
 pub size_of-loop-path-preserved : goal.size_of-loop-path-preserved

@@ -1,0 +1,4 @@
+pub mod CommonLemmas
+pub mod JoinLemmas
+pub mod KeepLemmas
+pub mod KeyLemmas

@@ -1,0 +1,8 @@
+use Rattle.std.proofs.Common.{◌≡◌, map}
+use Rattle.fy_types.specs.Paths.{append}
+use Rattle.fy_types.specs.Reading.{plain_path, plain_paths, paths_in, paths_from}
+use Rattle.fy_forms.proofs.sized.appended_paths.Given as goal
+
+abbrev pub invariant-loop-path : goal.invariant-loop-path
+invariant-loop-path l =
+    paths_from (map plain_path (paths_in l.made)) ≡ append (plain_paths l.fn.list) (paths_from (map plain_path l.yielded))

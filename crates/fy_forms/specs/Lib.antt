@@ -1,0 +1,4 @@
+pub mod Numbers
+pub mod Keys
+pub mod Merging
+pub mod Sized

@@ -1,0 +1,20 @@
+//! Operations on path forms: comparing, meeting and joining them.
+#![tactic(auto)]
+
+mod error;
+mod form;
+mod index;
+mod join_forms;
+mod kept;
+mod keyed;
+mod meet_forms;
+mod number;
+mod same;
+mod size;
+mod sized;
+
+pub use error::TypeError;
+pub use form::paths_of;
+pub use join_forms::join;
+pub use keyed::{PathIndex, is_form_below};
+pub use meet_forms::meet;

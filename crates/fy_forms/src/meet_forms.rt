@@ -1,0 +1,46 @@
+//! The meet of two path forms.
+
+ghost use Rattle.std.specs.Prelude.{◌≡◌, IfOk, OnOk, IsErrOf};
+ghost use Rattle.fy_types.specs.Reading.{plain_paths, type_of_form};
+ghost use Rattle.fy_types.specs.Limits.{IsWithinLimits, IsTooLarge};
+ghost use Rattle.fy_forms.specs.Sized.{IsSized};
+ghost use Rattle.fy_types.specs.Bounds.{meet_of, IsGreatestLowerBound};
+
+use crate::error::TypeError;
+use crate::kept::keep_all;
+use crate::sized::Sized;
+use fy_types::Paths;
+use std::alloc::Global;
+use std::collections::BTreeMap;
+
+/// The paths of the first form and then those of the second, each once, at its first place. This
+/// stands for a greatest lower bound of the two types.
+///
+/// # Errors
+///
+/// `TypeTooLarge` comes exactly where these paths have over 4,096 nodes or nest more than 480.
+pub fn meet(alloc: Global, a: &Paths, b: &Paths) -> Result<Paths, TypeError>
+    ensures ok { IfOk result
+        (λ made. plain_paths made ≡ meet_of (plain_paths a.now) (plain_paths b.now)) }
+    ensures bound { IfOk result
+        (λ made. IsGreatestLowerBound (type_of_form made)
+        (type_of_form a.now) (type_of_form b.now)) }
+    ensures within { OnOk result (IsWithinLimits (meet_of (plain_paths a.now) (plain_paths b.now))) }
+    ensures large { IsErrOf result TypeError.TypeTooLarge →
+        IsTooLarge (meet_of (plain_paths a.now) (plain_paths b.now)) }
+{
+    let sized = meet_form(alloc, a, b)?;
+    let Sized { paths, .. } = sized;
+    Ok(paths)
+}
+
+/// The meet with its size.
+pub(crate) fn meet_form(alloc: Global, a: &Paths, b: &Paths) -> Result<Sized, TypeError>
+    ensures ok { IfOk result (λ s. IsSized s (meet_of (plain_paths a.now) (plain_paths b.now))) }
+    ensures large { IsErrOf result TypeError.TypeTooLarge →
+        IsTooLarge (meet_of (plain_paths a.now) (plain_paths b.now)) }
+{
+    let mut places = BTreeMap::new(alloc);
+    let first = keep_all(alloc, Sized::none(alloc), &mut places, a)?;
+    keep_all(alloc, first, &mut places, b)
+}

@@ -1,7 +1,0 @@
-use Rattle.std.proofs.Common.{take}
-use Rattle.fy_types.specs.Keys.{IsIndex}
-use Rattle.fy_types.proofs.index.groups_of.Given as goal
-
--- the paths so far are in it
-abbrev pub invariant-loop-path : goal.invariant-loop-path
-invariant-loop-path l = IsIndex l.groups (take l.path-index l.list)
