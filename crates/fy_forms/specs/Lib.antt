@@ -2,3 +2,4 @@ pub mod Numbers
 pub mod Keys
 pub mod Merging
 pub mod Sized
+pub mod Demands

@@ -1,6 +1,7 @@
 //! Operations on path forms: comparing, meeting and joining them.
 #![tactic(auto)]
 
+mod demands;
 mod error;
 mod form;
 mod index;
@@ -13,6 +14,7 @@ mod same;
 mod size;
 mod sized;
 
+pub use demands::{are_paths_below, has, one_end, others, rests_of_call, rests_of_field};
 pub use error::TypeError;
 pub use form::paths_of;
 pub use join_forms::join;

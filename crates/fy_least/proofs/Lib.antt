@@ -6,7 +6,6 @@ pub mod BlameLemmas
 pub mod BoundLemmas
 pub mod CallLemmas
 pub mod CountLemmas
-pub mod DemandLemmas
 pub mod DistinctLemmas
 pub mod EachFound
 pub mod ErrorLemmas

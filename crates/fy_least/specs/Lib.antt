@@ -1,6 +1,5 @@
 pub mod Blame
 pub mod Counts
-pub mod Demands
 pub mod Derived
 pub mod Finding
 pub mod Forms

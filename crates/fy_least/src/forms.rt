@@ -22,14 +22,13 @@ ghost use Rattle.fy_least.specs.Limits.{most_together};
 ghost use Rattle.fy_least.specs.Scopes.{scope_forms};
 ghost use Rattle.fy_least.specs.Visited.{IsMade, IsRefused, blame_at, derivation_of, has_atom};
 
-use crate::demands::{has, is_form_below, others, rests_of_call, rests_of_field};
 use crate::error::LeastError;
 use crate::found::{Found, arrow_to, both, field_of, to_atom, to_paths, to_type};
 use crate::rules::{rule_of_one, rule_of_two};
 use crate::scope::{Scope, form_at};
 use fy_base::{OutOfMemory, Place};
 use fy_derive::{Demand, Derivation, DerivationList};
-use fy_forms::{join, meet, paths_of};
+use fy_forms::{are_paths_below, has, join, meet, others, paths_of, rests_of_call, rests_of_field};
 use fy_types::{Atom, Name, Paths, Ty, copy_ty, ty_of};
 use std::alloc::Global;
 
@@ -252,7 +251,7 @@ pub(crate) fn recursion(
         IsRefused (if_passed (is_recursive body (plain_paths form.now)) (once_of (plain_paths form.now))) (body.total) }
 {
     let blame = body.blame_or(at);
-    if !is_form_below(alloc, &body.paths, form)? {
+    if !are_paths_below(alloc, &body.paths, form)? {
         return Ok(Found::none(alloc, blame, body.total));
     }
     let premise = to_type(alloc, copy_ty(alloc, ty)?, body.derivation)?;

@@ -14,7 +14,6 @@ ghost use Rattle.fy_least.specs.Scopes.{scope_forms};
 ghost use Rattle.fy_least.specs.Visited.{IsFound};
 
 use crate::bound::Bound;
-use crate::demands::one_end;
 use crate::error::LeastError;
 use crate::forms::{
     application, conditional, definition, field, merge, recursion, selection, variable,
@@ -27,7 +26,7 @@ use fy_base::{BinOp, OutOfMemory, Place, PutKind, UnOp};
 use fy_derive::{
     acceptor_atom, data_atom, datum_atom, demand_of, operand_atom, put_atom, unary_atom,
 };
-use fy_forms::paths_of;
+use fy_forms::{one_end, paths_of};
 use fy_phrase::{DataTy, Parts, Phrase};
 use fy_types::{Atom, ElemList, Name, Path, Paths, Ty, TyList, copy_paths};
 use std::alloc::Global;

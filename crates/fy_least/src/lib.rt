@@ -2,7 +2,6 @@
 #![tactic(auto)]
 
 mod bound;
-mod demands;
 mod error;
 mod finder;
 mod forms;

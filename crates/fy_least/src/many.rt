@@ -29,13 +29,12 @@ ghost use Rattle.fy_least.specs.Many.{
 };
 ghost use Rattle.fy_least.specs.Visited.{IsMade, IsRefused};
 
-use crate::demands::has;
 use crate::error::LeastError;
 use crate::found::{Found, arrow_to, both, to_atom, to_paths, to_type};
 use crate::size::size_of;
 use fy_base::{OutOfMemory, Place};
 use fy_derive::{Derivation, DerivationList};
-use fy_forms::{TypeError, join, meet, paths_of};
+use fy_forms::{TypeError, has, join, meet, paths_of};
 use fy_types::{Atom, Paths, Ty, copy_paths, copy_ty, ty_of};
 use std::alloc::Global;
 

@@ -25,11 +25,11 @@ ghost use Rattle.fy_least.specs.Rules.{
 };
 ghost use Rattle.fy_least.specs.Visited.{IsMade, IsRefused, as_atom, blame_at, has_atom};
 
-use crate::demands::{has, one_end};
 use crate::error::LeastError;
 use crate::found::{Found, both, to_atom};
 use fy_base::{BinOp, OutOfMemory, Place};
 use fy_derive::{Derivation, DerivationList, acceptor_atom, binary_atom, data_atom, takes};
+use fy_forms::{has, one_end};
 use fy_phrase::DataTy;
 use fy_types::{Atom, Paths};
 use std::alloc::Global;

@@ -6,11 +6,10 @@ ghost use Rattle.fy_types.specs.Once.{once as once_of};
 ghost use Rattle.fy_types.specs.Paths.{all_paths, paths as paths_in_type, picked};
 ghost use Rattle.fy_types.specs.Reading.{plain_paths, plain_type, plain_types};
 
-use crate::demands::one_end;
 use crate::error::LeastError;
 use crate::found::field_of;
 use crate::many::paths_of_call;
-use fy_forms::{TypeError, meet, paths_of};
+use fy_forms::{TypeError, meet, one_end, paths_of};
 use fy_types::{Name, Paths, Ty, TyList};
 use std::alloc::Global;
 

@@ -3,7 +3,7 @@ use Rattle.fy_types.specs.Paths.{end}
 use Rattle.fy_types.specs.Reading.{plain_path, paths_from}
 use Rattle.fy_types.proofs.Steps.{drop_item, drop_end}
 use Rattle.fy_derive.specs.Subsumption.{some_below}
-use Rattle.fy_least.proofs.demands.has.Goals as goal
+use Rattle.fy_forms.proofs.demands.has.Goals as goal
 
 pub returns-then-ends_in : goal.returns-then-ends_in
 returns-then-ends_in c =

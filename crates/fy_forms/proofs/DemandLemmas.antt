@@ -22,7 +22,7 @@ use Rattle.fy_derive.specs.Kinds.{Kind, of_field, begins}
 use Rattle.fy_derive.specs.Least.{if_passed, rest_of_call, rest_of_field, others}
 use Rattle.fy_derive.specs.Subsumption.{path_below, paths_below}
 use Rattle.fy_derive.proofs.SubsumptionLemmas.{paths_below-iff}
-use Rattle.fy_least.specs.Demands.{takes_argument, behind}
+use Rattle.fy_forms.specs.Demands.{takes_argument, behind}
 
 pub behind-fronted : (n : ℕ) (xs : List PlainElem) (a : Atom) → behind n (fronted xs (end a)) ≡ fronted (drop n xs) (end a)
 behind-fronted zero xs a = refl

@@ -5,9 +5,9 @@ use Rattle.fy_types.proofs.Laws.{append-none}
 use Rattle.fy_types.proofs.ReadLemmas.{plain_paths-at}
 use Rattle.fy_types.proofs.Steps.{drop_item, drop_end}
 use Rattle.fy_derive.specs.Least.{rests_of_call}
-use Rattle.fy_least.proofs.DemandLemmas.{kept-one, rest-taken, rest-left}
-use Rattle.fy_least.proofs.demands.rests_of_call.Goals as goal
-use Rattle.fy_least.proofs.demands.rests_of_call.Goals.{then-branch+in_ok-copy_from+in_ok-push, else-branch}
+use Rattle.fy_forms.proofs.DemandLemmas.{kept-one, rest-taken, rest-left}
+use Rattle.fy_forms.proofs.demands.rests_of_call.Goals as goal
+use Rattle.fy_forms.proofs.demands.rests_of_call.Goals.{then-branch+in_ok-copy_from+in_ok-push, else-branch}
 
 pub loop-path-preserved : goal.loop-path-preserved
 loop-path-preserved c =

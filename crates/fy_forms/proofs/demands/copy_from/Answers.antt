@@ -1,8 +1,8 @@
 use Rattle.std.proofs.Common.{◌+◌, ◌++◌, map, drop, ap, ◌∙◌}
 use Rattle.fy_types.specs.Reading.{plain_elem, elems_in}
 use Rattle.fy_types.proofs.Steps.{drop_item}
-use Rattle.fy_least.proofs.DemandLemmas.{copied-path, moved-one}
-use Rattle.fy_least.proofs.demands.copy_from.Goals as goal
+use Rattle.fy_forms.proofs.DemandLemmas.{copied-path, moved-one}
+use Rattle.fy_forms.proofs.demands.copy_from.Goals as goal
 
 pub loop-i-preserved : goal.loop-i-preserved
 loop-i-preserved c =

@@ -14,16 +14,16 @@ ghost use Rattle.fy_derive.specs.Least.{
 };
 ghost use Rattle.fy_derive.specs.Standing.{plain_kind};
 ghost use Rattle.fy_derive.specs.Subsumption.{path_below, paths_below};
-ghost use Rattle.fy_least.specs.Demands.{behind, takes_argument as takes_argument_of};
+ghost use Rattle.fy_forms.specs.Demands.{behind, takes_argument as takes_argument_of};
 
+use crate::keyed::{PathIndex, is_form_below};
 use fy_base::OutOfMemory;
 use fy_derive::{Demand, is_acceptor};
-use fy_forms::PathIndex;
 use fy_types::{Atom, ElemList, Name, Path, PathElem, Paths, copy_paths, is_end_below};
 use std::alloc::Global;
 
 /// The form of one path without demands.
-pub(crate) fn one_end(alloc: Global, end: Atom) -> Result<Paths, OutOfMemory>
+pub fn one_end(alloc: Global, end: Atom) -> Result<Paths, OutOfMemory>
     ensures { IfOk result (λ made. plain_paths made ≡ one_end_of end) }
 {
     let mut paths = Paths::new(alloc);
@@ -35,7 +35,7 @@ pub(crate) fn one_end(alloc: Global, end: Atom) -> Result<Paths, OutOfMemory>
 }
 
 /// Whether a path without demands ends in the atom, or in `compl` where that is `comm`.
-pub(crate) fn has(paths: &Paths, atom: Atom) -> bool
+pub fn has(paths: &Paths, atom: Atom) -> bool
     ensures { result ≡ has_of (plain_paths paths.now) atom }
 {
     for path in paths.as_slice() {
@@ -47,10 +47,10 @@ pub(crate) fn has(paths: &Paths, atom: Atom) -> bool
 }
 
 /// Whether the first form's type is a subtype of the second's.
-pub(crate) fn is_form_below(alloc: Global, a: &Paths, b: &Paths) -> Result<bool, OutOfMemory>
+pub fn are_paths_below(alloc: Global, a: &Paths, b: &Paths) -> Result<bool, OutOfMemory>
     ensures { IfOk result (λ r. r ≡ paths_below (plain_paths a.now) (plain_paths b.now)) }
 {
-    fy_forms::is_form_below(alloc, a, b)
+    is_form_below(alloc, a, b)
 }
 
 fn ends_in(path: &Path, atom: Atom) -> bool
@@ -61,11 +61,7 @@ fn ends_in(path: &Path, atom: Atom) -> bool
 }
 
 /// The rests of the paths that begin with a call that takes such an argument.
-pub(crate) fn rests_of_call(
-    alloc: Global,
-    argument: &Paths,
-    paths: &Paths,
-) -> Result<Paths, OutOfMemory>
+pub fn rests_of_call(alloc: Global, argument: &Paths, paths: &Paths) -> Result<Paths, OutOfMemory>
     ensures { IfOk result
         (λ made. plain_paths made ≡ rests_of_call_of (plain_paths argument.now) (plain_paths paths.now)) }
 {
@@ -97,7 +93,7 @@ fn rests_by_index(alloc: Global, argument: &Paths, paths: &Paths) -> Result<Path
 }
 
 /// The rests of the paths that begin with the field.
-pub(crate) fn rests_of_field(alloc: Global, name: Name, paths: &Paths) -> Result<Paths, OutOfMemory>
+pub fn rests_of_field(alloc: Global, name: Name, paths: &Paths) -> Result<Paths, OutOfMemory>
     ensures { IfOk result (λ made. plain_paths made ≡ rests_of_field_of name (plain_paths paths.now)) }
 {
     let mut rests = Paths::new(alloc);
@@ -110,7 +106,7 @@ pub(crate) fn rests_of_field(alloc: Global, name: Name, paths: &Paths) -> Result
 }
 
 /// The paths that don't begin with the demand.
-pub(crate) fn others(alloc: Global, demand: Demand, paths: &Paths) -> Result<Paths, OutOfMemory>
+pub fn others(alloc: Global, demand: Demand, paths: &Paths) -> Result<Paths, OutOfMemory>
     ensures { IfOk result (λ made. plain_paths made ≡ others_of (plain_kind demand) (plain_paths paths.now)) }
 {
     let mut kept = Paths::new(alloc);
@@ -130,7 +126,7 @@ fn takes_argument(alloc: Global, path: &Path, argument: &Paths) -> Result<bool, 
         return Ok(false);
     }
     match &elems[0] {
-        PathElem::Call(domain) => is_form_below(alloc, argument, domain),
+        PathElem::Call(domain) => are_paths_below(alloc, argument, domain),
         PathElem::Field(_) => Ok(false),
     }
 }

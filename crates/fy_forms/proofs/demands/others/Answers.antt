@@ -6,9 +6,9 @@ use Rattle.fy_types.proofs.ReadLemmas.{plain_paths-at}
 use Rattle.fy_types.proofs.Steps.{drop_item, drop_end}
 use Rattle.fy_derive.specs.Least.{others}
 use Rattle.fy_derive.specs.Standing.{plain_kind}
-use Rattle.fy_least.proofs.DemandLemmas.{kept-one, other-kept, other-left}
-use Rattle.fy_least.proofs.demands.others.Goals as goal
-use Rattle.fy_least.proofs.demands.others.Goals.{then-not-begins+in_ok-copy_from+in_ok-push, else-not-begins}
+use Rattle.fy_forms.proofs.DemandLemmas.{kept-one, other-kept, other-left}
+use Rattle.fy_forms.proofs.demands.others.Goals as goal
+use Rattle.fy_forms.proofs.demands.others.Goals.{then-not-begins+in_ok-copy_from+in_ok-push, else-not-begins}
 
 pub loop-path-preserved : goal.loop-path-preserved
 loop-path-preserved c =

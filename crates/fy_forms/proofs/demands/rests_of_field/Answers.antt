@@ -5,9 +5,9 @@ use Rattle.fy_types.proofs.Laws.{append-none}
 use Rattle.fy_types.proofs.ReadLemmas.{plain_paths-at}
 use Rattle.fy_types.proofs.Steps.{drop_item, drop_end}
 use Rattle.fy_derive.specs.Least.{rests_of_field}
-use Rattle.fy_least.proofs.DemandLemmas.{kept-one, field-taken, field-left}
-use Rattle.fy_least.proofs.demands.rests_of_field.Goals as goal
-use Rattle.fy_least.proofs.demands.rests_of_field.Goals.{then-begins+in_ok-copy_from+in_ok-push, else-begins}
+use Rattle.fy_forms.proofs.DemandLemmas.{kept-one, field-taken, field-left}
+use Rattle.fy_forms.proofs.demands.rests_of_field.Goals as goal
+use Rattle.fy_forms.proofs.demands.rests_of_field.Goals.{then-begins+in_ok-copy_from+in_ok-push, else-begins}
 
 pub loop-path-preserved : goal.loop-path-preserved
 loop-path-preserved c =

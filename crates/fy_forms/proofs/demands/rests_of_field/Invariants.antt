@@ -2,7 +2,7 @@ use Rattle.std.proofs.Common.{◌≡◌, map, drop}
 use Rattle.fy_types.specs.Paths.{append}
 use Rattle.fy_types.specs.Reading.{plain_path, plain_paths, paths_in, paths_from}
 use Rattle.fy_derive.specs.Least.{rests_of_field}
-use Rattle.fy_least.proofs.demands.rests_of_field.Given as goal
+use Rattle.fy_forms.proofs.demands.rests_of_field.Given as goal
 
 abbrev pub invariant-loop-path : goal.invariant-loop-path
 invariant-loop-path l =

@@ -1,7 +1,7 @@
 use Rattle.std.proofs.lemmas.Result.{IfOk-weaker}
 use Rattle.fy_types.specs.Reading.{plain_paths}
-use Rattle.fy_least.proofs.DemandLemmas.{below-test}
-use Rattle.fy_least.proofs.demands.is_form_below.Goals as goal
+use Rattle.fy_forms.proofs.DemandLemmas.{below-test}
+use Rattle.fy_forms.proofs.demands.are_paths_below.Goals as goal
 
 pub returns : goal.returns
 returns c =

@@ -1,8 +1,8 @@
 use Rattle.std.proofs.Common.{sym, ap, ◌∙◌, arith}
 use Rattle.fy_types.specs.Paths.{end}
 use Rattle.fy_derive.specs.Subsumption.{path_below}
-use Rattle.fy_least.proofs.DemandLemmas.{end-test, no_end-longer, path-end}
-use Rattle.fy_least.proofs.demands.ends_in.Goals as goal
+use Rattle.fy_forms.proofs.DemandLemmas.{end-test, no_end-longer, path-end}
+use Rattle.fy_forms.proofs.demands.ends_in.Goals as goal
 
 pub returns-then-elems-eq0 : goal.returns-then-elems-eq0
 returns-then-elems-eq0 c =

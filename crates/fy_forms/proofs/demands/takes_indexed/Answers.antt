@@ -2,8 +2,8 @@ use Rattle.std.proofs.Common.{◌<◌, length, sym, ◌∙◌, arith}
 use Rattle.std.proofs.lemmas.Result.{IfOk-weaker}
 use Rattle.fy_forms.specs.Keys.{indexed}
 use Rattle.fy_types.specs.Reading.{plain_paths}
-use Rattle.fy_least.proofs.DemandLemmas.{below-test, takes-call, takes-field}
-use Rattle.fy_least.proofs.demands.takes_indexed.Goals as goal
+use Rattle.fy_forms.proofs.DemandLemmas.{below-test, takes-call, takes-field}
+use Rattle.fy_forms.proofs.demands.takes_indexed.Goals as goal
 
 pub returns-in-Call : goal.returns-in-Call
 returns-in-Call c =

@@ -2,7 +2,7 @@ use Rattle.std.proofs.Common.{◌≡◌, map, drop}
 use Rattle.fy_types.specs.Paths.{end}
 use Rattle.fy_types.specs.Reading.{plain_path, plain_paths, paths_from}
 use Rattle.fy_derive.specs.Subsumption.{some_below}
-use Rattle.fy_least.proofs.demands.has.Given as goal
+use Rattle.fy_forms.proofs.demands.has.Given as goal
 
 abbrev pub invariant-loop-path : goal.invariant-loop-path
 invariant-loop-path l =
