@@ -6,6 +6,7 @@ use Rattle.std.specs.Str.{bytes_eq}
 use Rattle.std.proofs.lemmas.Slice.Eq.{bytes_eq-Decides}
 use Rattle.fy_base.specs.Outside.{Bytes}
 use Rattle.fy_types.specs.Print.{atom_text}
+use Rattle.fy_types.specs.declared.types.Atom.TheVariants as atoms
 use Rattle.fy_types.specs.Types.{PlainType, PlainTypes}
 use Rattle.fy_types.specs.Types as types
 use Rattle.fy_types.specs.Words.{is_name_like, is_word, is_identifier}
@@ -138,6 +139,20 @@ parts_texts = (refl, (refl, (refl, (refl, (refl, (refl, (refl, (refl, (refl, tt)
 
 pub type_word-text : (w : Bytes) (x : TypeWord) → type_word w ≡ Some x → w ≡ part_text x
 type_word-text w x h = found part_text w x type_words parts_texts h
+
+part_one : (x : TypeWord) → is_word (part_text x) ≡ true
+part_one part.Ns = refl
+part_one (part.Atom atoms.Int) = refl
+part_one (part.Atom atoms.Bool) = refl
+part_one (part.Atom atoms.Char) = refl
+part_one (part.Atom atoms.Comm) = refl
+part_one (part.Atom atoms.Compl) = refl
+part_one (part.Atom atoms.IntAcc) = refl
+part_one (part.Atom atoms.BoolAcc) = refl
+part_one (part.Atom atoms.CharAcc) = refl
+
+pub type_word-one : (w : Bytes) (x : TypeWord) → type_word w ≡ Some x → is_word w ≡ true
+type_word-one w x h = ap is_word (type_word-text w x h) ∙ part_one x
 
 -- such a word is its type
 pub part_spelled : (names : List Bytes) (x : TypeWord) (r : List Piece) → SpellsType names TypeLevel.field (part_type x) (word (part_text x) ∷ r) r

@@ -35,4 +35,5 @@ pub mod TypeLemmas
 pub mod UniqueLemmas
 pub mod ValueLemmas
 pub mod WholeLemmas
+pub mod WordReads
 pub mod WordTable

@@ -241,10 +241,7 @@ impl Reader {
         let Awaited::Part = self.awaited else {
             return false;
         };
-        if is_word(&self.letters) {
-            return false;
-        }
-        self.levels.is_field_deep()
+        self.levels.is_field_deep() && !is_word(&self.letters)
     }
 
     // The derivation, at the end of its text.
@@ -371,15 +368,15 @@ impl Reader {
         };
         self.begun = Begun::Nothing;
         self.is_loose = true;
-        if !is_word(&self.letters) {
-            self.awaited = Awaited::Colon;
-            return self.levels.field(names.number(&self.letters)?);
+        if let Some(part) = type_word(&self.letters) {
+            self.awaited = Awaited::Joint;
+            return self.levels.word(alloc, part.to_type());
         }
-        let Some(part) = type_word(&self.letters) else {
+        if is_word(&self.letters) {
             return Err(Stop::Misfit);
-        };
-        self.awaited = Awaited::Joint;
-        self.levels.word(alloc, part.to_type())
+        }
+        self.awaited = Awaited::Colon;
+        self.levels.field(names.number(&self.letters)?)
     }
 
     // Ends a number.

@@ -1,10 +1,8 @@
 //! The bytes and the words of a derivation's text.
 
-ghost use Rattle.std.specs.Prelude.{◌≡◌, map, nat_eq};
-ghost use Rattle.std.specs.List.{list_any, starts_with};
-ghost use Rattle.std.specs.Map.{lookup};
+ghost use Rattle.std.specs.Prelude.{◌≡◌, map};
+ghost use Rattle.std.specs.List.{list_any};
 ghost use Rattle.std.specs.Str.{bytes_eq};
-ghost use Rattle.fy_lexer.specs.Reading.{table_of};
 ghost use Rattle.fy_types.specs.Reading.{plain_type};
 ghost use Rattle.fy_types.specs.Words.{is_letter, is_digit, is_name_byte, is_word};
 ghost use Rattle.fy_read.specs.Spelling.{is_blank};
@@ -52,28 +50,55 @@ pub enum NodeWord {
     Rule,
 }
 
-const NODE_WORDS: [(&[u8], NodeWord); 7] = [
-    (b"ns", NodeWord::Ns),
-    (b"sub", NodeWord::Sub),
-    (b"meet", NodeWord::Meet),
-    (b"alt", NodeWord::Alt),
-    (b"left", NodeWord::Left),
-    (b"right", NodeWord::Right),
-    (b"rule", NodeWord::Rule),
-];
-
 /// The node that the letters are the word of.
+#[tactic(auto, using(crate::proofs::WordReads::node_reads), unfolding(crate::specs::Steps::node_words))]
 pub fn node_word(letters: &[u8]) -> Option<NodeWord>
     ensures { result ≡ node_word letters.now }
 {
-    found(&NODE_WORDS, letters)
+    match letters {
+        b"ns" => Some(NodeWord::Ns),
+        b"sub" => Some(NodeWord::Sub),
+        b"meet" => Some(NodeWord::Meet),
+        b"alt" => Some(NodeWord::Alt),
+        b"left" => Some(NodeWord::Left),
+        b"right" => Some(NodeWord::Right),
+        b"rule" => Some(NodeWord::Rule),
+        _ => None,
+    }
 }
 
 /// Whether the word of a node begins with the letters.
+#[tactic(auto, using(crate::proofs::WordReads::node_beginnings), unfolding(crate::specs::Steps::node_words))]
 pub fn begins_node_word(letters: &[u8]) -> bool
     ensures { result ≡ begins_node_word letters.now }
 {
-    any_begins(&NODE_WORDS, letters)
+    matches!(
+        letters,
+        b"" | b"n"
+            | b"ns"
+            | b"s"
+            | b"su"
+            | b"sub"
+            | b"m"
+            | b"me"
+            | b"mee"
+            | b"meet"
+            | b"a"
+            | b"al"
+            | b"alt"
+            | b"l"
+            | b"le"
+            | b"lef"
+            | b"left"
+            | b"r"
+            | b"ri"
+            | b"rig"
+            | b"righ"
+            | b"right"
+            | b"ru"
+            | b"rul"
+            | b"rule"
+    )
 }
 
 /// A word that is a type.
@@ -83,23 +108,23 @@ pub enum TypeWord {
     Atom(Atom),
 }
 
-const TYPE_WORDS: [(&[u8], TypeWord); 9] = [
-    (b"ns", TypeWord::Ns),
-    (b"int", TypeWord::Atom(Atom::Int)),
-    (b"bool", TypeWord::Atom(Atom::Bool)),
-    (b"char", TypeWord::Atom(Atom::Char)),
-    (b"comm", TypeWord::Atom(Atom::Comm)),
-    (b"compl", TypeWord::Atom(Atom::Compl)),
-    (b"intacc", TypeWord::Atom(Atom::IntAcc)),
-    (b"boolacc", TypeWord::Atom(Atom::BoolAcc)),
-    (b"characc", TypeWord::Atom(Atom::CharAcc)),
-];
-
 /// The type that the letters are the word of.
+#[tactic(auto, using(crate::proofs::WordReads::type_reads), unfolding(crate::specs::Steps::type_words))]
 pub fn type_word(letters: &[u8]) -> Option<TypeWord>
     ensures { result ≡ type_word letters.now }
 {
-    found(&TYPE_WORDS, letters)
+    match letters {
+        b"ns" => Some(TypeWord::Ns),
+        b"int" => Some(TypeWord::Atom(Atom::Int)),
+        b"bool" => Some(TypeWord::Atom(Atom::Bool)),
+        b"char" => Some(TypeWord::Atom(Atom::Char)),
+        b"comm" => Some(TypeWord::Atom(Atom::Comm)),
+        b"compl" => Some(TypeWord::Atom(Atom::Compl)),
+        b"intacc" => Some(TypeWord::Atom(Atom::IntAcc)),
+        b"boolacc" => Some(TypeWord::Atom(Atom::BoolAcc)),
+        b"characc" => Some(TypeWord::Atom(Atom::CharAcc)),
+        _ => None,
+    }
 }
 
 impl TypeWord {
@@ -126,30 +151,6 @@ pub fn is_word(letters: &[u8]) -> bool
     ensures { result ≡ is_word letters.now }
 {
     any_is(&WORDS, letters)
-}
-
-// What a table has for a text.
-fn found<T: Copy + Drop>(table: &[(&[u8], T)], text: &[u8]) -> Option<T>
-    ensures { result ≡ lookup (bytes_eq text.now) (table_of table.now) }
-{
-    for (spelling, value) in table {
-        if text == *spelling {
-            return Some(*value);
-        }
-    }
-    None
-}
-
-// Whether a text of a table begins with the letters.
-fn any_begins<T: Copy + Drop>(table: &[(&[u8], T)], letters: &[u8]) -> bool
-    ensures { result ≡ list_any (λ e. starts_with nat_eq e.0 letters.now) (table_of table.now) }
-{
-    for (spelling, _) in table {
-        if spelling.starts_with(letters) {
-            return true;
-        }
-    }
-    false
 }
 
 // Whether a text is one of these.

@@ -1,6 +1,0 @@
-use Rattle.fy_read.specs.Steps.{node_words}
-use Rattle.fy_read.proofs.words.node_word.Goals as goal
-
-pub returns : goal.returns
-unfolding node_words
-returns c = c.found.ensures
