@@ -9,17 +9,32 @@ use Rattle.fy_types.specs.declared.paths.Paths.{Paths}
 use Rattle.fy_types.specs.Paths.{PlainPath, PlainPaths, end, call, pick, no_paths, and_path, append, called, picked}
 use Rattle.fy_types.specs.Reading.{plain_path, plain_paths, paths_from}
 use Rattle.fy_types.specs.Limits.{IsTooLarge}
-use Rattle.fy_types.specs.Bounds.{meet_of, common, commons_with}
+use Rattle.fy_types.specs.Bounds.{meet_of, is_end_low, common, commons_with}
 use Rattle.fy_types.specs.Keeping.{all_added}
-use Rattle.fy_forms.specs.Numbers.{mixed, key_from, key_of}
+use Rattle.fy_forms.specs.Numbers.{mixed, class, key_from, key_of}
 use Rattle.fy_forms.specs.Keys.{has_key, Groups, group_at, IsIndex, lent}
+use Rattle.fy_types.proofs.BoundLemmas.{is_end_low-sound}
 use Rattle.fy_types.proofs.Laws.{append-none}
 use Rattle.fy_forms.proofs.KeepLemmas.{commons_with-append, all_added-append, large-all_added}
-use Rattle.fy_forms.proofs.KeyLemmas.{lent-now, lent-append}
+use Rattle.fy_forms.proofs.KeyLemmas.{class-below, lent-now, lent-append}
 
 -- paths whose keys differ have no common path
 common-apart : (n : ℕ) (p q : PlainPath) → is_eq (nat_cmp (key_from n q) (key_from n p)) ≡ false → common p q ≡ no_paths
-common-apart n (end a) (end b) apart = let tied = ap is_eq (tied_itself nat_cmp_total n) in absurd (cc)
+common-apart n (end a) (end b) apart = first (is_end_low a b) refl
+  where
+    other : class a ≡ class b → ⊥
+    other e =
+        let tied : is_eq (nat_cmp (mixed n (class b)) (mixed n (class a))) ≡ true =
+        rw e (ap is_eq (tied_itself nat_cmp_total (mixed n (class b)))) in cc
+
+    second : (low : Bool) → is_end_low b a ≡ low → (if low then and_path (end a) no_paths else no_paths) ≡ no_paths
+    second true e = absurd (other (sym (class-below (is_end_low-sound b a e))))
+    second false e = refl
+
+    first : (low : Bool) → is_end_low a b ≡ low →
+        (if low then and_path (end b) no_paths else (if is_end_low b a then and_path (end a) no_paths else no_paths)) ≡ no_paths
+    first true e = absurd (other (class-below (is_end_low-sound a b e)))
+    first false e = second (is_end_low b a) refl
 common-apart n (end a) (call E q) apart = refl
 common-apart n (end a) (pick j q) apart = refl
 common-apart n (call D p) (end b) apart = refl

@@ -63,7 +63,7 @@ added-once : (P : PlainPaths) (p : PlainPath) → added (once P) p ≡ once (app
 added-once no_paths p = refl
 added-once (and_path x P) p = added-behind x (once P) p ∙ ap (λ X. and_path x (without x X)) (added-once P p)
 
-all_added-once : (P Q : PlainPaths) → all_added (once P) Q ≡ once (append P Q)
+pub all_added-once : (P Q : PlainPaths) → all_added (once P) Q ≡ once (append P Q)
 all_added-once P no_paths = ap once (sym (append-none P))
 all_added-once P (and_path q Q) =
     ap (λ X. all_added X Q) (added-once P q)

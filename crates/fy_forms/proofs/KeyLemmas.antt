@@ -10,15 +10,16 @@ use Rattle.std.specs.BTreeMap.{get, is_at}
 use Rattle.std.specs.Ordering.{is_eq, nat_cmp}
 use Rattle.std.specs.declared.cmp.Ordering.{Ordering}
 use Rattle.std.specs.declared.cmp.Ordering.TheVariants.{Less, Equal, Greater}
+use Rattle.fy_types.specs.declared.types.Atom.{Atom}
 use Rattle.fy_types.specs.declared.paths.Path as tree
 use Rattle.fy_types.specs.declared.paths.Path.{Path, size-Path}
 use Rattle.fy_types.specs.declared.paths.Paths.{Paths, size-Paths}
 use Rattle.fy_types.specs.Once.{is_same, contains}
 use Rattle.fy_types.specs.Paths.{PlainPath, PlainPaths, no_paths, and_path, append}
-use Rattle.fy_types.specs.PathOrder.{IsPathBelow, ends, calls, picks, HasBelow, here, there}
+use Rattle.fy_types.specs.PathOrder.{IsEndBelow, same_end, compl_below, IsPathBelow, ends, calls, picks, HasBelow, here, there}
 use Rattle.fy_types.specs.Reading.{PlainElem, a_call, a_field, front, plain_path, paths_from, paths_in}
 use Rattle.fy_types.proofs.OnceLemmas.{is_same-sound, is_same-refl}
-use Rattle.fy_forms.specs.Numbers.{mixed, mark, key_from, key_of, number_of, path_number, elem_number}
+use Rattle.fy_forms.specs.Numbers.{mixed, mark, class, key_from, key_of, number_of, path_number, elem_number}
 use Rattle.fy_forms.specs.Keys.{has_key, Groups, group_at, IsGrown, IsIndex, lent, deepest, Places, IsSeen, IsMarked}
 
 -- the key of a path from its first element on
@@ -26,8 +27,13 @@ pub key-front : (n : ℕ) (x : PlainElem) (p : PlainPath) → key_from n (front 
 key-front n (a_call D) p = refl
 key-front n (a_field i) p = refl
 
+-- ends that are below one another are of one class
+pub class-below : {a b : Atom} → IsEndBelow a b → class a ≡ class b
+class-below same_end = refl
+class-below compl_below = refl
+
 key_from-below : (n : ℕ) {p q : PlainPath} → IsPathBelow p q → key_from n p ≡ key_from n q
-key_from-below n (ends low) = refl
+key_from-below n (ends low) = ap (mixed n) (class-below low)
 key_from-below n (calls wide low) = key_from-below (mixed n 0) low
 key_from-below n (picks {i = i} low) = key_from-below (mixed n (i + 1)) low
 
@@ -119,12 +125,12 @@ lookup-alike : {K X : Type 0} (t u : K → Bool) (es : List (K × X)) → ((x : 
 lookup-alike t u [] same = refl
 lookup-alike t u (e ∷ es) same = rw (same e.0, lookup-alike t u es same) refl
 
-is_equal : (r : Ordering) → is_eq r ≡ true → r ≡ Equal
+pub is_equal : (r : Ordering) → is_eq r ≡ true → r ≡ Equal
 is_equal Less e = cc
 is_equal Equal e = refl
 is_equal Greater e = cc
 
-group-alike : (m : Groups) (a b : ℕ) → nat_cmp a b ≡ Equal → group_at m a ≡ group_at m b
+pub group-alike : (m : Groups) (a b : ℕ) → nat_cmp a b ≡ Equal → group_at m a ≡ group_at m b
 group-alike m a b same =
     ap (λ o. option_map_or (λ g. g.items) o [])
     (lookup-alike (is_at (nat_cmp a)) (is_at (nat_cmp b)) m.entries (λ x. ap is_eq (nat_cmp_total.congr a b x same)))

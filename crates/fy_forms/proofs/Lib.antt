@@ -1,5 +1,7 @@
 pub mod CommonLemmas
+pub mod FreshLemmas
 pub mod JoinLemmas
 pub mod KeepLemmas
 pub mod KeyLemmas
 pub mod DemandLemmas
+pub mod RowLemmas

@@ -3,3 +3,4 @@ pub mod Keys
 pub mod Merging
 pub mod Sized
 pub mod Demands
+pub mod Rows

@@ -1,6 +1,9 @@
--- A path's number, which is made of all of it from the front, and its key, which leaves out the domains and the end: of paths that are equal the numbers
--- are equal, and of paths that are below one another the keys.
+-- A path's number, which is made of all of it from the front, and its key, which leaves out the domains: of paths that are equal the numbers are equal,
+-- and of paths that are below one another, or have a common path, the keys.
 use Rattle.std.specs.Prelude.{ℕ, ◌+◌, ◌*◌, ◌^◌, ◌%◌}
+use Rattle.fy_types.specs.declared.types.Atom.{Atom}
+use Rattle.fy_types.specs.declared.types.Atom.TheVariants.{Int, Char, Comm, Compl, IntAcc, BoolAcc, CharAcc}
+use Rattle.fy_types.specs.declared.types.Atom.TheVariants as atoms
 use Rattle.fy_types.specs.Once.{place}
 use Rattle.fy_types.specs.Paths.{PlainPath, PlainPaths, end, call, pick, no_paths, and_path}
 use Rattle.fy_types.specs.Reading.{PlainElem, a_call, a_field}
@@ -31,8 +34,19 @@ abbrev pub mark : PlainElem → ℕ
 mark (a_call D) = 0
 mark (a_field i) = i + 1
 
+-- an end's class: those that are below one another are of one class
+abbrev pub class : Atom → ℕ
+class Int = 0
+class atoms.Bool = 1
+class Char = 2
+class Comm = 3
+class Compl = 3
+class IntAcc = 4
+class BoolAcc = 5
+class CharAcc = 6
+
 abbrev pub key_from : ℕ → PlainPath → ℕ
-key_from n (end a) = n
+key_from n (end a) = mixed n (class a)
 key_from n (call D p) = key_from (mixed n 0) p
 key_from n (pick i p) = key_from (mixed n (i + 1)) p
 

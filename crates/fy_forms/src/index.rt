@@ -2,19 +2,20 @@
 
 ghost use Rattle.std.specs.Prelude.{◌≡◌, [], IfOk, OnOk};
 ghost use Rattle.fy_forms.specs.Keys.{group_at, IsGrown, IsIndex};
-ghost use Rattle.fy_forms.specs.Numbers.{key_of as key_of_path, mark as mark_of};
+ghost use Rattle.fy_forms.specs.Numbers.{class as class_of, key_of as key_of_path, mark as mark_of};
 ghost use Rattle.fy_types.specs.Reading.{plain_elem, plain_path};
 
 use crate::number::mixed;
 use fy_base::OutOfMemory;
-use fy_types::{Path, PathElem};
+use fy_types::{Atom, Path, PathElem};
 use std::alloc::Global;
 use std::collections::BTreeMap;
 
 /// The paths of a list by their keys, those of one key in the list's order.
 pub(crate) type Groups<'a> = BTreeMap<u64, Vec<&'a Path>>;
 
-/// The key of a path, which it has in common with the paths below it and above it.
+/// The key of a path, which it has in common with the paths below it and above it, and with those
+/// that it has a common path with.
 pub(crate) fn key_of(path: &Path) -> u64
     ensures { result ≡ key_of_path (plain_path path.now) }
 {
@@ -22,7 +23,7 @@ pub(crate) fn key_of(path: &Path) -> u64
     for elem in path.elems.as_slice() {
         key = mixed(key, mark(elem));
     }
-    key
+    mixed(key, class(path.end))
 }
 
 fn mark(elem: &PathElem) -> u64
@@ -31,6 +32,20 @@ fn mark(elem: &PathElem) -> u64
     match elem {
         PathElem::Call(_) => 0,
         PathElem::Field(name) => u64::from(*name) + 1,
+    }
+}
+
+fn class(end: Atom) -> u64
+    ensures { result ≡ class_of end }
+{
+    match end {
+        Atom::Int => 0,
+        Atom::Bool => 1,
+        Atom::Char => 2,
+        Atom::Comm | Atom::Compl => 3,
+        Atom::IntAcc => 4,
+        Atom::BoolAcc => 5,
+        Atom::CharAcc => 6,
     }
 }
 

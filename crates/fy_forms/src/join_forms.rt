@@ -7,17 +7,23 @@ ghost use Rattle.fy_types.specs.Limits.{IsWithinLimits, IsTooLarge};
 ghost use Rattle.fy_forms.specs.Sized.{IsSized};
 ghost use Rattle.fy_types.specs.Bounds.{common_end as end_of_both, common, commons_with, join_of, IsLeastUpperBound};
 ghost use Rattle.fy_types.specs.Keeping.{all_added, is_some, are_alike};
-ghost use Rattle.fy_forms.specs.Keys.{lent, IsSeen};
+ghost use Rattle.fy_forms.specs.Keys.{group_at, lent, IsSeen};
+ghost use Rattle.fy_forms.specs.Numbers.{key_of as key_of_path};
+ghost use Rattle.fy_forms.specs.Rows.{AreKnown};
 ghost use Rattle.fy_forms.specs.Merging.{merged, elem_domain, IsMerged};
 
 use crate::error::TypeError;
-use crate::index::{candidates, groups_of, key_of};
+use crate::fresh::{KnownKeys, fresh_for};
+use crate::index::{Groups, candidates, groups_of, key_of};
 use crate::kept::{Places, keep};
 use crate::meet_forms::meet_form;
 use crate::sized::{MOST_NODES, Sized};
 use fy_types::{Atom, ElemList, Path, PathElem, Paths, is_end_below};
 use std::alloc::Global;
 use std::collections::BTreeMap;
+
+// Of fewer paths each is taken, since rows of them cost more.
+const FEW: usize = 8;
 
 /// The common paths of each path of the first form and each path of the second, in order, each
 /// once, at its first place. This stands for a least upper bound of the two types.
@@ -49,14 +55,46 @@ fn join_form(alloc: Global, a: &Paths, b: &Paths) -> Result<Sized, TypeError>
         IsTooLarge (join_of (plain_paths a.now) (plain_paths b.now)) }
 {
     let groups = groups_of(alloc, b.as_slice())?;
-    let none = Vec::new(alloc);
     let mut places = BTreeMap::new(alloc);
+    let mut known = BTreeMap::new(alloc);
     let mut form = Sized::none(alloc);
     for path in a.as_slice() {
-        let list = candidates(&groups, key_of(path), &none);
-        form = keep_commons(alloc, form, &mut places, path, list)?;
+        form = keep_fresh(alloc, form, &mut places, &groups, &mut known, path)?;
     }
     Ok(form)
+}
+
+// The common paths of the path with those that have its key.
+fn keep_fresh<'a>(
+    alloc: Global,
+    kept: Sized,
+    places: &mut Places,
+    groups: &Groups<'a>,
+    known: &mut KnownKeys<'a>,
+    path: &Path,
+) -> Result<Sized, TypeError>
+    requires sized { IsSized kept (plain_paths kept.paths) }
+    requires seen { IsSeen places.old (plain_paths kept.paths) }
+    requires known { AreKnown known.old groups.now }
+    ensures ok { IfOk result
+        (λ s. IsSized s (all_added (plain_paths kept.paths)
+        (commons_with (plain_path path.now)
+        (lent (group_at groups.now (key_of_path (plain_path path.now))))))) }
+    ensures seen { IfOk result (λ s. IsSeen places.new (plain_paths s.paths)) }
+    ensures known { OnOk result (AreKnown known.new groups.now) }
+    ensures large { IsErrOf result TypeError.TypeTooLarge →
+        IsTooLarge (all_added (plain_paths kept.paths)
+        (commons_with (plain_path path.now)
+        (lent (group_at groups.now (key_of_path (plain_path path.now)))))) }
+{
+    let none = Vec::new(alloc);
+    let key = key_of(path);
+    let list = candidates(groups, key, &none);
+    if list.len() < FEW {
+        return keep_commons(alloc, kept, places, path, list);
+    }
+    let fresh = fresh_for(alloc, groups, known, key, path, list)?;
+    keep_commons(alloc, kept, places, path, &fresh)
 }
 
 fn keep_commons(
@@ -107,7 +145,8 @@ fn keep_common(
     keep(alloc, kept, places, &path)
 }
 
-fn has_common(p: &Path, q: &Path) -> bool
+/// Whether the paths have a common path.
+pub(crate) fn has_common(p: &Path, q: &Path) -> bool
     ensures { result ≡ is_some (common (plain_path p.now) (plain_path q.now)) }
 {
     let xs = p.elems.as_slice();

@@ -4,12 +4,14 @@
 mod demands;
 mod error;
 mod form;
+mod fresh;
 mod index;
 mod join_forms;
 mod kept;
 mod keyed;
 mod meet_forms;
 mod number;
+mod rows;
 mod same;
 mod size;
 mod sized;

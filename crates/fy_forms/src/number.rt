@@ -55,7 +55,8 @@ fn paths_after(start: u64, paths: &Paths) -> u64
     number
 }
 
-fn place(atom: Atom) -> u64
+/// The place of an atom among the atoms.
+pub(crate) fn place(atom: Atom) -> u64
     ensures { result ≡ place_of atom }
 {
     match atom {

@@ -19,4 +19,4 @@ loop-elem-preserved c =
 pub returns : goal.returns
 returns c =
     let none = drop_end plain_elem c.as_slice-elem-items.result.now c.loop-elem.elem-index c.loop-elem-test.false in
-    rw none at c.loop-elem.invariant
+    rw (c.mixed.ensures, c.class.ensures) (rw none at c.loop-elem.invariant)
