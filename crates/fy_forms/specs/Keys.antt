@@ -9,6 +9,7 @@ use Rattle.std.specs.declared.alloc.Global.{Global}
 use Rattle.std.specs.declared.vec.Vec.{Vec}
 use Rattle.fy_types.specs.declared.paths.Path.{Path, size-Path}
 use Rattle.fy_forms.specs.declared.keyed.PathIndex.{PathIndex}
+use Rattle.fy_forms.specs.Levels.{MayBeLevels}
 use Rattle.fy_forms.specs.Numbers.{key_of, number_of}
 use Rattle.fy_types.specs.Once.{contains}
 use Rattle.fy_types.specs.Paths.{PlainPath, PlainPaths}
@@ -42,9 +43,9 @@ abbrev pub deepest : List (Bor Path) → ℕ
 deepest [] = 0
 deepest (p ∷ ps) = max (size-Path p.now) (deepest ps)
 
--- the index has the form's paths by their keys
+-- the index has the form's paths by their keys, and the levels are theirs, if there are any
 abbrev pub IsWhole : PathIndex → Type 0
-IsWhole i = IsIndex i.groups (paths_in i.form.now)
+IsWhole i = IsIndex i.groups (paths_in i.form.now) × MayBeLevels i.levels.items (plain_paths i.form.now)
 
 -- the paths of the form that the index is of
 abbrev pub indexed : PathIndex → PlainPaths

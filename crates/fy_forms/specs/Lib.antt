@@ -4,3 +4,5 @@ pub mod Merging
 pub mod Sized
 pub mod Demands
 pub mod Rows
+pub mod Levels
+pub mod Searching

@@ -26,7 +26,7 @@ pub(crate) fn key_of(path: &Path) -> u64
     mixed(key, class(path.end))
 }
 
-fn mark(elem: &PathElem) -> u64
+pub(crate) fn mark(elem: &PathElem) -> u64
     ensures { result ≡ mark_of (plain_elem elem.now) }
 {
     match elem {

@@ -1,14 +1,17 @@
 //! Subtyping of path forms, whose paths are looked up by their keys.
 
-ghost use Rattle.std.specs.Prelude.{◌≡◌, ◌↔◌, IsTrue, IfOk};
+ghost use Rattle.std.specs.Prelude.{◌≡◌, ◌↔◌, false, IsTrue, IfOk};
 ghost use Rattle.fy_forms.specs.Keys.{lent, indexed, IsIndex, IsWhole};
+ghost use Rattle.fy_forms.specs.Levels.{AreLevels, MayBeLevels, all_tagged};
 ghost use Rattle.fy_types.specs.Paths.{type_of_paths};
 ghost use Rattle.fy_types.specs.Subtyping.{IsSubtype};
 ghost use Rattle.fy_types.specs.PathOrder.{IsPathBelow, ArePathsBelow, HasBelow};
 ghost use Rattle.fy_types.specs.Reading.{IsElemBelow, paths_in, plain_elem, plain_path, plain_paths, type_of_form};
 
 use crate::index::{Groups, candidates, groups_of, key_of};
+use crate::levels::{Level, Tagged, levels_of};
 use crate::same::are_same_paths;
+use crate::search::below;
 use fy_base::OutOfMemory;
 use fy_types::{Path, PathElem, Paths, is_end_below};
 use std::alloc::Global;
@@ -21,6 +24,8 @@ const FEW: usize = 16;
 pub struct PathIndex<'a> {
     form: &'a Paths,
     groups: Groups<'a>,
+    // None, where no path has many of its key.
+    levels: Vec<Level>,
 }
 
 impl<'a> PathIndex<'a> {
@@ -30,7 +35,12 @@ impl<'a> PathIndex<'a> {
         ensures form { IfOk result (λ index. indexed index ≡ plain_paths form.now) }
     {
         let groups = groups_of(alloc, form.as_slice())?;
-        Ok(PathIndex { form, groups })
+        let levels = levels_where(alloc, &groups, form)?;
+        Ok(PathIndex {
+            form,
+            groups,
+            levels,
+        })
     }
 
     /// Whether the type that the form stands for is a subtype of the other's.
@@ -39,7 +49,13 @@ impl<'a> PathIndex<'a> {
         ensures { IfOk result
             (λ r. IsTrue r ↔ IsSubtype (type_of_paths (indexed self.now)) (type_of_form other.now)) }
     {
-        are_keyed_below(alloc, self.form, &self.groups, other)
+        are_keyed_below(
+            alloc,
+            self.form,
+            &self.groups,
+            self.levels.as_slice(),
+            other,
+        )
     }
 }
 
@@ -63,7 +79,8 @@ fn are_paths_below(alloc: Global, a: &Paths, b: &Paths) -> Result<bool, OutOfMem
         return are_few_below(alloc, a, b);
     }
     let groups = groups_of(alloc, a.as_slice())?;
-    are_keyed_below(alloc, a, &groups, b)
+    let levels = levels_where(alloc, &groups, a)?;
+    are_keyed_below(alloc, a, &groups, levels.as_slice(), b)
 }
 
 #[cycle(keyed)]
@@ -71,19 +88,89 @@ fn are_keyed_below(
     alloc: Global,
     a: &Paths,
     groups: &Groups<'_>,
+    levels: &[Level],
     b: &Paths,
 ) -> Result<bool, OutOfMemory>
-    requires { IsIndex groups.now (paths_in a.now) }
+    requires groups { IsIndex groups.now (paths_in a.now) }
+    requires levels { MayBeLevels levels.now (plain_paths a.now) }
     ensures { IfOk result (λ r. IsTrue r ↔ ArePathsBelow (plain_paths a.now) (plain_paths b.now)) }
 {
-    let none = Vec::new(alloc);
     for path in b.as_slice() {
-        let list = candidates(groups, key_of(path), &none);
-        if !is_some_below(alloc, list, path)? {
+        if !is_one_below(alloc, a, groups, levels, path)? {
             return Ok(false);
         }
     }
     Ok(true)
+}
+
+// Whether one of the form's paths is below the path.
+#[cycle(keyed)]
+fn is_one_below(
+    alloc: Global,
+    a: &Paths,
+    groups: &Groups<'_>,
+    levels: &[Level],
+    above: &Path,
+) -> Result<bool, OutOfMemory>
+    requires groups { IsIndex groups.now (paths_in a.now) }
+    requires levels { MayBeLevels levels.now (plain_paths a.now) }
+    ensures { IfOk result (λ r. IsTrue r ↔ HasBelow (plain_paths a.now) (plain_path above.now)) }
+{
+    let none = Vec::new(alloc);
+    let list = candidates(&*groups, key_of(above), &none);
+    if list.len() < FEW || levels.len() == 0 {
+        is_some_below(alloc, list, above)
+    } else {
+        is_found_below(alloc, a, levels, above)
+    }
+}
+
+// Whether many paths have one key.
+fn has_many(groups: &Groups<'_>) -> bool {
+    for list in groups.values() {
+        if list.len() >= FEW {
+            return true;
+        }
+    }
+    false
+}
+
+// The levels of the form's paths, or none where no path has many of its key.
+fn levels_where(alloc: Global, groups: &Groups<'_>, form: &Paths) -> Result<Vec<Level>, OutOfMemory>
+    ensures { IfOk result (λ levels. MayBeLevels levels.items (plain_paths form.now)) }
+{
+    if has_many(groups) {
+        levels_of(alloc, form.as_slice())
+    } else {
+        Ok(Vec::new(alloc))
+    }
+}
+
+#[cycle(keyed)]
+fn is_found_below(
+    alloc: Global,
+    paths: &Paths,
+    levels: &[Level],
+    above: &Path,
+) -> Result<bool, OutOfMemory>
+    requires { AreLevels false levels.now (all_tagged 0 (plain_paths paths.now)) }
+    ensures { IfOk result (λ r. IsTrue r ↔ HasBelow (plain_paths paths.now) (plain_path above.now)) }
+{
+    let places = below(
+        alloc,
+        levels,
+        Tagged {
+            tag: 0,
+            path: above,
+        },
+    )?;
+    let members = paths.as_slice();
+    for place in places.as_slice() {
+        if is_path_below(alloc, &members[*place], above)? {
+            return Ok(true);
+        }
+    }
+    Ok(false)
 }
 
 #[cycle(keyed)]

@@ -9,10 +9,12 @@ mod index;
 mod join_forms;
 mod kept;
 mod keyed;
+mod levels;
 mod meet_forms;
 mod number;
 mod rows;
 mod same;
+mod search;
 mod size;
 mod sized;
 

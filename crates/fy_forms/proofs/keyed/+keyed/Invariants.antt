@@ -1,6 +1,6 @@
-use Rattle.std.proofs.Common.{◌↔◌, ◌+◌, ◌*◌, drop, map}
+use Rattle.std.proofs.Common.{ℕ, ◌<◌, ◌≡◌, ◌↔◌, ◌+◌, ◌*◌, drop, map, get_or}
 use Rattle.fy_types.specs.declared.paths.PathElem.{size-PathElem}
-use Rattle.fy_types.specs.declared.paths.Path.{size-Path}
+use Rattle.fy_types.specs.declared.paths.Path.{Path, size-Path}
 use Rattle.fy_types.specs.declared.paths.Paths.{size-Paths}
 use Rattle.fy_forms.specs.Keys.{lent, deepest}
 use Rattle.fy_types.specs.Paths.{end}
@@ -54,3 +54,14 @@ decreases-is_path_below l = 4 * (size-Path l.p.now + size-Path l.q.now)
 
 abbrev pub decreases-is_elem_below : goal.decreases-is_elem_below
 decreases-is_elem_below l = 4 * (size-PathElem l.x.now + size-PathElem l.y.now)
+
+abbrev pub decreases-is_found_below : goal.decreases-is_found_below
+decreases-is_found_below l = 4 * (size-Paths l.paths.now + size-Path l.above.now) + 1
+
+abbrev pub decreases-is_one_below : goal.decreases-is_one_below
+decreases-is_one_below l = 4 * (size-Paths l.a.now + size-Path l.above.now) + 2
+
+-- none of the paths so far is below
+abbrev pub invariant-is_found_below-loop-place : goal.invariant-is_found_below-loop-place
+invariant-is_found_below-loop-place l =
+    (j : ℕ) (x : Path) → j < l.place-index → x ≡ get_or l.members (get_or l.place-items j 0) x → IsPathBelow (plain_path x) (plain_path l.above) → ⊥
