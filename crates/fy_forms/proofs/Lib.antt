@@ -1,13 +1,6 @@
-pub mod ChosenLemmas
 pub mod CommonLemmas
 pub mod FreshLemmas
 pub mod JoinLemmas
 pub mod KeepLemmas
 pub mod KeyLemmas
-pub mod DemandLemmas
 pub mod RowLemmas
-pub mod FoundLemmas
-pub mod DepthLemmas
-pub mod LevelLemmas
-pub mod LevelSteps
-pub mod SearchLemmas

@@ -8,12 +8,10 @@ use Rattle.std.specs.Ordering.{is_eq, nat_cmp}
 use Rattle.std.specs.declared.alloc.Global.{Global}
 use Rattle.std.specs.declared.vec.Vec.{Vec}
 use Rattle.fy_types.specs.declared.paths.Path.{Path, size-Path}
-use Rattle.fy_forms.specs.declared.keyed.PathIndex.{PathIndex}
-use Rattle.fy_forms.specs.Levels.{MayBeLevels}
 use Rattle.fy_forms.specs.Numbers.{key_of, number_of}
 use Rattle.fy_types.specs.Once.{contains}
 use Rattle.fy_types.specs.Paths.{PlainPath, PlainPaths}
-use Rattle.fy_types.specs.Reading.{plain_path, plain_paths, paths_from, paths_in}
+use Rattle.fy_types.specs.Reading.{plain_path, paths_from}
 
 -- the path has the key
 abbrev pub has_key : ℕ → Path → Bool
@@ -42,14 +40,6 @@ lent ps = paths_from (map (λ p. plain_path p.now) ps)
 abbrev pub deepest : List (Bor Path) → ℕ
 deepest [] = 0
 deepest (p ∷ ps) = max (size-Path p.now) (deepest ps)
-
--- the index has the form's paths by their keys, and the levels are theirs, if there are any
-abbrev pub IsWhole : PathIndex → Type 0
-IsWhole i = IsIndex i.groups (paths_in i.form.now) × MayBeLevels i.levels.items (plain_paths i.form.now)
-
--- the paths of the form that the index is of
-abbrev pub indexed : PathIndex → PlainPaths
-indexed i = plain_paths i.form.now
 
 -- places of kept paths by their numbers
 abbrev pub Places : Type 0

@@ -12,11 +12,11 @@ use std::alloc::Global;
 use std::collections::BTreeMap;
 
 /// The paths of a list by their keys, those of one key in the list's order.
-pub(crate) type Groups<'a> = BTreeMap<u64, Vec<&'a Path>>;
+pub type Groups<'a> = BTreeMap<u64, Vec<&'a Path>>;
 
 /// The key of a path, which it has in common with the paths below it and above it, and with those
 /// that it has a common path with.
-pub(crate) fn key_of(path: &Path) -> u64
+pub fn key_of(path: &Path) -> u64
     ensures { result ≡ key_of_path (plain_path path.now) }
 {
     let mut key = 0;
@@ -26,7 +26,8 @@ pub(crate) fn key_of(path: &Path) -> u64
     mixed(key, class(path.end))
 }
 
-pub(crate) fn mark(elem: &PathElem) -> u64
+/// What an element adds to a key: that it is a call, or a field's name.
+pub fn mark(elem: &PathElem) -> u64
     ensures { result ≡ mark_of (plain_elem elem.now) }
 {
     match elem {
@@ -50,7 +51,7 @@ fn class(end: Atom) -> u64
 }
 
 /// The paths by their keys.
-pub(crate) fn groups_of<'a>(alloc: Global, list: &'a [Path]) -> Result<Groups<'a>, OutOfMemory>
+pub fn groups_of<'a>(alloc: Global, list: &'a [Path]) -> Result<Groups<'a>, OutOfMemory>
     ensures { IfOk result (λ groups. IsIndex groups list.now) }
 {
     let mut groups = BTreeMap::new(alloc);
@@ -72,7 +73,7 @@ fn add<'a>(alloc: Global, groups: &mut Groups<'a>, path: &'a Path) -> Result<(),
 }
 
 /// The paths of the key, which are none where the map has nothing at it.
-pub(crate) fn candidates<'i, 'a>(
+pub fn candidates<'i, 'a>(
     groups: &'i Groups<'a>,
     key: u64,
     none: &'i Vec<&'a Path>,

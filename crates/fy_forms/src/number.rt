@@ -15,7 +15,7 @@ pub(crate) fn number_of(path: &Path) -> u64
 }
 
 /// The number that a mark makes of the number before it.
-pub(crate) fn mixed(number: u64, mark: u64) -> u64
+pub fn mixed(number: u64, mark: u64) -> u64
     ensures { result ≡ mixed_of number mark }
 {
     number
@@ -56,7 +56,7 @@ fn paths_after(start: u64, paths: &Paths) -> u64
 }
 
 /// The place of an atom among the atoms.
-pub(crate) fn place(atom: Atom) -> u64
+pub fn place(atom: Atom) -> u64
     ensures { result ≡ place_of atom }
 {
     match atom {

@@ -20,7 +20,7 @@ pub(crate) fn has_path(list: &Paths, path: &Path) -> bool
 
 /// Whether the lists have the same paths in the same order.
 #[cycle(same)]
-pub(crate) fn are_same_paths(a: &Paths, b: &Paths) -> bool
+pub fn are_same_paths(a: &Paths, b: &Paths) -> bool
     ensures { IsTrue result ↔ (plain_paths a.now ≡ plain_paths b.now) }
 {
     let ps = a.as_slice();

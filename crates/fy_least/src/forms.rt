@@ -28,7 +28,8 @@ use crate::rules::{rule_of_one, rule_of_two};
 use crate::scope::{Scope, form_at};
 use fy_base::{OutOfMemory, Place};
 use fy_derive::{Demand, Derivation, DerivationList};
-use fy_forms::{are_paths_below, has, join, meet, others, paths_of, rests_of_call, rests_of_field};
+use fy_forms::{join, meet, paths_of};
+use fy_order::{are_paths_below, has, others, rests_of_call, rests_of_field};
 use fy_types::{Atom, Name, Paths, Ty, copy_ty, ty_of};
 use std::alloc::Global;
 

@@ -26,7 +26,8 @@ use fy_base::{BinOp, OutOfMemory, Place, PutKind, UnOp};
 use fy_derive::{
     acceptor_atom, data_atom, datum_atom, demand_of, operand_atom, put_atom, unary_atom,
 };
-use fy_forms::{one_end, paths_of};
+use fy_forms::paths_of;
+use fy_order::one_end;
 use fy_phrase::{DataTy, Parts, Phrase};
 use fy_types::{Atom, ElemList, Name, Path, Paths, Ty, TyList, copy_paths};
 use std::alloc::Global;

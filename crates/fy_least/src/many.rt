@@ -34,7 +34,8 @@ use crate::found::{Found, arrow_to, both, to_atom, to_paths, to_type};
 use crate::size::size_of;
 use fy_base::{OutOfMemory, Place};
 use fy_derive::{Derivation, DerivationList};
-use fy_forms::{TypeError, has, join, meet, paths_of};
+use fy_forms::{TypeError, join, meet, paths_of};
+use fy_order::has;
 use fy_types::{Atom, Paths, Ty, copy_paths, copy_ty, ty_of};
 use std::alloc::Global;
 

@@ -29,7 +29,7 @@ use crate::error::LeastError;
 use crate::found::{Found, both, to_atom};
 use fy_base::{BinOp, OutOfMemory, Place};
 use fy_derive::{Derivation, DerivationList, acceptor_atom, binary_atom, data_atom, takes};
-use fy_forms::{has, one_end};
+use fy_order::{has, one_end};
 use fy_phrase::DataTy;
 use fy_types::{Atom, Paths};
 use std::alloc::Global;

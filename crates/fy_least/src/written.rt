@@ -9,7 +9,8 @@ ghost use Rattle.fy_types.specs.Reading.{plain_paths, plain_type, plain_types};
 use crate::error::LeastError;
 use crate::found::field_of;
 use crate::many::paths_of_call;
-use fy_forms::{TypeError, meet, one_end, paths_of};
+use fy_forms::{TypeError, meet, paths_of};
+use fy_order::one_end;
 use fy_types::{Name, Paths, Ty, TyList};
 use std::alloc::Global;
 

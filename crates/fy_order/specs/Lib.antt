@@ -1,0 +1,4 @@
+pub mod Levels
+pub mod Searching
+pub mod Demands
+pub mod Indexed

@@ -1,0 +1,10 @@
+//! The order of path forms, and what they have behind a call or a field.
+#![tactic(auto)]
+
+mod demands;
+mod keyed;
+mod levels;
+mod search;
+
+pub use demands::{are_paths_below, has, one_end, others, rests_of_call, rests_of_field};
+pub use keyed::{PathIndex, is_form_below};
