@@ -4,14 +4,12 @@ mod Cuts
 mod Ends
 mod Tails
 mod TokenPlaces
-mod UniqueLemmas
 mod ComposedLemmas
 mod PlaceOrder
 mod JoinLemmas
 mod SourceLemmas
 mod HeadLemmas
 mod SameSources
-mod NotRefused
 mod KnownNames
 mod TailSteps
 mod ProgramLemmas

@@ -1,21 +1,20 @@
 -- Values of the code that are units, and refusals of their makers.
 use Rattle.std.proofs.Common.{◌≡◌, ◌⊎◌, inl, inr, ℕ, ◌≤◌, List, length, map, reverse, refl, sym, ap, ◌∙◌, subst, arith}
-use Rattle.std.specs.Prelude.{Option, Some, None, Result, Ok, Err, IfErr, IsErrAnd}
+use Rattle.std.specs.Prelude.{Some, None, Result, Ok, Err, IfErr, IsErrAnd}
 use Rattle.fy_base.specs.Outside.{Bytes}
 use Rattle.fy_types.specs.Types.{PlainType}
 use Rattle.fy_types.specs.Nested.{type_nesting}
 use Rattle.fy_types.specs.declared.types.TyList.{TyList}
 use Rattle.fy_types.specs.Reading.{plain_type, types_in}
 use Rattle.fy_lexer.specs.Tokens.{HasAdded}
+use Rattle.fy_lexer.proofs.NamesLemmas.{HasAdded-then}
 use Rattle.fy_phrase.specs.declared.phrase.Phrase.{Phrase}
 use Rattle.fy_phrase.specs.CoreLimits.{KeepsCoreLimits}
 use Rattle.fy_phrase.specs.Reads.{reads}
 use Rattle.fy_phrase.specs.Tree.{Tree}
 use Rattle.fy_derive.specs.Derivations.{PlainDerivation}
-use Rattle.fy_derive.specs.declared.derivation.Derivation.{Derivation}
 use Rattle.fy_derive.specs.Judging.{judged, concludes, refusal_at, in_scope}
 use Rattle.fy_derive.specs.Limits.{KeepsLimits, most_type_nesting}
-use Rattle.fy_derive.specs.Reading.{plain_derivation}
 use Rattle.fy_least.specs.declared.error.FindError.{FindError}
 use Rattle.fy_least.specs.declared.error.FindError.TheVariants as unfound
 use Rattle.fy_least.specs.Finding.{IsFindingOf}
@@ -24,9 +23,9 @@ use Rattle.fy_link.specs.declared.error.UnitError.TheVariants as refused
 use Rattle.fy_link.specs.declared.source.Said.{Said}
 use Rattle.fy_link.specs.declared.unit.Unit.{Unit as UnitValue}
 use Rattle.fy_link.specs.Answers.{of_find}
-use Rattle.fy_link.specs.Read.{plain_named, plain_said, plain_unit}
-use Rattle.fy_link.specs.Sources.{PlainSource, IsSource, IsSourceFault}
-use Rattle.fy_link.specs.Units.{PlainUnit, context_of, IsTyped, IsUnit, IsUnitFault}
+use Rattle.fy_link.specs.Read.{plain_named, plain_said, source_in}
+use Rattle.fy_link.specs.Sources.{PlainSource, HasEquals, IsSource, IsSourceFault}
+use Rattle.fy_link.specs.Units.{context_of, IsTyped, IsUnit, IsUnitFault, plain_unit}
 use Rattle.fy_link.proofs.Meanings.{source-limits, own-shallow}
 use Rattle.fy_link.proofs.Verdicts.{verdict-concludes, verdict-refuses}
 
@@ -58,19 +57,36 @@ found-limits before after source said context p d h s f =
     let shallow = own-shallow before after source (plain_said said) h in
     f (subst KeepsCoreLimits (sym s.phrase_is) (source-limits before after source (plain_said said) h)) (omega (arith, shallow))
 
--- a value with a source that says something and with a derivation of it is a unit
-pub unit-made : (before after names : List Bytes) (source : Bytes) (value : UnitValue) (said : Said) → length source ≤ 1048576 → value.source ≡ source →
-    IsSource before source after (plain_said said) → HasAdded after names → IsTyped (plain_unit said value.derivation) → IsUnit names value
-unit-made before after names source value said short is h kept typed = record {
-  u = plain_unit said value.derivation;
+-- a value with a source that says this and with a derivation of it is a unit
+pub unit-made : (before after names : List Bytes) (source : Bytes) (value : UnitValue) → length source ≤ 1048576 → value.source ≡ source →
+    IsSource before source after (source_in value) → HasEquals before source after value.said.equals_at → HasAdded after names → IsTyped (plain_unit value) → IsUnit names value
+unit-made before after names source value short is h e kept typed = record {
+  u = plain_unit value;
   is = record {
     short = subst (λ (bytes : Bytes). length bytes ≤ 1048576) (sym is) short;
     before = before;
     after = after;
-    said = subst (λ (bytes : Bytes). IsSource before bytes after (plain_said said)) (sym is) h;
+    said = subst (λ (bytes : Bytes). IsSource before bytes after (source_in value)) (sym is) h;
+    equals = subst (λ (bytes : Bytes). HasEquals before bytes after value.said.equals_at) (sym is) e;
     kept = kept;
-    derivation = refl;
+    is = refl;
     typed = typed;
+  };
+}
+
+-- and stays one where more names are known
+pub unit-later : (names later : List Bytes) (value : UnitValue) → HasAdded names later → IsUnit names value → IsUnit later value
+unit-later names later value more h = record {
+  u = h.u;
+  is = record {
+    short = h.is.short;
+    before = h.is.before;
+    after = h.is.after;
+    said = h.is.said;
+    equals = h.is.equals;
+    kept = HasAdded-then h.is.after names later h.is.kept more;
+    is = h.is.is;
+    typed = h.is.typed;
   };
 }
 

@@ -1,6 +1,6 @@
 -- What the programs that are judged for a source mean: the type of a piece, and the phrase of a unit.
 use Rattle.std.proofs.Common.{◌≡◌, ◌≤◌, ℕ, suc, List, [], ◌∷◌, ◌++◌, length, map, Bool, true, false, nat_lt, reverse, refl, sym, ap, ◌∙◌, subst, arith}
-use Rattle.std.specs.Prelude.{◌||◌, if◌then◌else◌, Option, Some, None, Result, Ok, Err}
+use Rattle.std.specs.Prelude.{◌||◌, if◌then◌else◌, Option, Some, None, Ok, Err}
 use Rattle.std.specs.List.{flat_map}
 use Rattle.std.proofs.lemmas.Bool.{ltb-false}
 use Rattle.std.proofs.lemmas.List.{append_assoc, append-nil, map-append, reverse-append}
@@ -10,15 +10,14 @@ use Rattle.fy_types.specs.Types.{PlainType, PlainTypes}
 use Rattle.fy_types.specs.Nested.{type_nodes, type_nesting}
 use Rattle.fy_lexer.specs.declared.token.Token.{Token}
 use Rattle.fy_lexer.specs.declared.token.TokenKind.TheVariants as kind
-use Rattle.fy_lexer.specs.declared.token.Keyword.TheVariants as word
 use Rattle.fy_lexer.specs.declared.token.Symbol.TheVariants as symbol
 use Rattle.fy_syntax.specs.Trees.{TypeTree, TypeTrees}
 use Rattle.fy_syntax.specs.Trees as written
-use Rattle.fy_syntax.specs.Signs.{token, word_at, symbol_at, front as first_place_of, Level}
+use Rattle.fy_syntax.specs.Signs.{token, symbol_at, front as first_place_of, Level}
 use Rattle.fy_syntax.specs.Spells.{SpellsBefore, IsProgram}
 use Rattle.fy_syntax.specs.Places.{without_places}
-use Rattle.fy_syntax.proofs.PlaceLemmas.{MovedTree, tree_moved, places_of, placed_as}
-use Rattle.fy_grammar.specs.Program.{IsEnded, IsTheProgram}
+use Rattle.fy_syntax.proofs.PlaceLemmas.{tree_moved, places_of, placed_as}
+use Rattle.fy_grammar.specs.Program.{IsEnded}
 use Rattle.fy_grammar.proofs.Lexed.{lexed_ended}
 use Rattle.fy_phrase.specs.Tree.{Tree, let_in, lam}
 use Rattle.fy_phrase.specs.Sizes.{nesting}
@@ -31,11 +30,10 @@ use Rattle.fy_expand.specs.Imports.{scope_in}
 use Rattle.fy_expand.specs.Front.{front}
 use Rattle.fy_expand.specs.Core.{core, in_prelude}
 use Rattle.fy_expand.specs.Faults.{◌before◌, fault, fault_if, unknown, type_fault}
-use Rattle.fy_expand.specs.Sizes.{limited}
 use Rattle.fy_expand.specs.Expansion.{unless, within_limits, core_of}
 use Rattle.fy_expand.proofs.ExpansionLemmas.{core_of-limits}
-use Rattle.fy_link.specs.Header.{PlainPiece, PlainHeader, pieces_in, inside, abstraction_over, type_program, unit_program}
-use Rattle.fy_link.specs.Sources.{Named, PlainSource, IsLexed, HasHeader, Means, Names, NameAll, IsInside, IsSaid, IsSource, below_abstractions, without_prelude, domain_of}
+use Rattle.fy_link.specs.Header.{PlainPiece, PlainHeader, pieces_in, inside, abstraction_over}
+use Rattle.fy_link.specs.Sources.{Named, PlainSource, HasHeader, Names, NameAll, IsSaid, IsSource, below_abstractions, without_prelude, domain_of}
 use Rattle.fy_link.proofs.Ends.{header-inside, have_from_all, inside-of}
 use Rattle.fy_link.proofs.CleanPieces.{AreClean, header-clean, clean-front, clean-last}
 use Rattle.fy_link.proofs.TypeParts.{IsClean}

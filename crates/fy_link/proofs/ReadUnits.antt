@@ -1,5 +1,5 @@
 -- Units that are read from bytes, and bytes that are none.
-use Rattle.std.proofs.Common.{◌≡◌, ◌≢◌, ◌⊎◌, inl, inr, ℕ, ◌≤◌, ◌+◌, List, [], ◌∷◌, ◌++◌, length, reverse, refl, sym, ap, ◌∙◌, subst, arith}
+use Rattle.std.proofs.Common.{◌≡◌, ◌≢◌, ◌⊎◌, inl, inr, ℕ, ◌≤◌, ◌+◌, List, length, refl, sym, ap, ◌∙◌, subst, arith}
 use Rattle.std.proofs.lemmas.List.{length-append}
 use Rattle.fy_base.specs.Outside.{Bytes}
 use Rattle.fy_derive.specs.declared.derivation.Derivation.{Derivation}
@@ -16,23 +16,24 @@ use Rattle.fy_link.specs.declared.error.UnitReadError.TheVariants as unread
 use Rattle.fy_link.specs.declared.source.Said.{Said}
 use Rattle.fy_link.specs.declared.unit.Unit.{Unit as UnitValue}
 use Rattle.fy_link.specs.Answers.{of_source, of_text}
-use Rattle.fy_link.specs.Read.{plain_said, plain_unit}
+use Rattle.fy_link.specs.Read.{plain_said}
 use Rattle.fy_link.specs.Sources.{PlainSource, IsSource, IsSourceFault}
-use Rattle.fy_link.specs.Units.{PlainUnit, IsTyped}
+use Rattle.fy_link.specs.Units.{IsTyped, plain_unit}
 use Rattle.fy_link.specs.UnitBytes.{HoldsUnit, IsRead, IsBadUnit, IsUnitRead, unit_bytes}
 
 -- the unit of a source and a derivation
 pub read-of : (names after later : List Bytes) (source text : Bytes) (said : Said) (d : Derivation) → IsSource names source after (plain_said said) →
-    NumbersFields after later (plain_derivation d) text → KeepsLimits (plain_derivation d) → IsRead names source text later (plain_unit said d)
+    NumbersFields after later (plain_derivation d) text → KeepsLimits (plain_derivation d) →
+    IsRead names source text later (record { source = plain_said said; derivation = plain_derivation d })
 read-of names after later source text said d h k l = record { after = after; said = h; read = k; limits = l }
 
-pub unit-read : (names later : List Bytes) (bytes source text : Bytes) (value : UnitValue) (said : Said) → HoldsUnit bytes source text → value.source ≡ source →
-    IsRead names source text later (plain_unit said value.derivation) → IsTyped (plain_unit said value.derivation) → IsUnitRead names bytes later value
-unit-read names later bytes source text value said holds is read typed = record {
+pub unit-read : (names later : List Bytes) (bytes source text : Bytes) (value : UnitValue) → HoldsUnit bytes source text → value.source ≡ source →
+    IsRead names source text later (plain_unit value) → IsTyped (plain_unit value) → IsUnitRead names bytes later value
+unit-read names later bytes source text value holds is read typed = record {
   text = text;
   holds = subst (λ (s : Bytes). HoldsUnit bytes s text) (sym is) holds;
-  u = plain_unit said value.derivation;
-  read = subst (λ (s : Bytes). IsRead names s text later (plain_unit said value.derivation)) (sym is) read;
+  u = plain_unit value;
+  read = subst (λ (s : Bytes). IsRead names s text later (plain_unit value)) (sym is) read;
   derivation = refl;
   typed = typed;
 }

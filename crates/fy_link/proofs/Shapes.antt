@@ -1,8 +1,7 @@
 -- What the programs that are judged for a source are: `\ name : type . skip` is that abstraction, and a unit's program is its imports' abstractions around what stands
 -- behind the `==`.
-use Rattle.std.proofs.Common.{◌≡◌, ℕ, List, [], ◌∷◌, ◌++◌, Bool, true, false, map, refl, sym, ap, ◌∙◌, subst}
-use Rattle.std.specs.Prelude.{◌||◌, Option, Some, None, Result, Ok, Err}
-use Rattle.std.specs.List.{flat_map}
+use Rattle.std.proofs.Common.{◌≡◌, ℕ, List, [], ◌∷◌, ◌++◌, true, false, refl, sym, ap, ◌∙◌, subst}
+use Rattle.std.specs.Prelude.{◌||◌}
 use Rattle.std.proofs.lemmas.List.{append_assoc, append-nil}
 use Rattle.fy_base.specs.declared.data.Place.{Place}
 use Rattle.fy_lexer.specs.declared.token.Token.{Token}
@@ -14,13 +13,12 @@ use Rattle.fy_lexer.specs.declared.token.Symbol.TheVariants as symbol
 use Rattle.fy_syntax.specs.Trees.{TypeTree, TypeTrees}
 use Rattle.fy_syntax.specs.Trees as written
 use Rattle.fy_syntax.specs.Reader.{kind_at, behind, is_symbol_kind}
-use Rattle.fy_syntax.specs.Signs.{token, word_at, symbol_at, ident_at, front, Level, TypeLevel}
+use Rattle.fy_syntax.specs.Signs.{token, word_at, symbol_at, ident_at, Level, TypeLevel}
 use Rattle.fy_syntax.specs.Spells.{SpellsType, MoreTypes, Prefixes, Dots, SpellsBefore, MoreTrees, MoreLinks, MoreArguments, IsProgram}
 use Rattle.fy_syntax.proofs.Fronts.{opens, either_opens}
-use Rattle.fy_grammar.specs.Program.{IsTheProgram}
-use Rattle.fy_link.specs.Header.{PlainPiece, ends_type, abstraction_over, type_program}
-use Rattle.fy_link.specs.Sources.{Named, Means, Names, NameAll}
-use Rattle.fy_link.proofs.TypeParts.{IsClean, TypePart, type-part}
+use Rattle.fy_link.specs.Header.{PlainPiece, ends_type, abstraction_over}
+use Rattle.fy_link.specs.Sources.{Named, Names}
+use Rattle.fy_link.proofs.TypeParts.{IsClean, type-part}
 
 -- ---- the tokens of a type in front of a `.`
 

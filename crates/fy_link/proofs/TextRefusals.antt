@@ -1,6 +1,6 @@
 -- Why the joined text is refused, and what units are that aren't linked for it.
 use Rattle.std.proofs.Common.{◌≡◌, ◌⊎◌, inl, inr, ◌≤◌, ◌<◌, List, length, map, refl, sym, ap, ◌∙◌, subst}
-use Rattle.std.specs.Prelude.{Option, Some, None, Result, Ok, Err, IfErr}
+use Rattle.std.specs.Prelude.{All, Option, Some, None, Result, Ok, Err, IfErr}
 use Rattle.fy_base.specs.Outside.{Bytes}
 use Rattle.fy_lexer.specs.declared.error.LexError.{LexError}
 use Rattle.fy_lexer.specs.declared.error.LexError.TheVariants as unread
@@ -23,14 +23,13 @@ use Rattle.fy_derive.specs.Reading.{plain_derivation}
 use Rattle.fy_link.specs.declared.error.LinkError.{LinkError}
 use Rattle.fy_link.specs.declared.error.LinkError.TheVariants as refused
 use Rattle.fy_link.specs.declared.linking.Linked.{Linked}
-use Rattle.fy_link.specs.declared.source.Said.{Said}
 use Rattle.fy_link.specs.declared.unit.Unit.{Unit as UnitValue}
-use Rattle.fy_link.specs.Again.{AreSaidOf}
 use Rattle.fy_link.specs.Answers.{link_of_lex, link_of_parse, link_of_expand}
 use Rattle.fy_link.specs.Composed.{composed_derivation}
 use Rattle.fy_link.specs.Joined.{IsJoinedText}
 use Rattle.fy_link.specs.Links.{IsLinked, IsTextRefused, IsUnlinked, IsTooLarge, link_fault, sources_of}
-use Rattle.fy_link.specs.Read.{plain_said, plain_units}
+use Rattle.fy_link.specs.Read.{source_in}
+use Rattle.fy_link.specs.Units.{IsUnit, plain_unit}
 use Rattle.fy_link.proofs.LinkLemmas.{units_linked}
 use Rattle.fy_link.proofs.SaidLemmas.{said-units, said-sources}
 
@@ -75,47 +74,40 @@ text-judged names text tokens tree p h t e = expanded h (record { spelled = t.sp
 
 -- ---- units
 
-said-fault : (names : List Bytes) (values : List UnitValue) (all : List Said) (o : Option LinkError) → AreSaidOf names values all → link_fault (map plain_said all) ≡ o →
-    link_fault (sources_of (plain_units all values)) ≡ o
-said-fault names values all o h e = ap link_fault (said-sources names values all h) ∙ e
+said-fault : (values : List UnitValue) (o : Option LinkError) → link_fault (map source_in values) ≡ o → link_fault (sources_of (map plain_unit values)) ≡ o
+said-fault values o e = ap link_fault (said-sources values) ∙ e
 
-pub said-linkable : (names : List Bytes) (values : List UnitValue) (all : List Said) → AreSaidOf names values all → link_fault (map plain_said all) ≡ None →
-    link_fault (sources_of (plain_units all values)) ≡ None
-said-linkable names values all h e = said-fault names values all None h e
+pub units-unlinked : (names : List Bytes) (values : List UnitValue) (e : LinkError) → All (IsUnit names) values →
+    (e ≡ refused.OutOfMemory) ⊎ (link_fault (map source_in values) ≡ Some e) → IsUnlinked names values e
+units-unlinked names values e h (inl k) = subst (IsUnlinked names values) (sym k) IsUnlinked.of_memory
+units-unlinked names values e h (inr k) = IsUnlinked.of_units (map plain_unit values) (said-units names values h) (said-fault values (Some e) k)
 
-pub units-unlinked : (names : List Bytes) (values : List UnitValue) (all : List Said) (e : LinkError) → AreSaidOf names values all →
-    (e ≡ refused.OutOfMemory) ⊎ (link_fault (map plain_said all) ≡ Some e) → IsUnlinked names values e
-units-unlinked names values all e h (inl k) = subst (IsUnlinked names values) (sym k) IsUnlinked.of_memory
-units-unlinked names values all e h (inr k) = IsUnlinked.of_units (plain_units all values) (said-units names values all h) (said-fault names values all (Some e) h k)
+pub text-unlinked : (names : List Bytes) (values : List UnitValue) (text : Bytes) (e : LinkError) → All (IsUnit names) values →
+    link_fault (map source_in values) ≡ None → IsJoinedText names values text → HasTextRefusal names text e → IsUnlinked names values e
+text-unlinked names values text e h f t (inl k) = subst (IsUnlinked names values) (sym k) IsUnlinked.of_memory
+text-unlinked names values text e h f t (inr k) = IsUnlinked.of_text (map plain_unit values) (said-units names values h) (said-fault values None f) t k.1 k.2
 
-pub text-unlinked : (names : List Bytes) (values : List UnitValue) (all : List Said) (text : Bytes) (e : LinkError) → AreSaidOf names values all →
-    link_fault (map plain_said all) ≡ None → IsJoinedText names values text → HasTextRefusal names text e → IsUnlinked names values e
-text-unlinked names values all text e h f t (inl k) = subst (IsUnlinked names values) (sym k) IsUnlinked.of_memory
-text-unlinked names values all text e h f t (inr k) =
-    IsUnlinked.of_text (plain_units all values) (said-units names values all h) (said-linkable names values all h f) t k.1 k.2
+pub long-unlinked : (names : List Bytes) (values : List UnitValue) (text : Bytes) → All (IsUnit names) values →
+    link_fault (map source_in values) ≡ None → IsJoinedText names values text → 1048576 < length text → IsUnlinked names values refused.Length
+long-unlinked names values text h f t l = text-unlinked names values text refused.Length h f t (inr (length_refused, refl, too_long l))
 
-pub long-unlinked : (names : List Bytes) (values : List UnitValue) (all : List Said) (text : Bytes) → AreSaidOf names values all →
-    link_fault (map plain_said all) ≡ None → IsJoinedText names values text → 1048576 < length text → IsUnlinked names values refused.Length
-long-unlinked names values all text h f t l = text-unlinked names values all text refused.Length h f t (inr (length_refused, refl, too_long l))
-
-pub large-unlinked : (names : List Bytes) (values : List UnitValue) (all : List Said) (text : Bytes) (p : Tree) (e : LinkError) → AreSaidOf names values all →
-    link_fault (map plain_said all) ≡ None → IsJoinedText names values text → IsJudgedFrom names text (Ok p) →
-    (e ≡ refused.OutOfMemory) ⊎ ((e ≡ refused.TooLarge) × IsTooLarge (plain_units all values)) → IsUnlinked names values e
-large-unlinked names values all text p e h f t j (inl k) = subst (IsUnlinked names values) (sym k) IsUnlinked.of_memory
-large-unlinked names values all text p e h f t j (inr k) =
-    subst (IsUnlinked names values) (sym k.0)
-    (IsUnlinked.of_size (plain_units all values) (said-units names values all h) (said-linkable names values all h f) t j k.1)
+pub large-unlinked : (names : List Bytes) (values : List UnitValue) (text : Bytes) (p : Tree) (e : LinkError) → All (IsUnit names) values →
+    link_fault (map source_in values) ≡ None → IsJoinedText names values text → IsJudgedFrom names text (Ok p) →
+    (e ≡ refused.OutOfMemory) ⊎ ((e ≡ refused.TooLarge) × IsTooLarge (map plain_unit values)) → IsUnlinked names values e
+large-unlinked names values text p e h f t j (inl k) = subst (IsUnlinked names values) (sym k) IsUnlinked.of_memory
+large-unlinked names values text p e h f t j (inr k) =
+    subst (IsUnlinked names values) (sym k.0) (IsUnlinked.of_size (map plain_unit values) (said-units names values h) (said-fault values None f) t j k.1)
 
 -- ---- the units linked
 
-pub said-linked : (names : List Bytes) (values : List UnitValue) (all : List Said) (linked : Linked) → AreSaidOf names values all →
-    link_fault (map plain_said all) ≡ None → IsJoinedText names values linked.text → IsJudgedFrom names linked.text (Ok (reads linked.phrase)) →
-    plain_derivation linked.derivation ≡ composed_derivation (plain_units all values) → nodes (plain_derivation linked.derivation) ≤ most_nodes →
+pub said-linked : (names : List Bytes) (values : List UnitValue) (linked : Linked) → All (IsUnit names) values →
+    link_fault (map source_in values) ≡ None → IsJoinedText names values linked.text → IsJudgedFrom names linked.text (Ok (reads linked.phrase)) →
+    plain_derivation linked.derivation ≡ composed_derivation (map plain_unit values) → nodes (plain_derivation linked.derivation) ≤ most_nodes →
     nesting (plain_derivation linked.derivation) ≤ most_nesting → IsLinked names values linked
-said-linked names values all linked h f t j d few flat =
-    let units = plain_units all values in
-    let are = said-units names values all h in
-    let linkable = said-linkable names values all h f in
+said-linked names values linked h f t j d few flat =
+    let units = map plain_unit values in
+    let are = said-units names values h in
+    let linkable = said-fault values None f in
     let accepted = units_linked.accepted names values units linked.text (reads linked.phrase) are linkable t j in
     record {
       units = units;

@@ -1,8 +1,7 @@
 -- The tokens that spell a type: none of them is `.` or `|`, and they spell it before any rest.
-use Rattle.std.proofs.Common.{◌≡◌, ℕ, List, [], ◌∷◌, ◌++◌, Bool, true, false, refl, sym, ap, ◌∙◌, subst}
+use Rattle.std.proofs.Common.{◌≡◌, ℕ, List, [], ◌∷◌, ◌++◌, false, refl, sym, ap, ◌∙◌, subst}
 use Rattle.std.proofs.lemmas.List.{append_assoc}
 use Rattle.fy_base.specs.declared.data.Place.{Place}
-use Rattle.fy_types.specs.declared.types.Atom.{Atom}
 use Rattle.fy_lexer.specs.declared.token.Token.{Token}
 use Rattle.fy_lexer.specs.declared.token.Symbol.{Symbol}
 use Rattle.fy_lexer.specs.declared.token.Symbol.TheVariants as symbol

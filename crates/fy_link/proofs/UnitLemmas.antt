@@ -1,32 +1,27 @@
 -- Units put together, the last one first.
-use Rattle.std.proofs.Common.{ℕ, suc, ◌+◌, ◌-◌, ◌<◌, ◌≡◌, List, [], ◌∷◌, length, map, take, drop, get_or, Bool, true, false, cond, Option, Some, None, Bor, refl, sym, ap, ◌∙◌, arith}
-use Rattle.std.proofs.lemmas.List.{drop_more, length-drop}
+use Rattle.std.proofs.Common.{ℕ, ◌+◌, ◌<◌, ◌≡◌, List, [], ◌∷◌, length, map, take, drop, get_or, Bool, true, false, cond, Option, Some, None, Bor, refl, sym, ap, ◌∙◌, arith}
+use Rattle.std.proofs.lemmas.List.{drop_more, length-drop, length-map}
 use Rattle.fy_types.specs.declared.types.Ty.{Ty}
 use Rattle.fy_types.specs.Types.{PlainType}
 use Rattle.fy_derive.specs.Derivations.{PlainDerivation, rule, no_derivations, and_derivation}
 use Rattle.fy_derive.specs.Rules.{same_type}
 use Rattle.fy_derive.proofs.RuleLemmas.{same_type-refl, same_type-true}
-use Rattle.fy_link.specs.declared.source.Said.{Said}
 use Rattle.fy_link.specs.declared.unit.Unit.{Unit as UnitValue}
 use Rattle.fy_link.specs.Sources.{Named}
-use Rattle.fy_link.specs.Units.{PlainUnit}
+use Rattle.fy_link.specs.Units.{PlainUnit, plain_unit}
 use Rattle.fy_link.specs.declared.composed.Wanted as form
 use Rattle.fy_link.specs.declared.composed.Wanted.{Wanted as WantedValue}
 use Rattle.fy_link.specs.Composed.{placed_unit, units_derivation, wanted, wanted_at}
 use Rattle.fy_link.specs.Placing.{plain_optional, plain_wanted, plain_wanted_types, wanted_for, wanted_in}
-use Rattle.fy_link.specs.Read.{plain_unit, plain_units, owns_before}
+use Rattle.fy_link.specs.Read.{owns_before}
 use Rattle.fy_link.proofs.CauseLemmas.{owns-more}
 use Rattle.fy_link.proofs.PlacingLemmas.{wanted-imports, wanted-of}
 
 -- the units from one on
-pub units-from : (said : List Said) (values : List UnitValue) (i : ℕ) (s : Said) (v : UnitValue) → i < length said → i < length values →
-    s ≡ get_or said i s → v ≡ get_or values i v →
-    plain_units (drop i said) (drop i values) ≡ plain_unit s v.derivation ∷ plain_units (drop (i + 1) said) (drop (i + 1) values)
-units-from said values i s v h k e f =
-    ap (λ xs. plain_units xs (drop i values)) (drop_more said i s h)
-    ∙ (ap (plain_units (get_or said i s ∷ drop (i + 1) said)) (drop_more values i v k)
-    ∙ (ap (λ (x : Said). plain_unit x (get_or values i v).derivation ∷ plain_units (drop (i + 1) said) (drop (i + 1) values)) (sym e)
-    ∙ ap (λ (y : UnitValue). plain_unit s y.derivation ∷ plain_units (drop (i + 1) said) (drop (i + 1) values)) (sym f)))
+pub units-from : (values : List UnitValue) (i : ℕ) (v : UnitValue) → i < length values → v ≡ get_or values i v →
+    map plain_unit (drop i values) ≡ plain_unit v ∷ map plain_unit (drop (i + 1) values)
+units-from values i v h e =
+    ap (map plain_unit) (drop_more values i v h) ∙ ap (λ (y : UnitValue). plain_unit y ∷ map plain_unit (drop (i + 1) values)) (sym e)
 
 -- each other one is a definition around those behind it
 pub units-more : (earlier : List Named) (u : PlainUnit) (more : List PlainUnit) → 0 < length more →
@@ -35,42 +30,30 @@ pub units-more : (earlier : List Named) (u : PlainUnit) (more : List PlainUnit) 
 units-more earlier u [] h = absurd (omega (arith, h))
 units-more earlier u (v ∷ more) h = refl
 
-pub units-length : (said : List Said) (values : List UnitValue) → length said ≡ length values → length (plain_units said values) ≡ length said
-units-length [] values e = refl
-units-length (s ∷ said) [] e = absurd (omega (arith, e))
-units-length (s ∷ said) (v ∷ values) e = ap suc (units-length said values (omega (arith, e)))
-
 -- the derivation of the units from one on, of which others are behind it
-pub more-step : (said : List Said) (values : List UnitValue) (i : ℕ) (s : Said) (v : UnitValue) (own made new : PlainDerivation) →
-    length said ≡ length values → i < length values → s ≡ get_or said i s → v ≡ get_or values i v → i + 1 < length values →
-    own ≡ placed_unit (owns_before (take i said)) (plain_unit s v.derivation) →
-    made ≡ units_derivation (owns_before (take (i + 1) said)) (plain_units (drop (i + 1) said) (drop (i + 1) values)) →
+pub more-step : (values : List UnitValue) (i : ℕ) (v : UnitValue) (own made new : PlainDerivation) → i < length values → v ≡ get_or values i v → i + 1 < length values →
+    own ≡ placed_unit (owns_before (take i values)) (plain_unit v) →
+    made ≡ units_derivation (owns_before (take (i + 1) values)) (map plain_unit (drop (i + 1) values)) →
     new ≡ rule (and_derivation own (and_derivation made no_derivations)) →
-    new ≡ units_derivation (owns_before (take i said)) (plain_units (drop i said) (drop i values))
-more-step said values i s v own made new same h e f more one so is =
+    new ≡ units_derivation (owns_before (take i values)) (map plain_unit (drop i values))
+more-step values i v own made new h e more one so is =
     is
     ∙ (ap (λ d. rule (and_derivation d (and_derivation made no_derivations))) one
     ∙ (ap (λ d. rule (and_derivation (placed_unit earlier u) (and_derivation d no_derivations)))
-    (so ∙ ap (λ owns. units_derivation owns rest) (owns-more said i s here e))
-    ∙ (sym (units-more earlier u rest some) ∙ ap (units_derivation earlier) (sym (units-from said values i s v here h e f)))))
+    (so ∙ ap (λ owns. units_derivation owns rest) (owns-more values i v h e))
+    ∙ (sym (units-more earlier u rest some) ∙ ap (units_derivation earlier) (sym (units-from values i v h e)))))
   where
     earlier : List Named
-    earlier = owns_before (take i said)
+    earlier = owns_before (take i values)
 
     u : PlainUnit
-    u = plain_unit s v.derivation
+    u = plain_unit v
 
     rest : List PlainUnit
-    rest = plain_units (drop (i + 1) said) (drop (i + 1) values)
-
-    here : i < length said
-    here = omega (arith, same, h)
-
-    same_rest : length (drop (i + 1) said) ≡ length (drop (i + 1) values)
-    same_rest = length-drop (i + 1) said ∙ (ap (λ n. n - (i + 1)) same ∙ sym (length-drop (i + 1) values))
+    rest = map plain_unit (drop (i + 1) values)
 
     some : 0 < length rest
-    some = omega (arith, units-length (drop (i + 1) said) (drop (i + 1) values) same_rest, length-drop (i + 1) said, same, more)
+    some = omega (arith, length-map (drop (i + 1) values) plain_unit, length-drop (i + 1) values, more)
 
 -- the wanted types of a unit's imports
 pub imports-wanted : (w : WantedValue) (types : Bor (List (Option (Bor Ty)))) (items : List (Option (Bor Ty))) (earlier imports : List Named) →

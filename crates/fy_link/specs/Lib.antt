@@ -9,4 +9,3 @@ pub mod Links
 pub mod Read
 pub mod Placing
 pub mod Laws
-pub mod Again

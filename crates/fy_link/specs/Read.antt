@@ -1,11 +1,9 @@
 -- What the values of the code stand for.
-use Rattle.std.specs.Prelude.{List, [], ◌∷◌, map, length, reverse}
+use Rattle.std.specs.Prelude.{List, map, length, reverse}
 use Rattle.std.specs.declared.alloc.Global.{Global}
 use Rattle.std.specs.declared.vec.Vec.{Vec}
 use Rattle.fy_types.specs.Reading.{plain_type}
 use Rattle.fy_phrase.specs.Reads.{reads}
-use Rattle.fy_derive.specs.declared.derivation.Derivation.{Derivation}
-use Rattle.fy_derive.specs.Reading.{plain_derivation}
 use Rattle.fy_link.specs.declared.header.Piece.{Piece}
 use Rattle.fy_link.specs.declared.header.Header.{Header}
 use Rattle.fy_link.specs.declared.source.Named.{Named}
@@ -13,10 +11,9 @@ use Rattle.fy_link.specs.declared.source.Said.{Said}
 use Rattle.fy_link.specs.declared.joined.Part.{Part}
 use Rattle.fy_link.specs.declared.unit.Unit.{Unit as UnitValue}
 use Rattle.fy_link.specs.Joined.{TextPart}
-use Rattle.fy_link.specs.Units.{PlainUnit}
 use Rattle.fy_link.specs.Header.{PlainPiece, PlainHeader}
 use Rattle.fy_link.specs.Sources as source
-use Rattle.fy_link.specs.Sources.{PlainSource, IsSource, below_abstractions, without_prelude}
+use Rattle.fy_link.specs.Sources.{PlainSource, below_abstractions, without_prelude}
 
 abbrev pub plain_piece : Piece → PlainPiece
 plain_piece x = record { name = x.name; at = x.at; colon_at = x.colon_at; type = x.ty.now }
@@ -37,17 +34,13 @@ plain_said s = record {
   phrase = below_abstractions (length s.imports.items) (without_prelude (reads s.whole));
 }
 
-abbrev pub plain_unit : Said → Derivation → PlainUnit
-plain_unit said d = record { source = plain_said said; derivation = plain_derivation d }
-
-abbrev pub plain_units : List Said → List UnitValue → List PlainUnit
-plain_units [] values = []
-plain_units (said ∷ more) [] = []
-plain_units (said ∷ more) (value ∷ values) = plain_unit said value.derivation ∷ plain_units more values
+-- what the unit's source says
+abbrev pub source_in : UnitValue → PlainSource
+source_in value = plain_said value.said
 
 -- what the units export, the latest first
-abbrev pub owns_before : List Said → List source.Named
-owns_before units = reverse (map (λ (said : Said). plain_named said.own) units)
+abbrev pub owns_before : List UnitValue → List source.Named
+owns_before units = reverse (map (λ (value : UnitValue). plain_named value.said.own) units)
 
 abbrev pub plain_part : Part → TextPart
 plain_part part = record { name = part.name.now; tail = part.tail.now }

@@ -14,7 +14,8 @@ use Rattle.fy_least.specs.Finding.{IsFindingOf}
 use Rattle.fy_link.specs.declared.error.UnitError.{UnitError}
 use Rattle.fy_link.specs.declared.error.UnitError.TheVariants as refused
 use Rattle.fy_link.specs.declared.unit.Unit.{Unit as UnitValue}
-use Rattle.fy_link.specs.Sources.{Named, PlainSource, IsSource, IsSourceFault}
+use Rattle.fy_link.specs.Read.{source_in}
+use Rattle.fy_link.specs.Sources.{Named, PlainSource, HasEquals, IsSource, IsSourceFault}
 
 -- the types of the prelude's names, the outermost first: `putint`, `putchar`, `putbool` and `read`
 abbrev pub prelude_types : List PlainType
@@ -29,19 +30,24 @@ pub record PlainUnit : Type 0 where
   pub source : PlainSource
   pub derivation : PlainDerivation
 
+-- the unit that a value holds
+abbrev pub plain_unit : UnitValue → PlainUnit
+plain_unit value = record { source = source_in value; derivation = plain_derivation value.derivation }
+
 -- the derivation concludes the unit's type for its phrase in its context
 pub record IsTyped (u : PlainUnit) : Type 0 where
   pub limits : KeepsLimits u.derivation
   pub concluded : judged u.derivation 0 (reverse (context_of u.source.imports)) u.source.phrase ≡ concludes u.source.own.type
 
--- the value is this unit, whose source's names have their numbers in the list
+-- the value is this unit, and keeps what its source says and the place of its `==`; the source's names have their numbers in the list
 pub record IsUnitOf (names : List Bytes) (value : UnitValue) (u : PlainUnit) : Type 0 where
   pub short : length value.source ≤ 1048576
   pub before : List Bytes
   pub after : List Bytes
   pub said : IsSource before value.source after u.source
+  pub equals : HasEquals before value.source after value.said.equals_at
   pub kept : HasAdded after names
-  pub derivation : u.derivation ≡ plain_derivation value.derivation
+  pub is : u ≡ plain_unit value
   pub typed : IsTyped u
 
 -- the value is a unit

@@ -140,5 +140,9 @@ pub fn read_unit(alloc: Global, names: &mut Names, bytes: &[u8]) -> Result<Unit,
         Err(DeriveError::OutOfMemory) => return Err(UnitReadError::OutOfMemory),
     }
     let source = copied(alloc, source)?;
-    Ok(Unit { source, derivation })
+    Ok(Unit {
+        source,
+        derivation,
+        said,
+    })
 }

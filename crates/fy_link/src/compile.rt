@@ -35,5 +35,9 @@ pub fn compile_unit(alloc: Global, names: &mut Names, source: &[u8]) -> Result<U
     let context = context_of(alloc, &said.imports)?;
     let derivation = find_as(alloc, &context, said.phrase(), &said.own.ty)?;
     let source = copied(alloc, source)?;
-    Ok(Unit { source, derivation })
+    Ok(Unit {
+        source,
+        derivation,
+        said,
+    })
 }

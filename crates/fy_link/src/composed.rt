@@ -1,17 +1,18 @@
 //! The derivation of units put together.
 
-ghost use Rattle.std.specs.Prelude.{◌≡◌, [], ◌∷◌, true, false, IfOk, length, map, replicate, reverse};
+ghost use Rattle.std.specs.Prelude.{◌≡◌, [], ◌∷◌, true, false, IfOk, map, replicate, reverse};
 ghost use Rattle.fy_phrase.specs.Reads.{reads, reads_parts};
 ghost use Rattle.fy_derive.specs.Placed.{all_placed, body_of, left_of, placed, raised_use, right_of, those_of};
 ghost use Rattle.fy_derive.specs.Derivations.{and_derivation, count, no_derivations, rule};
 ghost use Rattle.fy_derive.specs.Rules.{nothing, of_parts, premises};
 ghost use Rattle.fy_derive.specs.Reading.{plain_derivation, plain_derivations};
 ghost use Rattle.fy_link.specs.Composed.{behind_provided, composed_derivation, placed_unit, provided_derivation, units_derivation};
-ghost use Rattle.fy_link.specs.Read.{owns_before, plain_named, plain_unit, plain_units};
+ghost use Rattle.fy_link.specs.Read.{owns_before, plain_named};
 ghost use Rattle.fy_link.specs.Placing.{behind_part, plain_optional, plain_premise, plain_premises, plain_wanted, premises_of, wanted_for};
+ghost use Rattle.fy_link.specs.Units.{plain_unit};
 
 use crate::causes::type_named;
-use crate::source::{Named, Said};
+use crate::source::Named;
 use crate::unit::Unit;
 use fy_base::OutOfMemory;
 use fy_derive::{Derivation, DerivationList};
@@ -323,7 +324,7 @@ fn used(
 }
 
 // The type to which the uses of an import are subsumed, where these units stand before it.
-fn wanted_type<'a>(before: &[Said], import: &'a Named) -> Option<&'a Ty>
+fn wanted_type<'a>(before: &[Unit], import: &'a Named) -> Option<&'a Ty>
     ensures { plain_optional result ≡ wanted_for (owns_before before.now) (plain_named import.now) }
 {
     let Some(ty) = type_named(before, import.name) else {
@@ -339,7 +340,7 @@ fn wanted_type<'a>(before: &[Said], import: &'a Named) -> Option<&'a Ty>
 // The same of all imports, the innermost first.
 fn wanted_types<'a>(
     alloc: Global,
-    before: &[Said],
+    before: &[Unit],
     imports: &'a [Named],
 ) -> Result<Vec<Option<&'a Ty>>, OutOfMemory>
     ensures { IfOk result (λ types. map plain_optional types.items
@@ -355,18 +356,13 @@ fn wanted_types<'a>(
 }
 
 // A unit's own derivation behind the units before it.
-fn placed_unit(
-    alloc: Global,
-    before: &[Said],
-    said: &Said,
-    d: &Derivation,
-) -> Result<Derivation, OutOfMemory>
-    ensures { IfOk result (λ made. plain_derivation made ≡ placed_unit (owns_before before.now) (plain_unit said.now d.now)) }
+fn placed_unit(alloc: Global, before: &[Unit], unit: &Unit) -> Result<Derivation, OutOfMemory>
+    ensures { IfOk result (λ made. plain_derivation made ≡ placed_unit (owns_before before.now) (plain_unit unit.now)) }
 {
-    let imports = said.imports.as_slice();
+    let imports = unit.said.imports.as_slice();
     let types = wanted_types(alloc, before, imports)?;
     let within = Wanted::Imports(types.as_slice());
-    placed(alloc, d, &within, said.phrase())
+    placed(alloc, &unit.derivation, &within, unit.said.phrase())
 }
 
 fn rule(alloc: Global, first: Derivation, second: Derivation) -> Result<Derivation, OutOfMemory>
@@ -398,15 +394,14 @@ fn behind_provided(alloc: Global, d: Derivation) -> Result<Derivation, OutOfMemo
 }
 
 // The derivation of the units put together.
-fn units_derivation(alloc: Global, said: &[Said], units: &[Unit]) -> Result<Derivation, OutOfMemory>
-    requires { length said.now ≡ length units.now }
-    ensures { IfOk result (λ made. plain_derivation made ≡ units_derivation [] (plain_units said.now units.now)) }
+fn units_derivation(alloc: Global, units: &[Unit]) -> Result<Derivation, OutOfMemory>
+    ensures { IfOk result (λ made. plain_derivation made ≡ units_derivation [] (map plain_unit units.now)) }
 {
     let mut made = Derivation::Ns;
     let mut i = units.len();
     while i > 0 {
         i -= 1;
-        let own = placed_unit(alloc, &said[..i], &said[i], &units[i].derivation)?;
+        let own = placed_unit(alloc, &units[..i], &units[i])?;
         made = if i + 1 == units.len() {
             own
         } else {
@@ -417,15 +412,10 @@ fn units_derivation(alloc: Global, said: &[Said], units: &[Unit]) -> Result<Deri
 }
 
 /// The derivation of the units put together, inside the prelude.
-pub(crate) fn composed(
-    alloc: Global,
-    said: &[Said],
-    units: &[Unit],
-) -> Result<Derivation, OutOfMemory>
-    requires { length said.now ≡ length units.now }
-    ensures { IfOk result (λ made. plain_derivation made ≡ composed_derivation (plain_units said.now units.now)) }
+pub(crate) fn composed(alloc: Global, units: &[Unit]) -> Result<Derivation, OutOfMemory>
+    ensures { IfOk result (λ made. plain_derivation made ≡ composed_derivation (map plain_unit units.now)) }
 {
-    let made = units_derivation(alloc, said, units)?;
+    let made = units_derivation(alloc, units)?;
     let made = behind_provided(alloc, made)?;
     let made = behind_provided(alloc, made)?;
     let made = behind_provided(alloc, made)?;

@@ -1,24 +1,22 @@
 //! Units linked.
 
-ghost use Rattle.std.specs.Prelude.{◌≡◌, ◌<◌, ◌≤◌, ◌⊎◌, ◌||◌, All, Ok, IfOk, IfErr, OnOk, length, nat_lt};
+ghost use Rattle.std.specs.Prelude.{◌≡◌, ◌<◌, ◌≤◌, ◌⊎◌, ◌||◌, All, Ok, IfOk, IfErr, length, map, nat_lt};
 ghost use Rattle.fy_phrase.specs.Reads.{reads};
 ghost use Rattle.fy_derive.specs.Derivations.{most_nesting, most_nodes, nesting, nodes};
 ghost use Rattle.fy_derive.specs.Reading.{plain_derivation};
 ghost use Rattle.fy_expand.specs.Judged.{IsJudgedFrom};
 ghost use Rattle.fy_lexer.specs.Tokens.{HasAdded};
-ghost use Rattle.fy_link.specs.Again.{AreSaidOf, IsSaidOf};
 ghost use Rattle.fy_link.specs.Composed.{composed_derivation};
 ghost use Rattle.fy_link.specs.Joined.{IsJoinedText, IsTextPart};
-ghost use Rattle.fy_link.specs.Read.{plain_part, plain_units};
+ghost use Rattle.fy_link.specs.Read.{plain_part};
 ghost use Rattle.fy_link.specs.Links.{IsLinked, IsTextRefused, IsTooLarge, IsUnlinked};
-ghost use Rattle.fy_link.specs.Units.{IsUnit};
+ghost use Rattle.fy_link.specs.Units.{IsUnit, plain_unit};
 ghost use Rattle.fy_link.specs.declared.error.LinkError.TheVariants.{OutOfMemory as NoMemory, TooLarge as NoRoom};
 
 use crate::causes::judge_units;
 use crate::composed::composed;
-use crate::error::{LinkError, UnitError};
+use crate::error::LinkError;
 use crate::joined::{Part, joined_text, tail};
-use crate::source::{Said, said_in};
 use crate::unit::{Unit, UnitList};
 use fy_base::{OutOfMemory, Text};
 use fy_derive::{Derivation, nesting_of, nodes_of};
@@ -64,14 +62,14 @@ pub fn link(alloc: Global, names: &mut Names, units: &UnitList) -> Result<Linked
     ensures err { IfErr result (IsUnlinked names.old units.now) }
     ensures names { HasAdded names.old names.new }
 {
-    let said = all_said(alloc, names, units.as_slice())?;
-    judge_units(alloc, &said)?;
-    let text = text_of(alloc, names, &said, units.as_slice())?;
+    let units = units.as_slice();
+    judge_units(alloc, units)?;
+    let text = text_of(alloc, names, units)?;
     if text.len() > MOST_BYTES {
         return Err(LinkError::Length);
     }
     let phrase = meaning(alloc, names, &text)?;
-    let derivation = derived(alloc, &said, units.as_slice())?;
+    let derivation = derived(alloc, units)?;
     let text = Text::from_vec(text);
     Ok(Linked {
         text,
@@ -80,66 +78,28 @@ pub fn link(alloc: Global, names: &mut Names, units: &UnitList) -> Result<Linked
     })
 }
 
-// What a unit says. Its source was read before, so it isn't refused, and its names are known.
-fn said_again(alloc: Global, names: &mut Names, unit: &Unit) -> Result<Said, OutOfMemory>
-    requires unit { IsUnit names.old unit.now }
-    requires names { length names.old ≤ 3000000000 }
-    ensures said { IfOk result (IsSaidOf names.old unit.now) }
-    ensures known { OnOk result (names.new ≡ names.old) }
-    ensures names { HasAdded names.old names.new }
-{
-    match said_in(alloc, names, unit.source.as_slice()) {
-        Ok(said) => Ok(said),
-        Err(error) => match error {
-            UnitError::OutOfMemory => Err(OutOfMemory),
-            _ => unreachable!(),
-        },
-    }
-}
-
-// What the units say.
-fn all_said(alloc: Global, names: &mut Names, units: &[Unit]) -> Result<Vec<Said>, OutOfMemory>
-    requires units { All (IsUnit names.old) units.now }
-    requires names { length names.old ≤ 3000000000 }
-    ensures said { IfOk result (λ all. AreSaidOf names.old units.now all.items) }
-    ensures known { OnOk result (names.new ≡ names.old) }
-    ensures names { HasAdded names.old names.new }
-{
-    let mut all = Vec::new(alloc);
-    for unit in units {
-        all.push(said_again(alloc, names, unit)?)?;
-    }
-    Ok(all)
-}
-
 // The unit's part of the text.
-fn part_of<'a>(names: &'a Names, said: &Said, unit: &'a Unit) -> Part<'a>
-    requires { IsSaidOf names.now unit.now said.now }
+fn part_of<'a>(names: &'a Names, unit: &'a Unit) -> Part<'a>
+    requires { IsUnit names.now unit.now }
     ensures { IsTextPart names.now unit.now.source (plain_part result) }
 {
-    let Some(name) = names.text(said.own.name) else {
+    let Some(name) = names.text(unit.said.own.name) else {
         unreachable!()
     };
-    let Some(tail) = tail(unit.source.as_slice(), said.equals_at) else {
+    let Some(tail) = tail(unit.source.as_slice(), unit.said.equals_at) else {
         unreachable!()
     };
     Part { name, tail }
 }
 
 // The text of the units put together.
-fn text_of(
-    alloc: Global,
-    names: &Names,
-    said: &[Said],
-    units: &[Unit],
-) -> Result<Vec<u8>, OutOfMemory>
-    requires said { AreSaidOf names.now units.now said.now }
-    requires length { length said.now ≡ length units.now }
+fn text_of(alloc: Global, names: &Names, units: &[Unit]) -> Result<Vec<u8>, OutOfMemory>
+    requires { All (IsUnit names.now) units.now }
     ensures { IfOk result (λ text. IsJoinedText names.now units.now text.items) }
 {
     let mut parts = Vec::new(alloc);
-    for i in 0..units.len() {
-        parts.push(part_of(names, &said[i], &units[i]))?;
+    for unit in units {
+        parts.push(part_of(names, unit))?;
     }
     joined_text(alloc, &parts)
 }
@@ -152,14 +112,13 @@ fn is_large(d: &Derivation) -> bool
 }
 
 // The derivation of the units put together, unless it is too large.
-fn derived(alloc: Global, said: &[Said], units: &[Unit]) -> Result<Derivation, LinkError>
-    requires { length said.now ≡ length units.now }
-    ensures composed { IfOk result (λ d. plain_derivation d ≡ composed_derivation (plain_units said.now units.now)) }
+fn derived(alloc: Global, units: &[Unit]) -> Result<Derivation, LinkError>
+    ensures composed { IfOk result (λ d. plain_derivation d ≡ composed_derivation (map plain_unit units.now)) }
     ensures few { IfOk result (λ d. nodes (plain_derivation d) ≤ most_nodes) }
     ensures shallow { IfOk result (λ d. nesting (plain_derivation d) ≤ most_nesting) }
-    ensures err { IfErr result (λ e. (e ≡ NoMemory) ⊎ ((e ≡ NoRoom) × IsTooLarge (plain_units said.now units.now))) }
+    ensures err { IfErr result (λ e. (e ≡ NoMemory) ⊎ ((e ≡ NoRoom) × IsTooLarge (map plain_unit units.now))) }
 {
-    let derivation = composed(alloc, said, units)?;
+    let derivation = composed(alloc, units)?;
     if is_large(&derivation) {
         return Err(LinkError::TooLarge);
     }

@@ -2,6 +2,7 @@
 
 ghost use Rattle.std.specs.Prelude.{◌≡◌, IfOk};
 
+use crate::source::Said;
 use fy_base::{ListOf, OutOfMemory, Text};
 use fy_derive::Derivation;
 use std::alloc::Global;
@@ -12,6 +13,8 @@ use std::alloc::Global;
 pub struct Unit {
     pub source: Text,
     pub derivation: Derivation,
+    /// What the source says.
+    pub(crate) said: Said,
 }
 
 /// Units, in the order in which they are linked.

@@ -1,6 +1,6 @@
 -- Units in the files on a list, read one after another.
-use Rattle.std.proofs.Common.{◌≡◌, ◌≢◌, ◌⊎◌, ℕ, zero, suc, ◌+◌, ◌*◌, ◌≤◌, ◌<◌, List, [], ◌∷◌, ◌++◌, length, map, take, drop, get_or, refl, sym, ap, ◌∙◌, subst, arith, inl, inr, append_assoc, Some, None, Ok, Err}
-use Rattle.std.proofs.lemmas.List.{append-nil, map-append, length-map, length-append, length_push, take-append-drop, take_all}
+use Rattle.std.proofs.Common.{◌≡◌, ◌≢◌, ◌⊎◌, ℕ, zero, suc, ◌+◌, ◌*◌, ◌≤◌, ◌<◌, List, [], ◌∷◌, ◌++◌, length, map, take, drop, get_or, refl, sym, ap, ◌∙◌, subst, arith, inl, inr, Some, None, Ok, Err}
+use Rattle.std.proofs.lemmas.List.{map-append, length-map, length-append, length_push, take-append-drop, take_all}
 use Rattle.std.proofs.lemmas.List.Elements.{All-nil, All-cons, All-append, All-push, All-weaker}
 use Rattle.std.specs.Borrow.{Bor}
 use Rattle.std.specs.Prelude.{All, Any}
@@ -11,6 +11,7 @@ use Rattle.fy_link.specs.UnitBytes.{IsUnitRead, IsBadUnit}
 use Rattle.fy_link.specs.Units.{IsUnit}
 use Rattle.fy_link.specs.declared.error.UnitReadError.TheVariants as unread
 use Rattle.fy_link.specs.declared.unit.Unit.{Unit as UnitValue}
+use Rattle.fy_link.proofs.Made.{unit-later}
 use Rattle.fy_types.specs.Names.{first_names}
 use Rattle.fy_world.specs.World.{Contents, Counts}
 use Rattle.fy_world.specs.Counted.{Caused, Faulted}
@@ -43,30 +44,6 @@ found files (name ∷ names) =
     let unit : Listed = record { name = name; content = content.0 } in
     record { units = unit ∷ behind.units; named = ap (λ ns. name ∷ ns) behind.named; told = All-cons (Holds files) unit behind.units content.1 behind.told }
 
--- ---- more names
-
-added_more : (a b c : List Bytes) → HasAdded a b → HasAdded b c → HasAdded a c
-added_more a b c h k = record { later = h.later ++ k.later; is = k.is ∙ ap (λ ns. ns ++ k.later) h.is ∙ append_assoc a h.later k.later }
-
-pub added_none : (names : List Bytes) → HasAdded names names
-added_none names = record { later = []; is = sym (append-nil names) }
-
-unit_of_more : (names later : List Bytes) (value : UnitValue) → HasAdded names later → IsUnit names value → IsUnit later value
-unit_of_more names later value more unit =
-    let is = unit.is in
-    record {
-      u = unit.u;
-      is = record {
-        short = is.short;
-        before = is.before;
-        after = is.after;
-        said = is.said;
-        kept = added_more is.after names later is.kept more;
-        derivation = is.derivation;
-        typed = is.typed;
-      };
-    }
-
 -- ---- what is read so far
 
 -- the first files hold units, of which there are these, with these names
@@ -95,7 +72,7 @@ read_more files names values known after name value so_far object more most =
       named = named_push so_far.units unit names so_far.named;
       told = All-push (Holds files) so_far.units unit so_far.told object.told;
       read = one_more name object.bytes value after so_far.read object.is.0 object.is.1;
-      are = All-push (IsUnit after) values value (All-weaker (IsUnit known) (IsUnit after) (λ u is. unit_of_more known after u more is) values so_far.are) object.is.2;
+      are = All-push (IsUnit after) values value (All-weaker (IsUnit known) (IsUnit after) (λ u is. unit-later known after u more is) values so_far.are) object.is.2;
       few = omega arith;
     }
 

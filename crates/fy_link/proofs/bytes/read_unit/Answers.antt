@@ -1,8 +1,8 @@
-use Rattle.std.proofs.Common.{◌≡◌, ◌⊎◌, inl, inr, ◌∙◌, ap, map, arith}
+use Rattle.std.proofs.Common.{inr, ◌∙◌, ap, map, arith}
 use Rattle.fy_lexer.proofs.NamesLemmas.{HasAdded-then}
 use Rattle.fy_derive.specs.Reading.{plain_derivation}
 use Rattle.fy_link.specs.Read.{plain_named, plain_said}
-use Rattle.fy_link.specs.Units.{context_of, IsTyped}
+use Rattle.fy_link.specs.Units.{context_of}
 use Rattle.fy_link.specs.UnitBytes.{IsBadUnit}
 use Rattle.fy_link.proofs.Made.{Stands, stands-concludes, stands-refused, unit-made}
 use Rattle.fy_link.proofs.ReadUnits.{read-of, unit-read, no-source, no-text, parts-shorter}
@@ -54,7 +54,7 @@ returns-clause-read c =
     let stands : Stands said context p = record { context_is = c.in_ok-context.ensures ∙ ap (λ xs. context_of (map plain_named xs)) c.deref.ensures.value; phrase_is = c.phrase.ensures } in
     let read = read-of c.args.names.now c.said_in.new.names c.read_derivation.new.names c.in-Some.source.now c.in-Some.text.now said d c.in-Ok.ensures.ok
     c.in-Ok-read_derivation.ensures.named c.in-Ok-read_derivation.ensures.within in
-    unit-read c.args.names.now c.read_derivation.new.names c.args.bytes.now c.in-Some.source.now c.in-Some.text.now _ said c.in-Some.ensures.some c.in_ok-source.ensures read
+    unit-read c.args.names.now c.read_derivation.new.names c.args.bytes.now c.in-Some.source.now c.in-Some.text.now _ c.in-Some.ensures.some c.in_ok-source.ensures read
     (record { limits = c.in-Ok-read_derivation.ensures.within; concluded = stands-concludes said context p (plain_derivation d) stands c.in-Ok-check_as.ensures })
 
 pub returns-clause-unit : goal.returns-clause-unit
@@ -64,6 +64,6 @@ returns-clause-unit c =
     let d = c.in-Ok-read_derivation.derivation in
     let p = c.phrase.result.now in
     let stands : Stands said context p = record { context_is = c.in_ok-context.ensures ∙ ap (λ xs. context_of (map plain_named xs)) c.deref.ensures.value; phrase_is = c.phrase.ensures } in
-    unit-made c.args.names.now c.said_in.new.names c.read_derivation.new.names c.in-Some.source.now _ said c.in-Some.ensures.some.short c.in_ok-source.ensures c.in-Ok.ensures.ok
+    unit-made c.args.names.now c.said_in.new.names c.read_derivation.new.names c.in-Some.source.now _ c.in-Some.ensures.some.short c.in_ok-source.ensures c.in-Ok.ensures.ok c.in-Ok.ensures.equals_at
     c.in-Ok-read_derivation.ensures.names.added
     (record { limits = c.in-Ok-read_derivation.ensures.within; concluded = stands-concludes said context p (plain_derivation d) stands c.in-Ok-check_as.ensures })

@@ -1,7 +1,6 @@
-use Rattle.std.proofs.Common.{◌≡◌, ◌∙◌, ap, map}
+use Rattle.std.proofs.Common.{◌∙◌, ap, map}
 use Rattle.fy_lexer.proofs.NamesLemmas.{HasAdded-none}
 use Rattle.fy_derive.specs.Reading.{plain_derivation}
-use Rattle.fy_link.specs.declared.source.Named.{Named}
 use Rattle.fy_link.specs.declared.error.UnitError.TheVariants as refused
 use Rattle.fy_link.specs.Answers.{of_find}
 use Rattle.fy_link.specs.Read.{plain_named}
@@ -17,7 +16,7 @@ returns-clause-unit c =
     let p = c.phrase.result.now in
     let after = c.said_in.new.names in
     let stands : Stands said context p = record { context_is = c.in_ok-context.ensures ∙ ap (λ xs. context_of (map plain_named xs)) c.deref.ensures.value; phrase_is = c.phrase.ensures } in
-    unit-made c.args.names.now after after c.args.source.now _ said c.requires.text c.in_ok-source.ensures c.in_ok-said.ensures.ok (HasAdded-none after)
+    unit-made c.args.names.now after after c.args.source.now _ c.requires.text c.in_ok-source.ensures c.in_ok-said.ensures.ok c.in_ok-said.ensures.equals_at (HasAdded-none after)
     (record {
       limits = found-limits c.args.names.now after c.args.source.now said context p d c.in_ok-said.ensures.ok stands c.in_ok-derivation.ensures.limits;
       concluded = stands-concludes said context p d stands c.in_ok-derivation.ensures.found.1;

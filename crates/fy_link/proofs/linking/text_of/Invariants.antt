@@ -3,5 +3,5 @@ use Rattle.fy_link.specs.Joined.{AreTextParts}
 use Rattle.fy_link.specs.Read.{plain_part}
 use Rattle.fy_link.proofs.linking.text_of.Given as goal
 
-abbrev pub invariant-loop-i : goal.invariant-loop-i
-invariant-loop-i l = AreTextParts l.names (take l.i l.units) (map plain_part l.parts.items)
+abbrev pub invariant-loop-unit : goal.invariant-loop-unit
+invariant-loop-unit l = AreTextParts l.names (take l.unit-index l.units) (map plain_part l.parts.items)
