@@ -1,6 +1,10 @@
+use fy_derive::Demand;
+use fy_forms::{TypeError, join, meet, paths_of};
+use fy_order::{
+    PathIndex, are_paths_below, is_form_below, one_end, others, rests_of_call, rests_of_field,
+};
 use fy_types::{
-    Atom, Names, Ty, TyList, TypeError, copy_paths, copy_ty, is_below, is_subtype, join, meet,
-    paths_of, print_ty, same_ty, ty_of,
+    Atom, Names, Ty, TyList, copy_paths, copy_ty, is_below, is_subtype, print_ty, same_ty, ty_of,
 };
 use std::alloc::Global;
 use std::test::Fail;
@@ -85,6 +89,51 @@ fn answers_questions_of_subtyping(rt: HostRuntime) -> Result<(), Fail> {
     for (low, high, answer) in &table {
         assert!(rt; answers(alloc, low, high)? == (*answer, *answer));
     }
+    Ok(())
+}
+
+// The meet of a procedure for each of the names, which takes a record of that field alone.
+fn readers(alloc: Global, names: &[u32]) -> Result<Ty, Fail> {
+    let mut all = TyList::new(alloc);
+    for name in names {
+        let record = Ty::Field(*name, Box::new(alloc, atom(Atom::Int))?);
+        all.push(arrow(alloc, record, atom(Atom::Int))?)?;
+    }
+    Ok(Ty::Meet(all))
+}
+
+const NAMES: [u32; 17] = [1, 2, 3, 4, 5, 6, 7, 8, 9, 10, 11, 12, 13, 14, 15, 16, 17];
+
+const TURNED: [u32; 17] = [17, 16, 15, 14, 13, 12, 11, 10, 9, 8, 7, 6, 5, 4, 3, 2, 1];
+
+const OTHERS: [u32; 17] = [18, 16, 15, 14, 13, 12, 11, 10, 9, 8, 7, 6, 5, 4, 3, 2, 1];
+
+#[test]
+fn many_paths_are_compared(rt: HostRuntime) -> Result<(), Fail> {
+    let alloc = rt.alloc();
+    let form = paths_of(alloc, &readers(alloc, &NAMES)?)?;
+    let turned = paths_of(alloc, &readers(alloc, &TURNED)?)?;
+    let others = paths_of(alloc, &readers(alloc, &OTHERS)?)?;
+    assert!(rt; is_form_below(alloc, &form, &turned)?);
+    assert!(rt; !is_form_below(alloc, &form, &others)?);
+    let index = PathIndex::of(alloc, &form)?;
+    assert!(rt; index.is_below(alloc, &turned)?);
+    assert!(rt; !index.is_below(alloc, &others)?);
+    Ok(())
+}
+
+#[test]
+fn rests_stand_behind_demands(rt: HostRuntime) -> Result<(), Fail> {
+    let alloc = rt.alloc();
+    let int = one_end(alloc, Atom::Int)?;
+    assert!(rt; are_paths_below(alloc, &int, &int)?);
+    let procedure = paths_of(alloc, &arrow(alloc, atom(Atom::Int), atom(Atom::Bool))?)?;
+    let rests = rests_of_call(alloc, &int, &procedure)?;
+    assert!(rt; matches!(rests.as_slice(), [rest] if rest.end == Atom::Bool));
+    let record = paths_of(alloc, &fields(alloc, 1)?)?;
+    assert!(rt; rests_of_field(alloc, 7, &record)?.len() == 1);
+    assert!(rt; rests_of_field(alloc, 8, &record)?.len() == 0);
+    assert!(rt; others(alloc, Demand::Call, &record)?.len() == 1);
     Ok(())
 }
 
