@@ -57,3 +57,43 @@ done
 { printf 'lettype t == '; fields 2000; printf ' in lettype s == '; each '(a%s: int)' 2000 -1 1; printf ' in let p == \\f: s -> comm. \\x: t. (f x'; repeated '; f x' 486; printf ') in skip'; } | measure '487 calls on 2000 fields turned round'
 { printf 'lettype t == '; fields 2000; printf ' in let p == \\x: t. (x.a2000'; repeated ', b == (if true then x else x).a1' 260; printf ') in skip'; } | measure '260 conditionals of 2,000 fields'
 { printf 'lettype t == '; fields 1000; printf ' in let p == \\f: '; each '((a%s: int) -> comm)' 1 1 1000; printf '. \\x: t. (f x'; repeated '; f x' 640; printf ') in skip'; } | measure '641 calls of 1,000 alternatives'
+
+# Types whose paths have one key and differ in the domains of their calls alone. So many calls of a procedure of the second type with an argument of the first:
+calls() {
+    printf 'lettype t == %s in lettype s == %s in let p == \\f: s -> comm. \\x: t. (f x' "$1" "$2"
+    repeated '; f x' 486
+    printf ') in skip'
+}
+calls "$(each '((a%s: int) -> int)' 1 1 1000)" "$(each '((a%s: int) -> int)' 1000 -1 1)" | measure '487 calls on 1,000 paths of one key'
+calls "$(each '((a%s: int) -> int)' 1 1 999) & (ns -> int)" "$(each '((b%s: int) -> int)' 1 1 1000)" | measure '487 calls, one path below all of 1,000'
+calls "$(each '((c: int) & (a%s: int) -> int)' 1 1 580)" "$(each '((c: int) & (a%s: int) -> int)' 580 -1 1)" | measure '487 calls on 580 paths of two fields'
+calls "$(for i in $(seq 300); do [ "$i" = 1 ] || printf ' & '; printf '(((((a%s: int) -> int) & ((b%s: int) -> int)) -> int) -> int)' "$i" "$i"; done)" "$(for i in $(seq 300 -1 1); do [ "$i" = 300 ] || printf ' & '; printf '(((((b%s: int) -> int) & ((a%s: int) -> int)) -> int) -> int)' "$i" "$i"; done)" | measure '487 calls on 300 paths of four levels'
+# The first 240 paths `D -> int` whose domains are the orders of six fields; with one more field, if it is named, at changing places; or with one of the six left out in turn.
+orders() {
+    awk -v more="$1" -v out="$2" '
+        function order(k, s, used, i) {
+            if (k == 6) { list[n++] = s; return }
+            for (i = 1; i <= 6; i++) if (!index(used, i)) order(k + 1, s " " i, used i)
+        }
+        BEGIN {
+            order(0, "", "")
+            for (j = 0; j < 240; j++) {
+                m = split(list[out == "" ? j : 3 * j], parts, " ")
+                d = ""
+                for (k = 1; k <= m; k++) {
+                    if (more != "" && k == j % 6 + 1) d = d (d == "" ? "" : " & ") "(" more ": int)"
+                    if (out == "" || parts[k] != j % 6 + 1) d = d (d == "" ? "" : " & ") "(a" parts[k] ": int)"
+                }
+                printf "%s((%s) -> int)", (j ? " & " : ""), d
+            }
+        }'
+}
+# 330 conditionals between values of the two types.
+conditionals() {
+    printf 'lettype t == %s in lettype s == %s in let p == \\x: t. \\y: s. (' "$1" "$2"
+    repeated '(let q == if true then x else y in skip); ' 329
+    printf '(let q == if true then x else y in skip)) in skip'
+}
+conditionals "$(orders '' '')" "$(orders '' '')" | measure '330 conditionals of 240 orders of fields'
+conditionals "$(orders '' '')" "$(orders z '')" | measure 'the same, one type with a field more'
+conditionals "$(orders '' out)" "$(orders '' '')" | measure 'the same, one type with a field less'
