@@ -2,6 +2,8 @@
 
 ghost use Rattle.std.specs.Prelude.{◌≡◌, ◌+◌, ◌≤◌, IfOk, IfErr, length};
 ghost use Rattle.fy_lexer.specs.Tokens.{HasAdded};
+ghost use Rattle.fy_link.specs.Read.{source_in};
+ghost use Rattle.fy_link.specs.Sources.{IsSource};
 ghost use Rattle.fy_link.specs.Units.{IsUnit, IsUnitFault};
 
 use crate::error::UnitError;
@@ -26,6 +28,7 @@ pub fn compile_unit(alloc: Global, names: &mut Names, source: &[u8]) -> Result<U
     requires text { length source.now ≤ 1048576 }
     requires names { length names.old ≤ 3000000000 }
     ensures source { IfOk result (λ unit. unit.source ≡ source.now) }
+    ensures said { IfOk result (λ unit. IsSource names.old source.now names.new (source_in unit)) }
     ensures unit { IfOk result (λ unit. IsUnit names.new unit) }
     ensures err { IfErr result (IsUnitFault names.old source.now) }
     ensures names { HasAdded names.old names.new }
