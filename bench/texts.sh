@@ -68,21 +68,21 @@ calls "$(each '((a%s: int) -> int)' 1 1 1000)" "$(each '((a%s: int) -> int)' 100
 calls "$(each '((a%s: int) -> int)' 1 1 999) & (ns -> int)" "$(each '((b%s: int) -> int)' 1 1 1000)" | measure '487 calls, one path below all of 1,000'
 calls "$(each '((c: int) & (a%s: int) -> int)' 1 1 580)" "$(each '((c: int) & (a%s: int) -> int)' 580 -1 1)" | measure '487 calls on 580 paths of two fields'
 calls "$(for i in $(seq 300); do [ "$i" = 1 ] || printf ' & '; printf '(((((a%s: int) -> int) & ((b%s: int) -> int)) -> int) -> int)' "$i" "$i"; done)" "$(for i in $(seq 300 -1 1); do [ "$i" = 300 ] || printf ' & '; printf '(((((b%s: int) -> int) & ((a%s: int) -> int)) -> int) -> int)' "$i" "$i"; done)" | measure '487 calls on 300 paths of four levels'
-# The first 240 paths `D -> int` whose domains are the orders of six fields; with one more field, if it is named, at changing places; or with one of the six left out in turn.
+# 240 paths `D -> int` whose domains are orders of the fields a1 to a6, with one more field, if it is named, at changing places; or orders of five of them, another left out each time.
 orders() {
     awk -v more="$1" -v out="$2" '
-        function order(k, s, used, i) {
-            if (k == 6) { list[n++] = s; return }
-            for (i = 1; i <= 6; i++) if (!index(used, i)) order(k + 1, s " " i, used i)
+        function order(o, k, s, used, i) {
+            if (k == (o ? 5 : 6)) { list[o, count[o]++] = s; return }
+            for (i = 1; i <= 6; i++) if (i != o && !index(used, i)) order(o, k + 1, s " " i, used i)
         }
         BEGIN {
-            order(0, "", "")
+            for (o = 0; o <= 6; o++) order(o, 0, "", "")
             for (j = 0; j < 240; j++) {
-                m = split(list[out == "" ? j : 3 * j], parts, " ")
+                m = split(out == "" ? list[0, j] : list[j % 6 + 1, int(j / 6)], parts, " ")
                 d = ""
                 for (k = 1; k <= m; k++) {
                     if (more != "" && k == j % 6 + 1) d = d (d == "" ? "" : " & ") "(" more ": int)"
-                    if (out == "" || parts[k] != j % 6 + 1) d = d (d == "" ? "" : " & ") "(a" parts[k] ": int)"
+                    d = d (d == "" ? "" : " & ") "(a" parts[k] ": int)"
                 }
                 printf "%s((%s) -> int)", (j ? " & " : ""), d
             }
