@@ -142,7 +142,7 @@ fn keep_common(
         return Ok(kept);
     }
     let path = common_path(alloc, p, q)?;
-    keep(alloc, kept, places, &path)
+    keep(kept, places, path)
 }
 
 /// Whether the paths have a common path.

@@ -6,6 +6,7 @@ ghost use Rattle.fy_types.specs.Limits.{IsTooLarge};
 ghost use Rattle.fy_forms.specs.Sized.{IsSized};
 ghost use Rattle.fy_types.specs.Keeping.{added, all_added};
 ghost use Rattle.fy_forms.specs.Keys.{IsMarked, IsSeen};
+ghost use Rattle.fy_forms.specs.Numbers.{number_of as number_of_path};
 ghost use Rattle.fy_types.specs.Once.{contains};
 
 use crate::error::TypeError;
@@ -13,7 +14,7 @@ use crate::number::number_of;
 use crate::same::{has_path, is_same_path};
 use crate::sized::Sized;
 use fy_base::OutOfMemory;
-use fy_types::{Path, Paths};
+use fy_types::{Path, Paths, copy_path};
 use std::alloc::Global;
 use std::collections::BTreeMap;
 
@@ -37,13 +38,13 @@ pub(crate) fn keep_all(
 {
     let mut form = kept;
     for path in list.as_slice() {
-        form = keep(alloc, form, places, path)?;
+        form = keep_copy(alloc, form, places, path)?;
     }
     Ok(form)
 }
 
-/// The kept paths and then the path, unless it is among them.
-pub(crate) fn keep(
+// The kept paths and then a copy of the path, unless it is among them.
+fn keep_copy(
     alloc: Global,
     kept: Sized,
     places: &mut Places,
@@ -57,20 +58,52 @@ pub(crate) fn keep(
     ensures large { IsErrOf result TypeError.TypeTooLarge →
         IsTooLarge (added (plain_paths kept.paths) (plain_path path.now)) }
 {
-    if is_kept(&kept.paths, places, path) {
+    if find_or_note(places, &kept.paths, path)? {
         return Ok(kept);
     }
-    note(places, number_of(path), kept.paths.len())?;
-    kept.keep_new(alloc, path)
+    kept.keep_new(copy_path(alloc, path)?)
 }
 
-// Whether the path is among the kept ones. Those of its number are few, so all are compared only
-// where the one that was noted is another.
-fn is_kept(list: &Paths, places: &Places, path: &Path) -> bool
-    requires { IsSeen places.now (plain_paths list.now) }
+/// The kept paths and then the path, unless it is among them.
+pub(crate) fn keep(kept: Sized, places: &mut Places, path: Path) -> Result<Sized, TypeError>
+    requires sized { IsSized kept (plain_paths kept.paths) }
+    requires seen { IsSeen places.old (plain_paths kept.paths) }
+    ensures ok { IfOk result
+        (λ s. IsSized s (added (plain_paths kept.paths) (plain_path path))) }
+    ensures seen { IfOk result (λ s. IsSeen places.new (plain_paths s.paths)) }
+    ensures large { IsErrOf result TypeError.TypeTooLarge →
+        IsTooLarge (added (plain_paths kept.paths) (plain_path path)) }
+{
+    if find_or_note(places, &kept.paths, &path)? {
+        return Ok(kept);
+    }
+    kept.keep_new(path)
+}
+
+// Whether the path is among the kept ones. Where it isn't, it is noted at the place after them.
+fn find_or_note(places: &mut Places, list: &Paths, path: &Path) -> Result<bool, OutOfMemory>
+    requires { IsSeen places.old (plain_paths list.now) }
+    ensures kept { IfOk result
+        (λ is_kept. is_kept ≡ contains (plain_paths list.now) (plain_path path.now)) }
+    ensures seen { OnOk result
+        (IsSeen places.new (added (plain_paths list.now) (plain_path path.now))) }
+{
+    let number = number_of(path);
+    if is_kept(list, places, number, path) {
+        return Ok(true);
+    }
+    note(places, number, list.len())?;
+    Ok(false)
+}
+
+// Whether the path, which has the number, is among the kept ones. Those of its number are few, so
+// all are compared only where the one that was noted is another.
+fn is_kept(list: &Paths, places: &Places, number: u64, path: &Path) -> bool
+    requires seen { IsSeen places.now (plain_paths list.now) }
+    requires number { number ≡ number_of_path (plain_path path.now) }
     ensures { result ≡ contains (plain_paths list.now) (plain_path path.now) }
 {
-    match places.get(&number_of(path)) {
+    match places.get(&number) {
         None => false,
         Some(place) => stands_at(list, *place, path) || has_path(list, path),
     }

@@ -11,7 +11,7 @@ ghost use Rattle.fy_types.specs.Once.{contains};
 use crate::error::TypeError;
 use crate::size::size_of_path;
 use fy_base::OutOfMemory;
-use fy_types::{Atom, ElemList, Name, Path, PathElem, Paths, copy_path, copy_paths};
+use fy_types::{Atom, ElemList, Name, Path, PathElem, Paths, copy_paths};
 use std::alloc::Global;
 
 /// The most nodes of a path form.
@@ -104,21 +104,21 @@ impl Sized {
     }
 
     /// These paths and then the path, which isn't among them.
-    pub(crate) fn keep_new(self, alloc: Global, path: &Path) -> Result<Sized, TypeError>
+    pub(crate) fn keep_new(self, path: Path) -> Result<Sized, TypeError>
         requires sized { IsSized self (plain_paths self.paths) }
-        requires new { contains (plain_paths self.paths) (plain_path path.now) ≡ false }
+        requires new { contains (plain_paths self.paths) (plain_path path) ≡ false }
         ensures ok { IfOk result
-            (λ s. IsSized s (added (plain_paths self.paths) (plain_path path.now))) }
+            (λ s. IsSized s (added (plain_paths self.paths) (plain_path path))) }
         ensures large { IsErrOf result TypeError.TypeTooLarge →
-            IsTooLarge (added (plain_paths self.paths) (plain_path path.now)) }
+            IsTooLarge (added (plain_paths self.paths) (plain_path path)) }
     {
-        let size = size_of_path(path);
+        let size = size_of_path(&path);
         let nodes = self.nodes.saturating_add(size.nodes);
         let nesting = self.nesting.max(size.nesting);
         if nodes > MOST_NODES || nesting > MOST_NESTING {
             return Err(TypeError::TypeTooLarge);
         }
-        let paths = pushed_path(alloc, self.paths, path)?;
+        let paths = pushed_path(self.paths, path)?;
         Ok(Sized {
             paths,
             nodes,
@@ -171,12 +171,12 @@ fn picked_paths(alloc: Global, name: Name, list: Paths) -> Result<Paths, OutOfMe
     Ok(made)
 }
 
-fn pushed_path(alloc: Global, list: Paths, path: &Path) -> Result<Paths, OutOfMemory>
+fn pushed_path(list: Paths, path: Path) -> Result<Paths, OutOfMemory>
     ensures { IfOk result
-        (λ made. plain_paths made ≡ append (plain_paths list) (and_path (plain_path path.now) no_paths)) }
+        (λ made. plain_paths made ≡ append (plain_paths list) (and_path (plain_path path) no_paths)) }
 {
     let mut made = list;
-    made.push(copy_path(alloc, path)?)?;
+    made.push(path)?;
     Ok(made)
 }
 
