@@ -21,6 +21,35 @@ use std::collections::BTreeMap;
 /// Where the last kept path of each number stands.
 pub(crate) type Places = BTreeMap<u64, usize>;
 
+/// The kept paths, and then those of the list that aren't among them, each once. Each path is
+/// looked for among all that are kept.
+pub(crate) fn keep_each(alloc: Global, kept: Sized, list: &Paths) -> Result<Sized, TypeError>
+    requires { IsSized kept (plain_paths kept.paths) }
+    ensures ok { IfOk result
+        (λ s. IsSized s (all_added (plain_paths kept.paths) (plain_paths list.now))) }
+    ensures large { IsErrOf result TypeError.TypeTooLarge →
+        IsTooLarge (all_added (plain_paths kept.paths) (plain_paths list.now)) }
+{
+    let mut form = kept;
+    for path in list.as_slice() {
+        form = keep_one(alloc, form, path)?;
+    }
+    Ok(form)
+}
+
+fn keep_one(alloc: Global, kept: Sized, path: &Path) -> Result<Sized, TypeError>
+    requires { IsSized kept (plain_paths kept.paths) }
+    ensures ok { IfOk result
+        (λ s. IsSized s (added (plain_paths kept.paths) (plain_path path.now))) }
+    ensures large { IsErrOf result TypeError.TypeTooLarge →
+        IsTooLarge (added (plain_paths kept.paths) (plain_path path.now)) }
+{
+    if has_path(&kept.paths, path) {
+        return Ok(kept);
+    }
+    kept.keep_new(copy_path(alloc, path)?)
+}
+
 /// The kept paths, and then those of the list that aren't among them, each once.
 pub(crate) fn keep_all(
     alloc: Global,

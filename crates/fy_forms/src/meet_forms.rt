@@ -7,11 +7,14 @@ ghost use Rattle.fy_forms.specs.Sized.{IsSized};
 ghost use Rattle.fy_types.specs.Bounds.{meet_of, IsGreatestLowerBound};
 
 use crate::error::TypeError;
-use crate::kept::keep_all;
+use crate::kept::{keep_all, keep_each};
 use crate::sized::Sized;
 use fy_types::Paths;
 use std::alloc::Global;
 use std::collections::BTreeMap;
+
+// Among so few paths a look through those that are kept costs less than a map of their numbers.
+const FEW: usize = 16;
 
 /// The paths of the first form and then those of the second, each once, at its first place. This
 /// stands for a greatest lower bound of the two types.
@@ -40,6 +43,10 @@ pub(crate) fn meet_form(alloc: Global, a: &Paths, b: &Paths) -> Result<Sized, Ty
     ensures large { IsErrOf result TypeError.TypeTooLarge →
         IsTooLarge (meet_of (plain_paths a.now) (plain_paths b.now)) }
 {
+    if a.len().saturating_add(b.len()) <= FEW {
+        let few = keep_each(alloc, Sized::none(alloc), a)?;
+        return keep_each(alloc, few, b);
+    }
     let mut places = BTreeMap::new(alloc);
     let first = keep_all(alloc, Sized::none(alloc), &mut places, a)?;
     keep_all(alloc, first, &mut places, b)
