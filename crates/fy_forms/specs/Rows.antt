@@ -12,6 +12,7 @@ use Rattle.fy_types.specs.Once.{contains}
 use Rattle.fy_types.specs.Bounds.{common, commons_with}
 use Rattle.fy_types.specs.Keeping.{all_added, is_some}
 use Rattle.fy_forms.specs.declared.rows.Member.{Member}
+use Rattle.fy_forms.specs.declared.rows.Listed.{Listed}
 use Rattle.fy_forms.specs.declared.rows.Table.{Table}
 use Rattle.fy_forms.specs.declared.rows.Row.{Row}
 use Rattle.fy_forms.specs.declared.rows.Rows.{Rows}
@@ -35,6 +36,10 @@ abbrev pub members : ℕ → PlainPath → List PlainMember
 members k (end a) = []
 members k (call D p) = tagged k D ++ members (k + 1) p
 members k (pick i p) = members (k + 1) p
+
+-- the members are the path's
+abbrev pub IsListed : Listed → Type 0
+IsListed x = map plain_member x.members.items ≡ members 0 (plain_path x.path.now)
 
 -- the domain of the call that has so many elements before it
 abbrev pub domain_at : PlainPath → ℕ → PlainPaths

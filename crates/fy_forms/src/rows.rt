@@ -1,9 +1,9 @@
 //! The members of the domains of paths, as numbers that stand for them.
 
-ghost use Rattle.std.specs.Prelude.{◌≡◌, ◌++◌, map, IfOk, IfSome};
+ghost use Rattle.std.specs.Prelude.{◌≡◌, ◌++◌, map, All, IfOk, IfSome};
 ghost use Rattle.fy_types.specs.Reading.{plain_elem, plain_path, plain_paths};
 ghost use Rattle.fy_forms.specs.Merging.{elem_domain};
-ghost use Rattle.fy_forms.specs.Rows.{plain_member, tagged, members, stands_for, IsRow, AreRows, IsFlagged};
+ghost use Rattle.fy_forms.specs.Rows.{plain_member, tagged, members, stands_for, IsListed, IsRow, AreRows, IsFlagged};
 
 use crate::number::{mixed, number_of};
 use crate::same::is_same_path;
@@ -18,6 +18,13 @@ pub(crate) struct Member<'a> {
     place: usize,
     path: &'a Path,
     number: u64,
+}
+
+/// A path with its members.
+#[derive(Drop)]
+struct Listed<'a> {
+    path: &'a Path,
+    members: Vec<Member<'a>>,
 }
 
 /// Members, of which each stands for itself by its index, and indexes by the members' numbers.
@@ -117,34 +124,47 @@ fn with_domain<'a>(
     Ok(made)
 }
 
-fn table_of<'a>(alloc: Global, list: &[&'a Path]) -> Result<Table<'a>, OutOfMemory> {
+// The paths with their members.
+fn members_of_all<'a>(alloc: Global, list: &[&'a Path]) -> Result<Vec<Listed<'a>>, OutOfMemory>
+    ensures each { IfOk result (λ all. All IsListed all.items) }
+    ensures paths { IfOk result (λ all. map (λ x. x.path) all.items ≡ list.now) }
+{
+    let mut all = Vec::new(alloc);
+    for path in list {
+        let members = members_of(alloc, path)?;
+        all.push(Listed { path, members })?;
+    }
+    Ok(all)
+}
+
+fn table_of<'a>(alloc: Global, all: &[Listed<'a>]) -> Result<Table<'a>, OutOfMemory> {
     let mut table = Table {
         members: Vec::new(alloc),
         indexes: BTreeMap::new(alloc),
     };
-    for path in list {
-        for member in members_of(alloc, path)? {
-            table.note(member)?;
+    for listed in all {
+        for member in &listed.members {
+            table.note(*member)?;
         }
     }
     Ok(table)
 }
 
-fn row_of<'a>(alloc: Global, table: &Table<'_>, path: &'a Path) -> Result<Row<'a>, OutOfMemory>
+fn row_of<'a>(alloc: Global, table: &Table<'_>, listed: &Listed<'a>) -> Result<Row<'a>, OutOfMemory>
+    requires { IsListed listed.now }
     ensures row { IfOk result (λ row. IsRow table.now row) }
-    ensures path { IfOk result (λ row. row.path ≡ path.entry) }
+    ensures path { IfOk result (λ row. row.path ≡ listed.now.path) }
 {
-    let members = members_of(alloc, path)?;
     let mut indexes = Vec::new(alloc);
     let mut is_whole = true;
-    for member in &members {
+    for member in &listed.members {
         match table.find(member) {
             Some(index) => indexes.push(index)?,
             None => is_whole = false,
         }
     }
     Ok(Row {
-        path,
+        path: listed.path,
         indexes,
         is_whole,
     })
@@ -154,10 +174,11 @@ fn row_of<'a>(alloc: Global, table: &Table<'_>, path: &'a Path) -> Result<Row<'a
 pub(crate) fn rows_of<'a>(alloc: Global, list: &[&'a Path]) -> Result<Rows<'a>, OutOfMemory>
     ensures { IfOk result (λ rows. AreRows rows list.now) }
 {
-    let table = table_of(alloc, list)?;
+    let all = members_of_all(alloc, list)?;
+    let table = table_of(alloc, &all)?;
     let mut rows = Vec::new(alloc);
-    for path in list {
-        rows.push(row_of(alloc, &table, path)?)?;
+    for listed in &all {
+        rows.push(row_of(alloc, &table, listed)?)?;
     }
     Ok(Rows { table, rows })
 }
