@@ -1,14 +1,19 @@
 -- One path of the next level is chosen for each path that has some in its domains.
-use Rattle.std.proofs.Common.{ℕ, zero, suc, ◌+◌, ◌-◌, ◌<◌, ◌≤◌, ◌≡◌, Bool, true, false, List, [], ◌∷◌, length, get_or, set, refl, sym, ap, ◌∙◌, arith, below_more, get_or-set_same}
+use Rattle.std.proofs.Common.{ℕ, zero, suc, ◌+◌, ◌-◌, ◌<◌, ◌≤◌, ◌≡◌, Bool, true, false, List, [], ◌∷◌, length, map, subst, Contains, get_or, set, refl, sym, ap, arith, below_more, get_or-set_same}
 use Rattle.std.proofs.lemmas.List.{length-map}
 use Rattle.fy_order.specs.declared.levels.Level.{Level}
-use Rattle.fy_order.specs.Levels.{PlainTagged, IsLevel, HasChosen, AreLevels, inner, next, own_sign, starts_from}
+use Rattle.fy_order.specs.Levels.{PlainTagged, Signs, IsLevel, IsChosen, IsNotedToo, places_at, HasChosen, AreLevels, inner, next, own_sign, starts_from}
+use Rattle.fy_order.proofs.LevelSteps.{has-noted, still-noted}
 use Rattle.fy_order.proofs.LevelLemmas.{at-within, none-inner, start-fits, start-next, starts-length}
 
+-- the place is chosen, and looked for by its sign
+abbrev pub IsMarked : List Bool → Signs → List ℕ → ℕ → Type 0
+IsMarked b m s z = (get_or b z false ≡ true) × Contains (places_at m (get_or s z 0)) z
+
 -- of what stands from each of the first n starts up to the next one, where anything does, some is chosen
-abbrev pub AreChosen : List ℕ → List Bool → ℕ → Type 0
-AreChosen f b n = (k : ℕ) → k < n → get_or f k 0 < get_or f (k + 1) 0 →
-    (z : ℕ) × (get_or f k 0 ≤ z) × (z < get_or f (k + 1) 0) × (get_or b z false ≡ true)
+abbrev pub AreChosen : List ℕ → List Bool → Signs → List ℕ → ℕ → Type 0
+AreChosen f b m s n = (k : ℕ) → k < n → get_or f k 0 < get_or f (k + 1) 0 →
+    (z : ℕ) × (get_or f k 0 ≤ z) × (z < get_or f (k + 1) 0) × IsMarked b m s z
 
 still : (b : List Bool) (z y : ℕ) → get_or b y false ≡ true → get_or (set b z true) y false ≡ true
 still [] z y e = e
@@ -17,14 +22,16 @@ still (x ∷ b) zero (suc y) e = e
 still (x ∷ b) (suc z) zero e = e
 still (x ∷ b) (suc z) (suc y) e = still b z y e
 
-pub chosen-then : (f : List ℕ) (b : List Bool) (n z : ℕ) → AreChosen f b n → get_or f n 0 ≤ z → z < get_or f (n + 1) 0 → z < length b →
-    AreChosen f (set b z true) (n + 1)
-chosen-then f b n z chosen low high within =
-    below_more _ _ (λ k few some. let (y, l, h, is) = chosen k few some in (y, l, h, still b z y is))
-    (λ some. (z, low, high, get_or-set_same b z true false within))
+pub chosen-then : (f : List ℕ) (b : List Bool) (m o : Signs) (s : List ℕ) (n z : ℕ) → AreChosen f b m s n → get_or f n 0 ≤ z → z < get_or f (n + 1) 0 →
+    z < length b → IsNotedToo m o (get_or s z 0) z → AreChosen f (set b z true) o s (n + 1)
+chosen-then f b m o s n z chosen low high within too =
+    below_more _ _ (λ k few some. let (y, l, h, is) = chosen k few some in
+    (y, l, h, (still b z y is.0, still-noted m o (get_or s z 0) z too (get_or s y 0) y is.1)))
+    (λ some. (z, low, high, (get_or-set_same b z true false within, has-noted m o (get_or s z 0) z too)))
 
-pub chosen-else : (f : List ℕ) (b : List Bool) (n : ℕ) → AreChosen f b n → get_or f (n + 1) 0 ≤ get_or f n 0 → AreChosen f b (n + 1)
-chosen-else f b n chosen none = below_more _ _ chosen (λ some. absurd (omega (arith, some, none)))
+pub chosen-else : (f : List ℕ) (b : List Bool) (m : Signs) (s : List ℕ) (n : ℕ) → AreChosen f b m s n → get_or f (n + 1) 0 ≤ get_or f n 0 →
+    AreChosen f b m s (n + 1)
+chosen-else f b m s n chosen none = below_more _ _ chosen (λ some. absurd (omega (arith, some, none)))
 
 none-if : (xs : List PlainTagged) → (0 < length xs → ⊥) → xs ≡ []
 none-if [] none = refl
@@ -38,13 +45,14 @@ none-of : (xs : List PlainTagged) → length xs ≡ 0 → xs ≡ []
 none-of [] e = refl
 none-of (x ∷ xs) e = absurd (omega arith)
 
-pub chosen-all : (l : Level) (T : List PlainTagged) → l.starts.items ≡ starts_from 0 T → AreChosen l.starts.items l.chosen.items (length T) → HasChosen l T
+pub chosen-all : (l : Level) (T : List PlainTagged) → l.starts.items ≡ starts_from 0 T →
+    AreChosen l.starts.items l.chosen.items l.looked (map own_sign (next T)) (length T) → HasChosen l T
 chosen-all l T starts chosen k t at some =
     let step = rw (sym starts) at (start-next 0 T k t at) in
     let many : 0 < length (inner t) = some-if (length (inner t)) (λ e. some (none-of (inner t) e)) in
     let (z, low, high, is) = chosen k (at-within T k t at) (omega (arith, many, step)) in
     let e : get_or l.starts.items k 0 + (z - get_or l.starts.items k 0) ≡ z = omega (arith, low) in
-    (z - get_or l.starts.items k 0, omega (arith, low, high, step), ap (λ y. get_or l.chosen.items y false) e ∙ is)
+    (z - get_or l.starts.items k 0, omega (arith, low, high, step), subst (IsChosen l T) (sym e) is)
 
 -- there is nothing to choose from
 pub chosen-none : (l : Level) (T : List PlainTagged) → next T ≡ [] → HasChosen l T

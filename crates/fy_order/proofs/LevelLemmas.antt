@@ -1,10 +1,11 @@
 -- The paths of a level, and where those in their domains stand on the next one.
-use Rattle.std.proofs.Common.{ℕ, zero, suc, ◌+◌, ◌-◌, ◌<◌, ◌≤◌, ◌≡◌, List, [], ◌∷◌, ◌++◌, length, get_or, refl, sym, ap, ◌∙◌, subst, arith, add_assoc, add-zero, zero-add, length-append}
+use Rattle.std.proofs.Common.{ℕ, zero, suc, ◌+◌, ◌-◌, ◌<◌, ◌≤◌, ◌≡◌, List, [], ◌∷◌, ◌++◌, length, get_or, slice_get, refl, sym, ap, ◌∙◌, subst, arith, add_assoc, add-zero, zero-add, length-append}
+use Rattle.std.specs.Option.{unwrap_or}
 use Rattle.fy_types.specs.declared.types.Atom.{Atom}
 use Rattle.fy_types.specs.Paths.{PlainPath}
 use Rattle.fy_types.specs.Reading.{PlainElem, a_call, a_field, front}
 use Rattle.fy_forms.specs.Numbers.{mixed, mark}
-use Rattle.fy_order.specs.Levels.{PlainTagged, IsAt, inner, next, sign_from, starts_from, owners_from, times}
+use Rattle.fy_order.specs.Levels.{PlainTagged, IsAt, inner, leader, next, sign_from, starts_from, owners_from, times}
 
 -- Places in lists.
 
@@ -151,3 +152,12 @@ pub none-inner : (T : List PlainTagged) → next T ≡ [] → (k : ℕ) (t : Pla
 none-inner [] none k t at = absurd at
 none-inner (x ∷ T) none zero t at = ap inner (sym at) ∙ append-empty_left (inner x) (next T) none
 none-inner (x ∷ T) none (suc k) t at = none-inner T (append-empty_right (inner x) (next T) none) k t at
+
+-- the first of the places is the one at index 0
+pub leader-first : (ks : List ℕ) → slice_get ks 0 ≡ leader ks
+leader-first [] = refl
+leader-first (k ∷ ks) = refl
+
+pub leader-or : (ks : List ℕ) → unwrap_or (leader ks) 0 ≡ get_or ks 0 0
+leader-or [] = refl
+leader-or (k ∷ ks) = refl

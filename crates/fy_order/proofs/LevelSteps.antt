@@ -69,13 +69,13 @@ pub record IsBegun (all : Bool) (s : List ℕ) (m : Signs) (f o : List ℕ) (N T
   pub owners : o ≡ owners_from 0 T
   pub inners : N ≡ next T
 
-has-noted : (m n : Signs) (s k : ℕ) → IsNotedToo m n s k → Contains (places_at n s) k
+pub has-noted : (m n : Signs) (s k : ℕ) → IsNotedToo m n s k → Contains (places_at n s) k
 has-noted m n s k too =
     let e : is_eq (nat_cmp s s) ≡ true = ap is_eq (tied_itself nat_cmp_total s) in
     let is : places_at n s ≡ places_at m s ++ (k ∷ []) = too s ∙ ap (λ (b : Bool). places_at m s ++ (if b then k ∷ [] else [])) e in
     subst (λ xs. Contains xs k) (sym is) (Contains-append_right (places_at m s) (k ∷ []) k (0, omega arith, refl))
 
-still-noted : (m n : Signs) (s k : ℕ) → IsNotedToo m n s k → (q j : ℕ) → Contains (places_at m q) j → Contains (places_at n q) j
+pub still-noted : (m n : Signs) (s k : ℕ) → IsNotedToo m n s k → (q j : ℕ) → Contains (places_at m q) j → Contains (places_at n q) j
 still-noted m n s k too q j has =
     subst (λ xs. Contains xs j) (sym (too q))
     (Contains-append_left (places_at m q) (if is_eq (nat_cmp s q) then k ∷ [] else []) j has)
@@ -85,7 +85,7 @@ only-one true k j (zero, within, is) = is
 only-one true k j (suc i, within, is) = absurd (omega arith)
 only-one false k j (i, within, is) = absurd (omega arith)
 
-only-noted : (m n : Signs) (s k : ℕ) → IsNotedToo m n s k → (q j : ℕ) → Contains (places_at n q) j → Contains (places_at m q) j ⊎ (k ≡ j)
+pub only-noted : (m n : Signs) (s k : ℕ) → IsNotedToo m n s k → (q j : ℕ) → Contains (places_at n q) j → Contains (places_at m q) j ⊎ (k ≡ j)
 only-noted m n s k too q j has =
     let extra : List ℕ = if is_eq (nat_cmp s q) then k ∷ [] else [] in
     elim (Contains-append_cases (places_at m q) extra j (subst (λ xs. Contains xs j) (too q) has)) [
@@ -135,19 +135,20 @@ begun-more all s s' m n f f' o o' N N' T t begun signs noted starts owners inner
     all_inner : N' ≡ next (T ++ (t ∷ []))
     all_inner = inners ∙ (ap (λ xs. xs ++ inner t) begun.inners ∙ sym (next-push T t))
 
+-- an empty map has no places
+pub none-at : (m : Signs) → m.entries ≡ [] → (q k : ℕ) → Contains (places_at m q) k → ⊥
+none-at m none q k has = let (i, within, is) = rw none at has in omega arith
+
 -- nothing yet
 pub begun-none : (all : Bool) (m : Signs) → m.entries ≡ [] → IsBegun all [] m [] [] [] []
 begun-none all m none = record {
   signs = refl;
   noted = λ k t at wanted. absurd at;
-  within = λ q k has. absurd (none-at q k has);
+  within = λ q k has. absurd (none-at m none q k has);
   starts = refl;
   owners = refl;
   inners = refl;
 }
-  where
-    none-at : (q k : ℕ) → Contains (places_at m q) k → ⊥
-    none-at q k has = let (i, within, is) = rw none at has in omega arith
 
 -- the first paths of a list and the one at the index
 pub tagged-more : (xs : List Tagged) (i : ℕ) (x : Tagged) → i < length xs → x ≡ get_or xs i x →

@@ -1,7 +1,7 @@
 -- What is below a path, or above it, has its signs, and what stands in the domains the other way round.
-use Rattle.std.proofs.Common.{take, drop, Vec, Global, not, length-append, ℕ, zero, suc, ◌+◌, ◌-◌, ◌<◌, ◌≤◌, ◌≡◌, ◌⊎◌, inl, inr, List, [], ◌∷◌, ◌++◌, length, get_or, set, Bool, true, false, Contains, All, map, refl, sym, ap, ◌∙◌, subst, arith, below_more}
-use Rattle.std.proofs.Math.Seq.{get_or-append_seam, take-length}
-use Rattle.std.proofs.lemmas.List.{get_or_default, get_or_append_left, length-map}
+use Rattle.std.proofs.Common.{take, drop, Vec, Global, not, ℕ, zero, suc, ◌+◌, ◌-◌, ◌<◌, ◌≤◌, ◌≡◌, ◌⊎◌, inl, inr, List, [], ◌∷◌, ◌++◌, length, get_or, set, Bool, true, false, Contains, All, map, refl, sym, ap, ◌∙◌, subst, arith, Some}
+use Rattle.std.proofs.Math.Seq.{take-length}
+use Rattle.std.proofs.lemmas.List.{get_or_default, get_or-map, length-map}
 use Rattle.std.proofs.lemmas.List.Elements.{All-append, Contains-append_left, Contains-append_right, Contains-append_cases}
 use Rattle.fy_types.specs.declared.types.Atom.{Atom}
 use Rattle.fy_types.specs.declared.types.Atom.TheVariants.{Comm, Compl}
@@ -9,11 +9,12 @@ use Rattle.fy_types.specs.Paths.{PlainPath, PlainPaths, end, call, pick, no_path
 use Rattle.fy_types.specs.PathOrder.{IsEndBelow, same_end, compl_below, IsPathBelow, ends, calls, picks, ArePathsBelow, and_above, HasBelow, here, there}
 use Rattle.fy_types.specs.Reading.{PlainElem, a_call, a_field, fronted}
 use Rattle.fy_forms.specs.Numbers.{mixed}
-use Rattle.fy_order.specs.Levels.{PlainTagged, plain_tagged, IsLevel, HasChosen, AreLevels, AreSomeLevels, width, HaveBelow, HaveAbove, places_at, times, IsAt, IsBelow, inner, inner_from, all_tagged, next, sign, sign_from, own_sign, end_of, starts_from, owners_from}
+use Rattle.fy_order.specs.Levels.{PlainTagged, plain_tagged, IsLevel, IsChosen, HasChosen, AreLevels, AreSomeLevels, width, HaveBelow, HaveAbove, leader, leader_at, places_at, times, IsAt, IsBelow, inner, inner_from, all_tagged, next, sign, sign_from, own_sign, end_of, starts_from, owners_from}
 use Rattle.fy_order.specs.declared.levels.Level.{Level}
 use Rattle.fy_order.specs.declared.levels.Tagged.{Tagged}
+use Rattle.fy_order.specs.declared.search.Covering.{Covering}
 use Rattle.fy_order.specs.declared.search.Wanted.{Wanted}
-use Rattle.fy_order.specs.Searching.{IsFit, IsWanted, IsCovered, HasOwner, HasChosenOf}
+use Rattle.fy_order.specs.Searching.{Covers, IsFit, IsLed, IsWanted, IsCovered, IsListed, IsReached, IsSought, HasOwner, HasWith}
 use Rattle.fy_order.proofs.LevelLemmas.{at-before, at-after, at-within, at-some, starts-length, owners-length, start-next, start-fits, next-at, none-inner, owner-at}
 
 -- paths below one another have the same signs but for the end
@@ -120,17 +121,17 @@ both-known at own other found first k is was h = elim (Contains-append_cases fir
   | inr g ↦ (other, g)
 ]
 
--- the path is among those that are found, if the place is chosen and belongs to it
-abbrev pub IsTaken : Level → Wanted → List Bool → List ℕ → ℕ → ℕ → Type 0
-IsTaken l w covered found k z = get_or l.chosen.items z false ≡ true → get_or l.owners.items z 0 ≡ k →
-    IsCovered l covered k → IsWanted w (get_or l.signs.items k 0) → Contains found k
+-- the first of the places is one of them, and what is read there
+pub leader-in : (xs : List ℕ) (x : ℕ) → leader xs ≡ Some x → Contains xs x × (get_or xs 0 0 ≡ x)
+leader-in [] x e = absurd (cc)
+leader-in (y ∷ ys) x e = let is : y ≡ x = cc in ((0, omega arith, is), is)
 
-pub taken-more : (l : Level) (w : Wanted) (covered : List Bool) (found list : List ℕ) (i : ℕ) →
-    ((j k : ℕ) → j < i → IsTaken l w covered found k (get_or list j 0)) →
-    ((k : ℕ) → IsTaken l w covered found k (get_or list i 0)) →
-    (j k : ℕ) → j < i + 1 → IsTaken l w covered found k (get_or list j 0)
-taken-more l w covered found list i before last j k lt =
-    below_more (λ n. IsTaken l w covered found k (get_or list n 0)) i (λ n h. before n k h) (last k) j lt
+pub leaders-length : (l : Level) → IsLed l → length l.leaders.items ≡ length l.signs.items
+leaders-length l led = ap length led.leaders ∙ length-map l.signs.items (leader_at l.places)
+
+-- the first path with the sign of the path at the place
+pub leader-is : (l : Level) (k : ℕ) → IsLed l → k < length l.signs.items → get_or l.leaders.items k 0 ≡ leader_at l.places (get_or l.signs.items k 0)
+leader-is l k led few = ap (λ xs. get_or xs k 0) led.leaders ∙ get_or-map (leader_at l.places) l.signs.items k 0 0 few
 
 -- a flag that is set after one was is that one, or was set before
 pub set-split : (flags : List Bool) (i k : ℕ) → get_or (set flags i true) k false ≡ true → (i ≡ k) ⊎ (get_or flags k false ≡ true)
@@ -176,6 +177,7 @@ level-fit {l = l} {T = T} is =
       chosen = is.chosen ∙ sym owners;
       owned = rw (signs, is.owners) (λ k d lt. omega (arith, owners-within 0 T k d lt));
       begun = rw (owners, is.starts) (λ k d lt. omega (arith, start-fits 0 T k (omega (arith, starts-length 0 T)), get_or_default (starts_from 0 T) k d 0 lt));
+      looked = rw owners is.looked;
     }
 
 -- the first level has as many paths as the list, and owners as the next one
@@ -206,9 +208,6 @@ owners-first all ls l is some h =
     let parts = levels-split all ls l h.0 is some h.1 in
     ap length parts.0.owners ∙ (owners-length 0 h.0 ∙ sym (width-of (not all) (rest ls) (next h.0) parts.1.1))
 
-pub some-rest : (all : Bool) (ls : List Level) (l : Level) → l ≡ get_or ls 0 l → 1 ≤ length ls → AreSomeLevels all ls → AreSomeLevels (not all) (rest ls)
-some-rest all ls l is some h = (next h.0, (levels-split all ls l h.0 is some h.1).1.1)
-
 -- what the map of the first level has is within
 pub places-within : (all : Bool) (ls : List Level) (l : Level) (found : List ℕ) → l ≡ get_or ls 0 l → 1 ≤ length ls → AreSomeLevels all ls →
     ((k : ℕ) → Contains found k → (s : ℕ) × Contains (places_at l.places s) k) → All (λ k. k < length l.signs.items) found
@@ -218,82 +217,58 @@ places-within all ls l found is some h known k d lt =
     let at = known x (k, lt, get_or_default found k x d lt) in
     omega (arith, parts.0.within at.0 x at.1, ap length parts.0.signs, length-map h.0 own_sign)
 
--- Lists of places.
-
-abbrev pub AreWithin : ℕ → List (Vec ℕ Global) → Type 0
-AreWithin n lists = All (λ (v : Vec ℕ Global). All (λ k. k < n) v.items) lists
-
--- one of the lists has the place
-abbrev pub IsListed : List (Vec ℕ Global) → ℕ → Type 0
-IsListed lists z = (n : ℕ) × (n < length lists) × ((d : Vec ℕ Global) → Contains (get_or lists n d).items z)
-
--- all that is above the path is covered, and listed
-abbrev pub IsAbove : List PlainTagged → PlainTagged → List Bool → List (Vec ℕ Global) → Type 0
-IsAbove N e covered lists = (z : ℕ) (d : PlainTagged) → IsAt N z d → IsBelow e d → (get_or covered z false ≡ true) × IsListed lists z
-
-pub above-more : (N : List PlainTagged) (e : PlainTagged) (was covered : List Bool) (lists : List (Vec ℕ Global)) (v : Vec ℕ Global) →
-    ((k : ℕ) → get_or was k false ≡ true → get_or covered k false ≡ true) → IsAbove N e was lists → IsAbove N e covered (lists ++ (v ∷ []))
-above-more N e was covered lists v kept have z d at low =
-    let h = have z d at low in
-    let few = h.1.1 in (
-      kept z h.0,
-      (h.1.0, omega (arith, length-append lists (v ∷ [])), λ x. subst (λ (y : Vec ℕ Global). Contains y.items z) (sym (get_or_append_left lists (v ∷ []) x h.1.0 few)) (h.1.2 x)),
-    )
-
-pub above-last : (N : List PlainTagged) (e : PlainTagged) (covered : List Bool) (lists : List (Vec ℕ Global)) (v : Vec ℕ Global) →
-    ((k : ℕ) → Contains v.items k → get_or covered k false ≡ true) → HaveAbove N e v.items → IsAbove N e covered (lists ++ (v ∷ []))
-above-last N e covered lists v set have z d at low =
-    let h = have z d at low in (
-      set z h,
-      (length lists, omega (arith, length-append lists (v ∷ [])), λ x. subst (λ (y : Vec ℕ Global). Contains y.items z) (sym (get_or-append_seam lists v [] x)) h),
-    )
-
--- a chosen place in a list
-chosen-of : (l : Level) (places : List ℕ) (z k : ℕ) → Contains places z → get_or l.chosen.items z false ≡ true → get_or l.owners.items z 0 ≡ k → HasChosenOf l places k
-chosen-of l places z k h chosen own =
-    let is : get_or places h.0 0 ≡ z = get_or_default places h.0 0 z h.1 ∙ h.2 in
-    (h.0, h.1, ap (λ y. get_or l.chosen.items y false) is ∙ chosen, ap (λ y. get_or l.owners.items y 0) is ∙ own)
-
-none-next : (T : List PlainTagged) → length (next T) ≡ 0 → next T ≡ []
-none-next T none = step (next T) none
-  where
-    step : (L : List PlainTagged) → length L ≡ 0 → L ≡ []
-    step [] is = refl
-    step (d ∷ L) is = absurd (omega arith)
-
--- what is found by signs is enough, where nothing stands in domains
-pub below-none : (l : Level) (T : List PlainTagged) (u : PlainTagged) (w : Wanted) (found : List ℕ) → IsLevel false l T → length l.owners.items ≡ 0 →
-    ((t : PlainTagged) → IsBelow t u → IsWanted w (own_sign t)) →
-    ((s k : ℕ) → IsWanted w s → Contains (places_at l.places s) k → Contains found k) → HaveBelow T u found
-below-none l T u w found is none signs has k t at low =
-    has (own_sign t) k (signs t low)
-    (is.noted k t at (inr (none-inner T (none-next T (sym (ap length is.owners ∙ owners-length 0 T) ∙ none)) k t at)))
-
+-- what is found by signs is enough, where all paths are looked for by them
 pub above-none : (l : Level) (T : List PlainTagged) (t : PlainTagged) (w : Wanted) (found : List ℕ) → IsLevel true l T →
     ((u : PlainTagged) → IsBelow t u → IsWanted w (own_sign u)) →
     ((s k : ℕ) → IsWanted w s → Contains (places_at l.places s) k → Contains found k) → HaveAbove T t found
 above-none l T t w found is signs has k u at low = has (own_sign u) k (signs u low) (is.noted k u at (inl refl))
 
--- all that stands in the domains of a path below is covered and listed
-in-domains : (T : List PlainTagged) (t u : PlainTagged) (k : ℕ) (covered : List Bool) (lists : List (Vec ℕ Global)) → IsAt T k t → IsBelow t u →
-    ((j : ℕ) (e : PlainTagged) → IsAt (inner u) j e → IsAbove (next T) e covered lists) → (i : ℕ) → i < length (inner t) →
-    (get_or covered (get_or (starts_from 0 T) k 0 + i) false ≡ true) × IsListed lists (get_or (starts_from 0 T) k 0 + i)
-in-domains T t u k covered lists at low above i few =
-    let d = at-some (inner t) i few in
-    let e = each-inner t u low i d.0 d.1 in
-    above e.0 e.1 e.2 (get_or (starts_from 0 T) k 0 + i) d.0 (next-at T k t at i d.0 d.1) e.3
+-- what is above the path has signs that are looked for, or is in one of the lists
+abbrev pub IsFrom : List PlainTagged → PlainTagged → List Wanted → List (Vec ℕ Global) → Type 0
+IsFrom N e bare lists = ((w : Wanted) × Contains bare w × ((d : PlainTagged) → IsBelow e d → IsWanted w (own_sign d)))
+    ⊎ ((v : Vec ℕ Global) × Contains lists v × HaveAbove N e v.items)
+
+pub from-sign : (N : List PlainTagged) (e : PlainTagged) (bare : List Wanted) (w : Wanted) (lists : List (Vec ℕ Global)) →
+    IsFrom N e bare lists → IsFrom N e (bare ++ (w ∷ [])) lists
+from-sign N e bare w lists (inl x) = inl (x.0, Contains-append_left bare (w ∷ []) x.0 x.1, x.2)
+from-sign N e bare w lists (inr v) = inr v
+
+pub from-list : (N : List PlainTagged) (e : PlainTagged) (bare : List Wanted) (lists : List (Vec ℕ Global)) (v : Vec ℕ Global) →
+    IsFrom N e bare lists → IsFrom N e bare (lists ++ (v ∷ []))
+from-list N e bare lists v (inl x) = inl x
+from-list N e bare lists v (inr x) = inr (x.0, Contains-append_left lists (v ∷ []) x.0 x.1, x.2)
+
+from-covers : (N : List PlainTagged) (e : PlainTagged) (c : Covering) → c.signs.now ≡ map own_sign N → IsFrom N e c.bare.items c.lists.items →
+    (z : ℕ) (d : PlainTagged) → IsAt N z d → IsBelow e d → Covers c z
+from-covers N e c signs from z d at low = elim from [
+  | inl w ↦ inr (w.0, w.1, subst (IsWanted w.0) (sym (ap (λ xs. get_or xs z 0) signs ∙ sign-at N z d at)) (w.2 d low))
+  | inr v ↦ inl (v.0, v.1, v.2 z d at low)
+]
+
+from-reached : (l : Level) (N : List PlainTagged) (e : PlainTagged) (c : Covering) → IsFrom N e c.bare.items c.lists.items →
+    (z : ℕ) (d : PlainTagged) → IsAt N z d → IsBelow e d → Contains (places_at l.looked (get_or (map own_sign N) z 0)) z →
+    IsListed c.lists.items z ⊎ ((s : ℕ) × IsSought c.bare.items s × Contains (places_at l.looked s) z)
+from-reached l N e c from z d at low looked = elim from [
+  | inl w ↦ inr (own_sign d, (w.0, w.1, w.2 d low), subst (λ s. Contains (places_at l.looked s) z) (sign-at N z d at) looked)
+  | inr v ↦ inl (v.0, v.1, v.2 z d at low)
+]
+
+-- where there is no next level, what is found by signs is enough
+pub below-none : (l : Level) (T : List PlainTagged) (u : PlainTagged) (w : Wanted) (found : List ℕ) → IsLevel false l T → next T ≡ [] →
+    ((t : PlainTagged) → IsBelow t u → IsWanted w (own_sign t)) →
+    ((s k : ℕ) → IsWanted w s → Contains (places_at l.places s) k → Contains found k) → HaveBelow T u found
+below-none l T u w found is none signs has k t at low =
+    has (own_sign t) k (signs t low) (is.noted k t at (inr (none-inner T none k t at)))
 
 -- what is found by signs and by what is chosen is enough
-pub below-found : (l : Level) (T : List PlainTagged) (u : PlainTagged) (w : Wanted) (covered : List Bool) (lists : List (Vec ℕ Global)) (first found : List ℕ) →
-    IsLevel false l T → HasChosen l T →
+pub below-found : (l : Level) (T : List PlainTagged) (u : PlainTagged) (w : Wanted) (c : Covering) (first found : List ℕ) →
+    IsLevel false l T → HasChosen l T → c.signs.now ≡ map own_sign (next T) →
     ((t : PlainTagged) → IsBelow t u → IsWanted w (own_sign t)) →
-    ((j : ℕ) (e : PlainTagged) → IsAt (inner u) j e → IsAbove (next T) e covered lists) →
+    ((j : ℕ) (e : PlainTagged) → IsAt (inner u) j e → IsFrom (next T) e c.bare.items c.lists.items) →
     ((s k : ℕ) → IsWanted w s → Contains (places_at l.places s) k → Contains first k) →
     ((k : ℕ) → Contains first k → Contains found k) →
-    ((n : ℕ) (d : Vec ℕ Global) → n < length lists → (k : ℕ) → HasChosenOf l (get_or lists n d).items k → IsCovered l covered k →
-    IsWanted w (get_or l.signs.items k 0) → Contains found k) →
-    (d : Vec ℕ Global) → HaveBelow T u found
-below-found l T u w covered lists first found is chosen signs above has kept more d k t at low = step (inner t) refl
+    ((k : ℕ) → IsReached l c k → IsCovered l c k → IsWanted w (get_or l.signs.items k 0) → Contains found k) → HaveBelow T u found
+below-found l T u w c first found is chosen same signs from has kept more k t at low = step (inner t) refl
   where
     wanted : IsWanted w (own_sign t)
     wanted = signs t low
@@ -301,22 +276,26 @@ below-found l T u w covered lists first found is chosen signs above has kept mor
     sign_is : get_or l.signs.items k 0 ≡ own_sign t
     sign_is = ap (λ xs. get_or xs k 0) is.signs ∙ sign-at T k t at
 
-    covers : IsCovered l covered k
-    covers = rw is.starts (λ y first last.
+    covers : IsCovered l c k
+    covers = rw is.starts (λ y low_y high_y.
         let i = y - get_or (starts_from 0 T) k 0 in
-        let e : get_or (starts_from 0 T) k 0 + i ≡ y = omega arith in
-        subst (λ z. get_or covered z false ≡ true) e (in-domains T t u k covered lists at low above i (omega (arith, start-next 0 T k t at))).0)
+        let e : get_or (starts_from 0 T) k 0 + i ≡ y = omega (arith, low_y) in
+        let d = at-some (inner t) i (omega (arith, low_y, high_y, start-next 0 T k t at)) in
+        let x = each-inner t u low i d.0 d.1 in
+        subst (Covers c) e (from-covers (next T) x.1 c same (from x.0 x.1 x.2) (get_or (starts_from 0 T) k 0 + i) d.0 (next-at T k t at i d.0 d.1) x.3))
 
     by : (inner t ≡ [] → ⊥) → Contains found k
     by some =
         let h = chosen k t at some in
-        let few = h.1 in
         let z = get_or (starts_from 0 T) k 0 + h.0 in
-        let in_it = (in-domains T t u k covered lists at low above h.0 h.1).1 in
+        let few = h.1 in
+        let mark : IsChosen l T z = rw is.starts at h.2 in
+        let d = at-some (inner t) h.0 h.1 in
+        let x = each-inner t u low h.0 d.0 d.1 in
         let owner : get_or l.owners.items z 0 ≡ k =
-        ap (λ xs. get_or xs z 0) is.owners ∙ owner-at T k t at z (omega arith) (omega (arith, start-next 0 T k t at)) in
-        let mark : get_or l.chosen.items z false ≡ true = rw is.starts at h.2 in
-        more in_it.0 d in_it.1 k (chosen-of l (get_or lists in_it.0 d).items z k (in_it.2 d) mark owner) covers (subst (IsWanted w) (sym sign_is) wanted)
+        ap (λ xs. get_or xs z 0) is.owners ∙ owner-at T k t at z (omega arith) (omega (arith, few, start-next 0 T k t at)) in
+        more k (z, (mark.0, owner), from-reached l (next T) x.1 c (from x.0 x.1 x.2) z d.0 (next-at T k t at h.0 d.0 d.1) x.3 mark.1)
+        covers (subst (IsWanted w) (sym sign_is) wanted)
 
     step : (L : List PlainTagged) → inner t ≡ L → Contains found k
     step [] e = kept k (has (own_sign t) k wanted (is.noted k t at (inr e)))
@@ -337,12 +316,58 @@ above-owner l T t is i d in_it list have k u at low =
 pub above-sign : {all : Bool} (l : Level) (T : List PlainTagged) (k : ℕ) (u : PlainTagged) → IsLevel all l T → IsAt T k u → get_or l.signs.items k 0 ≡ own_sign u
 above-sign l T k u is at = ap (λ xs. get_or xs k 0) is.signs ∙ sign-at T k u at
 
--- each of the lists has a place that belongs to what is above the path
-pub owner-in : {all : Bool} (l : Level) (T : List PlainTagged) (t : PlainTagged) (items : List Tagged) (lists : List (Vec ℕ Global)) → IsLevel all l T →
-    map plain_tagged items ≡ inner t →
-    ((j : ℕ) → j < length items → (d : PlainTagged) → IsAt (map plain_tagged items) j d → (v : Vec ℕ Global) → HaveBelow (next T) d (get_or lists j v).items) →
-    (i : ℕ) → i < length items → (v : Vec ℕ Global) → v ≡ get_or lists i v → (k : ℕ) (u : PlainTagged) → IsAt T k u → IsBelow t u → HasOwner l v.items k
-owner-in l T t items lists is domains below i few v at_i k u at low =
-    let d = at-some (map plain_tagged items) i (omega (arith, length-map items plain_tagged)) in
-    above-owner l T t is i d.0 (subst (λ L. IsAt L i d.0) domains d.1) v.items
-    (subst (λ (y : Vec ℕ Global). HaveBelow (next T) d.0 y.items) (sym at_i) (below i few d.0 d.1 v)) k u at low
+-- a path with the signs of those below one in the domains stands in the domains of what is above the path
+pub above-with : {all : Bool} (l : Level) (T : List PlainTagged) (t : PlainTagged) → IsLevel all l T → (i : ℕ) (d : PlainTagged) → IsAt (inner t) i d →
+    (w : Wanted) → ((x : PlainTagged) → IsBelow x d → IsWanted w (own_sign x)) → (k : ℕ) (u : PlainTagged) → IsAt T k u → IsBelow t u →
+    HasWith l (map own_sign (next T)) w k
+above-with l T t is i d in_it w signs k u at low =
+    let e = each-inner t u low i d in_it in
+    let z = get_or (starts_from 0 T) k 0 + e.0 in
+    let few = at-within (inner u) e.0 e.1 e.2 in
+    let same = sign-at (next T) z e.1 (next-at T k u at e.0 e.1 e.2) in
+    rw is.starts (z, omega arith, omega (arith, few, start-next 0 T k u at), subst (IsWanted w) (sym same) (signs e.1 e.3))
+
+at-index : (xs : List Tagged) (i : ℕ) (x : Tagged) → i < length xs → x ≡ get_or xs i x → IsAt (map plain_tagged xs) i (plain_tagged x)
+at-index [] i x few is = absurd (omega arith)
+at-index (y ∷ xs) zero x few is = ap plain_tagged (sym is)
+at-index (y ∷ xs) (suc i) x few is = at-index xs i x (omega arith) is
+
+-- the same of the path that stands at an index of the list
+pub owner-in : (l : Level) (T : List PlainTagged) (t : PlainTagged) (items : List Tagged) → IsLevel true l T → map plain_tagged items ≡ inner t →
+    (i : ℕ) (x : Tagged) → i < length items → x ≡ get_or items i x → (list : List ℕ) → HaveBelow (next T) (plain_tagged x) list →
+    (k : ℕ) (u : PlainTagged) → IsAt T k u → IsBelow t u → HasOwner l list k
+owner-in l T t items is domains i x few at_i list have =
+    above-owner l T t is i (plain_tagged x) (subst (λ L. IsAt L i (plain_tagged x)) domains (at-index items i x few at_i)) list have
+
+pub with-in : (l : Level) (T : List PlainTagged) (t : PlainTagged) (items : List Tagged) → IsLevel true l T → map plain_tagged items ≡ inner t →
+    (i : ℕ) (x : Tagged) → i < length items → x ≡ get_or items i x → (w : Wanted) →
+    ((y : PlainTagged) → IsBelow y (plain_tagged x) → IsWanted w (own_sign y)) →
+    (k : ℕ) (u : PlainTagged) → IsAt T k u → IsBelow t u → HasWith l (map own_sign (next T)) w k
+with-in l T t items is domains i x few at_i w signs =
+    above-with l T t is i (plain_tagged x) (subst (λ L. IsAt L i (plain_tagged x)) domains (at-index items i x few at_i)) w signs
+
+-- the second level has the signs of the next paths
+pub next-signs : (all : Bool) (ls : List Level) (l m : Level) (T : List PlainTagged) → l ≡ get_or ls 0 l → 1 ≤ length ls →
+    m ≡ get_or (rest ls) 0 m → 1 ≤ length (rest ls) → AreLevels all ls T → m.signs.items ≡ map own_sign (next T)
+next-signs all ls l m T is some is_next some_next levels =
+    (levels-split (not all) (rest ls) m (next T) is_next some_next (levels-split all ls l T is some levels).1.1).0.signs
+
+pub next-length : (all : Bool) (ls : List Level) (l m : Level) → l ≡ get_or ls 0 l → 1 ≤ length ls →
+    m ≡ get_or (rest ls) 0 m → 1 ≤ length (rest ls) → AreSomeLevels all ls → length m.signs.items ≡ length l.owners.items
+next-length all ls l m is some is_next some_next h =
+    sym (owners-first all ls l is some h ∙ width-first (rest ls) m is_next some_next)
+
+level-led : (l : Level) (T : List PlainTagged) → IsLevel true l T → IsLed l
+level-led l T is = record {
+  leaders = is.leaders refl;
+  noted = λ k few.
+      let one = at-some T k (omega (arith, few, ap length is.signs, length-map T own_sign)) in
+      subst (λ s. Contains (places_at l.places s) k) (sym (above-sign l T k one.0 is one.1)) (is.noted k one.0 one.1 (inl refl));
+  within = λ s k has. omega (arith, is.within s k has, ap length is.signs, length-map T own_sign);
+}
+
+-- on the second level each path is looked for by its sign
+pub next-led : (ls : List Level) (l m : Level) → l ≡ get_or ls 0 l → 1 ≤ length ls →
+    m ≡ get_or (rest ls) 0 m → 1 ≤ length (rest ls) → AreSomeLevels false ls → IsLed m
+next-led ls l m is some is_next some_next h =
+    level-led m (next h.0) (levels-split true (rest ls) m (next h.0) is_next some_next (levels-split false ls l h.0 is some h.1).1.1).0

@@ -1,5 +1,5 @@
 -- The paths of a form and, level by level, those in their domains.
-use Rattle.std.specs.Prelude.{◌≡◌, ◌≢◌, ◌<◌, ◌+◌, ◌⊎◌, ℕ, zero, suc, Bool, true, false, not, List, [], ◌∷◌, ◌++◌, length, map, Contains, get_or, if◌then◌else◌}
+use Rattle.std.specs.Prelude.{◌≡◌, ◌≢◌, ◌<◌, ◌+◌, ◌⊎◌, ℕ, zero, suc, Bool, true, false, not, List, [], ◌∷◌, ◌++◌, length, map, Contains, get_or, if◌then◌else◌, Option, Some, None}
 use Rattle.std.specs.BTreeMap.{BTreeMap, get}
 use Rattle.std.specs.Option.{option_map_or}
 use Rattle.std.specs.Ordering.{is_eq, nat_cmp}
@@ -75,6 +75,15 @@ Signs = BTreeMap ℕ (Vec ℕ Global)
 abbrev pub places_at : Signs → ℕ → List ℕ
 places_at m s = option_map_or (λ l. l.items) (get nat_cmp m s) []
 
+-- the first of the places, if there is any
+abbrev pub leader : List ℕ → Option ℕ
+leader [] = None
+leader (k ∷ ks) = Some k
+
+-- the first place that the map has at the sign, or 0
+abbrev pub leader_at : Signs → ℕ → ℕ
+leader_at m s = get_or (places_at m s) 0 0
+
 -- the second map has the place besides, after those of the sign
 abbrev pub IsNotedToo : Signs → Signs → ℕ → ℕ → Type 0
 IsNotedToo m n s k = (q : ℕ) → places_at n q ≡ places_at m q ++ (if is_eq (nat_cmp s q) then k ∷ [] else [])
@@ -101,11 +110,17 @@ pub record IsLevel (all : Bool) (l : Level) (T : List PlainTagged) : Type 0 wher
   pub starts : l.starts.items ≡ starts_from 0 T
   pub owners : l.owners.items ≡ owners_from 0 T
   pub chosen : length l.chosen.items ≡ length (next T)
+  pub looked : (s k : ℕ) → Contains (places_at l.looked s) k → k < length (next T)
+  pub leaders : all ≡ true → l.leaders.items ≡ map (leader_at l.places) l.signs.items
+
+-- the path on the next level is chosen, and looked for by its sign
+abbrev pub IsChosen : Level → List PlainTagged → ℕ → Type 0
+IsChosen l T k = (get_or l.chosen.items k false ≡ true) × Contains (places_at l.looked (get_or (map own_sign (next T)) k 0)) k
 
 -- of the paths in the domains of each path one is chosen, where there are any
 abbrev pub HasChosen : Level → List PlainTagged → Type 0
 HasChosen l T = (k : ℕ) (t : PlainTagged) → IsAt T k t → inner t ≢ [] →
-    (j : ℕ) × (j < length (inner t)) × (get_or l.chosen.items (get_or l.starts.items k 0 + j) false ≡ true)
+    (j : ℕ) × (j < length (inner t)) × IsChosen l T (get_or l.starts.items k 0 + j)
 
 -- the levels are those of the paths; on every second one all paths are looked for by their signs
 abbrev pub AreLevels : Bool → List Level → List PlainTagged → Type 0

@@ -16,8 +16,10 @@ use fy_forms::{Groups, are_same_paths, candidates, groups_of, key_of};
 use fy_types::{Path, PathElem, Paths, is_end_below};
 use std::alloc::Global;
 
-// Lists of fewer paths are compared as they stand, since an index of them costs more.
-const FEW: usize = 16;
+// Lists of fewer paths are compared as they stand, and so are lists of less weight, since an index of them costs more.
+const FEW: usize = 4;
+
+const LIGHT: usize = 128;
 
 /// A path form with its paths by their keys, which can be compared with many forms.
 #[derive(Drop)]
@@ -75,7 +77,7 @@ pub fn is_form_below(alloc: Global, a: &Paths, b: &Paths) -> Result<bool, OutOfM
 fn are_paths_below(alloc: Global, a: &Paths, b: &Paths) -> Result<bool, OutOfMemory>
     ensures { IfOk result (λ r. IsTrue r ↔ ArePathsBelow (plain_paths a.now) (plain_paths b.now)) }
 {
-    if a.len() < FEW || b.len() < FEW {
+    if a.len() < FEW || is_light(a) || is_light(b) {
         return are_few_below(alloc, a, b);
     }
     let groups = groups_of(alloc, a.as_slice())?;
@@ -125,12 +127,51 @@ fn is_one_below(
     }
 }
 
-// Whether many paths have one key.
+// How many paths stand in the path's domains, itself counted.
+fn weight(path: &Path) -> usize {
+    let mut sum: usize = 1;
+    for elem in path.elems.as_slice() {
+        if let PathElem::Call(domain) = elem {
+            sum = sum.saturating_add(domain.len());
+        }
+    }
+    sum
+}
+
+// Whether the form has few paths, with those in their domains.
+fn is_light(form: &Paths) -> bool {
+    let mut left = LIGHT;
+    for path in form.as_slice() {
+        let weight = weight(path);
+        if weight >= left {
+            return false;
+        }
+        left -= weight;
+    }
+    true
+}
+
+// Whether many paths have one key, with those in their domains.
 fn has_many(groups: &Groups<'_>) -> bool {
     for list in groups.values() {
-        if list.len() >= FEW {
+        if are_many(list.as_slice()) {
             return true;
         }
+    }
+    false
+}
+
+fn are_many(list: &[&Path]) -> bool {
+    if list.len() < FEW {
+        return false;
+    }
+    let mut left = LIGHT;
+    for path in list {
+        let weight = weight(path);
+        if weight >= left {
+            return true;
+        }
+        left -= weight;
     }
     false
 }

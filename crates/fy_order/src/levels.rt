@@ -2,7 +2,7 @@
 
 ghost use Rattle.std.specs.Prelude.{◌≡◌, ◌<◌, ◌≤◌, ◌++◌, List, false, true, map, length, IfOk, OnOk};
 ghost use Rattle.fy_types.specs.Reading.{plain_path, paths_from};
-ghost use Rattle.fy_order.specs.Levels.{AreLevels, HasChosen, IsLevel, IsNotedToo, PlainTagged, all_tagged, inner_from, next as next_of, plain_tagged, sign as sign_of, times};
+ghost use Rattle.fy_order.specs.Levels.{AreLevels, HasChosen, IsLevel, IsNotedToo, PlainTagged, all_tagged, inner_from, leader, leader_at, next as next_of, own_sign, places_at, plain_tagged, sign as sign_of, times};
 
 use fy_base::OutOfMemory;
 use fy_forms::{mark, mixed, place};
@@ -33,6 +33,10 @@ pub(crate) struct Level {
     pub owners: Vec<usize>,
     /// Whether each of the next level is the one by which the path that it belongs to is looked for.
     pub chosen: Vec<bool>,
+    /// Where those of the next level stand by which paths are looked for, by their own signs.
+    pub looked: Signs,
+    /// Where the first path stands that has each path's sign, or empty where not all are looked for by their signs.
+    pub leaders: Vec<usize>,
 }
 
 /// What a path and those below and above it have in common: the tag, the calls and fields, and the end, but for `compl` and `comm`.
@@ -81,7 +85,11 @@ fn add_all<'a>(all: &mut Vec<Tagged<'a>>, tag: u64, paths: &'a [Path]) -> Result
 fn note(alloc: Global, places: &mut Signs, sign: u64, place: usize) -> Result<(), OutOfMemory>
     ensures { OnOk result (IsNotedToo places.old places.new sign place) }
 {
-    let mut list = places.remove(&sign).unwrap_or(Vec::new(alloc));
+    if let Some(list) = places.get_mut(&sign) {
+        list.push(place)?;
+        return Ok(());
+    }
+    let mut list = Vec::new(alloc);
     list.push(place)?;
     places.insert(sign, list)?;
     Ok(())
@@ -95,6 +103,25 @@ fn add_times(owners: &mut Vec<usize>, count: usize, place: usize) -> Result<(), 
         owners.push(place)?;
     }
     Ok(())
+}
+
+/// Where the first path stands that is looked for by the sign.
+pub(crate) fn first_at(places: &Signs, sign: u64) -> Option<usize>
+    ensures { result ≡ leader (places_at places.now sign) }
+{
+    let list = places.get(&sign)?;
+    list.first().copied()
+}
+
+// The first path with each of the signs.
+fn leaders_of(alloc: Global, places: &Signs, signs: &[u64]) -> Result<Vec<usize>, OutOfMemory>
+    ensures { IfOk result (λ leaders. leaders.items ≡ map (leader_at places.now) signs.now) }
+{
+    let mut leaders = Vec::new(alloc);
+    for sign in signs {
+        leaders.push(first_at(places, *sign).unwrap_or(0))?;
+    }
+    Ok(leaders)
 }
 
 // A level, and the paths of the next one.
@@ -128,21 +155,26 @@ fn level_of<'a>(alloc: Global, list: &[Tagged<'a>], all: bool) -> Result<Made<'a
     }
     starts.push(next.len())?;
     let chosen = vec![in alloc; false; owners.len()]?;
+    let leaders = if all {
+        leaders_of(alloc, &places, signs.as_slice())?
+    } else {
+        Vec::new(alloc)
+    };
     let level = Level {
         signs,
         places,
         starts,
         owners,
         chosen,
+        looked: BTreeMap::new(alloc),
+        leaders,
     };
     Ok(Made { level, next })
 }
 
-// How many paths of the level have the sign of the one at the place.
-fn company(level: &Level, place: usize) -> usize
-    requires { place < length level.now.signs.items }
-{
-    match level.places.get(&level.signs[place]) {
+/// How many paths of the level are looked for by the sign.
+pub(crate) fn company(level: &Level, sign: u64) -> usize {
+    match level.places.get(&sign) {
         Some(list) => list.len(),
         None => 0,
     }
@@ -156,9 +188,9 @@ fn rarest(level: &Level, first: usize, end: usize) -> usize
     ensures end { result < end }
 {
     let mut best = first;
-    let mut least = company(level, first);
+    let mut least = company(level, level.signs[first]);
     for place in first..end {
-        let count = company(level, place);
+        let count = company(level, level.signs[place]);
         if count < least {
             best = place;
             least = count;
@@ -168,10 +200,10 @@ fn rarest(level: &Level, first: usize, end: usize) -> usize
 }
 
 // Chooses one of the next level for each path that has some in its domains.
-fn choose(level: &mut Level, next: &Level)
-    requires { (T : List PlainTagged) × (IsLevel false level.old T × (length (next_of T) ≡ length next.now.signs.items)) }
-    ensures level { (T : List PlainTagged) → IsLevel false level.old T → IsLevel false level.new T }
-    ensures chosen { (T : List PlainTagged) → IsLevel false level.old T → HasChosen level.new T }
+fn choose(alloc: Global, level: &mut Level, next: &Level) -> Result<(), OutOfMemory>
+    requires { (T : List PlainTagged) × (IsLevel false level.old T × (next.now.signs.items ≡ map own_sign (next_of T))) }
+    ensures level { OnOk result ((T : List PlainTagged) → IsLevel false level.old T → IsLevel false level.new T) }
+    ensures chosen { OnOk result ((T : List PlainTagged) → IsLevel false level.old T → next.now.signs.items ≡ map own_sign (next_of T) → HasChosen level.new T) }
 {
     for owner in 0..level.signs.len() {
         let first = level.starts[owner];
@@ -179,19 +211,22 @@ fn choose(level: &mut Level, next: &Level)
         if first < end {
             let best = rarest(next, first, end);
             level.chosen[best] = true;
+            note(alloc, &mut level.looked, next.signs[best], best)?;
         }
     }
+    Ok(())
 }
 
 // Chooses by the first of the next levels, if there are any.
-fn choose_by(level: &mut Level, rest: &[Level])
+fn choose_by(alloc: Global, level: &mut Level, rest: &[Level]) -> Result<(), OutOfMemory>
     requires { (T : List PlainTagged) × (IsLevel false level.old T × AreLevels true rest.now (next_of T)) }
-    ensures level { (T : List PlainTagged) → IsLevel false level.old T → IsLevel false level.new T }
-    ensures chosen { (T : List PlainTagged) → IsLevel false level.old T → AreLevels true rest.now (next_of T) → HasChosen level.new T }
+    ensures level { OnOk result ((T : List PlainTagged) → IsLevel false level.old T → IsLevel false level.new T) }
+    ensures chosen { OnOk result ((T : List PlainTagged) → IsLevel false level.old T → AreLevels true rest.now (next_of T) → HasChosen level.new T) }
 {
     if let [next, ..] = rest {
-        choose(level, next);
+        choose(alloc, level, next)?;
     }
+    Ok(())
 }
 
 // The levels of a list of paths, the first level with all of them looked for by their signs or not.
@@ -205,7 +240,7 @@ fn levels_from(alloc: Global, list: &[Tagged<'_>], all: bool) -> Result<Vec<Leve
     let mut levels = levels_from(alloc, made.next.as_slice(), !all)?;
     let mut level = made.level;
     if !all {
-        choose_by(&mut level, levels.as_slice());
+        choose_by(alloc, &mut level, levels.as_slice())?;
     }
     levels.insert(0, level)?;
     Ok(levels)

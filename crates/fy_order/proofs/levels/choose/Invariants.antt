@@ -1,4 +1,5 @@
-use Rattle.std.proofs.Common.{◌≡◌, length}
+use Rattle.std.proofs.Common.{ℕ, ◌≡◌, ◌<◌, length, Contains}
+use Rattle.fy_order.specs.Levels.{places_at}
 use Rattle.fy_order.proofs.ChosenLemmas.{AreChosen}
 use Rattle.fy_order.proofs.levels.choose.Given as goal
 
@@ -9,5 +10,6 @@ invariant-loop-owner l = record {
   starts : l.level.starts ≡ l.initial.level.starts;
   owners : l.level.owners ≡ l.initial.level.owners;
   many : length l.level.chosen.items ≡ length l.initial.level.chosen.items;
-  chosen : AreChosen l.level.starts.items l.level.chosen.items l.owner;
+  looked : (s k : ℕ) → Contains (places_at l.level.looked s) k → k < length l.initial.level.chosen.items;
+  chosen : AreChosen l.level.starts.items l.level.chosen.items l.level.looked l.next.signs.items l.owner;
 }

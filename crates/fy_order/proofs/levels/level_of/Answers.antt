@@ -1,10 +1,10 @@
-use Rattle.std.proofs.Common.{◌≡◌, ◌∙◌, ◌-◌, sym, ap, subst, map, take, length, ◌++◌, ◌∷◌, [], arith}
+use Rattle.std.proofs.Common.{ℕ, Vec, Global, ◌≡◌, ◌∙◌, ◌-◌, sym, ap, subst, map, take, length, ◌++◌, ◌∷◌, [], arith}
 use Rattle.std.proofs.lemmas.List.{length-map, take_all}
-use Rattle.fy_order.specs.Levels.{IsNotedToo, inner, own_sign, plain_tagged, sign, times}
+use Rattle.fy_order.specs.Levels.{IsNotedToo, inner, leader_at, own_sign, plain_tagged, sign, times}
 use Rattle.fy_order.proofs.LevelLemmas.{owners-length}
-use Rattle.fy_order.proofs.LevelSteps.{IsNotedWhere, begun-more, end-of_path, tagged-more, tagged-count, added-count, noted-so, noted-not}
+use Rattle.fy_order.proofs.LevelSteps.{IsNotedWhere, begun-more, none-at, end-of_path, tagged-more, tagged-count, added-count, noted-so, noted-not}
 use Rattle.fy_order.proofs.levels.level_of.Goals as goal
-use Rattle.fy_order.proofs.levels.level_of.Goals.{then-all+in_ok-note, else-all+else-count-eq0}
+use Rattle.fy_order.proofs.levels.level_of.Goals.{then-all+in_ok-note, else-all+else-count-eq0, then-all-2+in_ok-leaders, else-all-2}
 
 pub loop-place-preserved : goal.loop-place-preserved
 loop-place-preserved c =
@@ -55,4 +55,10 @@ returns-clause-level c =
         ap length begun.owners,
         owners-length 0 (map plain_tagged c.args.list.now),
       );
+      looked = λ s k has. absurd (none-at c.new.result c.new.ensures.empty s k has);
+      leaders = λ e. elim c.if-all-2.branch [
+        | then-all-2+in_ok-leaders w ↦ ap (λ (v : Vec ℕ Global). v.items) w.leaders-is
+            ∙ (w.in_ok-leaders.ensures ∙ ap (map (leader_at c.loop-place.places)) w.as_slice.ensures.value)
+        | else-all-2 w ↦ let clash = sym e ∙ w.if-all-2.false in cc
+      ];
     }

@@ -1,6 +1,6 @@
 use Rattle.std.proofs.Common.{◌≡◌, ◌<◌, ℕ, true, false, length, get_or, Contains, All}
 use Rattle.fy_order.specs.Searching.{IsWanted}
-use Rattle.fy_order.proofs.search.owners_of.Given as goal
+use Rattle.fy_order.proofs.search.owners_once.Given as goal
 
 abbrev pub invariant-loop-place : goal.invariant-loop-place
 invariant-loop-place l = record {
