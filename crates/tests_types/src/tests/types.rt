@@ -92,12 +92,28 @@ fn answers_questions_of_subtyping(rt: HostRuntime) -> Result<(), Fail> {
     Ok(())
 }
 
-// The meet of a procedure for each of the names, which takes a record of that field alone.
-fn readers(alloc: Global, names: &[u32]) -> Result<Ty, Fail> {
+// A field of the name, or a procedure that takes one.
+fn member(alloc: Global, name: u32, is_taken: bool) -> Result<Ty, Fail> {
+    let field = Ty::Field(name, Box::new(alloc, atom(Atom::Int))?);
+    if is_taken {
+        arrow(alloc, field, atom(Atom::Int))
+    } else {
+        Ok(field)
+    }
+}
+
+const SHARED: [u32; 7] = [21, 22, 23, 24, 25, 26, 27];
+
+// The meet of a procedure for each of the names, which takes a member of that name and of the shared ones.
+fn readers(alloc: Global, names: &[u32], are_taken: bool) -> Result<Ty, Fail> {
     let mut all = TyList::new(alloc);
     for name in names {
-        let record = Ty::Field(*name, Box::new(alloc, atom(Atom::Int))?);
-        all.push(arrow(alloc, record, atom(Atom::Int))?)?;
+        let mut members = TyList::new(alloc);
+        members.push(member(alloc, *name, are_taken)?)?;
+        for shared in &SHARED {
+            members.push(member(alloc, *shared, are_taken)?)?;
+        }
+        all.push(arrow(alloc, Ty::Meet(members), atom(Atom::Int))?)?;
     }
     Ok(Ty::Meet(all))
 }
@@ -111,14 +127,16 @@ const OTHERS: [u32; 17] = [18, 16, 15, 14, 13, 12, 11, 10, 9, 8, 7, 6, 5, 4, 3, 
 #[test]
 fn many_paths_are_compared(rt: HostRuntime) -> Result<(), Fail> {
     let alloc = rt.alloc();
-    let form = paths_of(alloc, &readers(alloc, &NAMES)?)?;
-    let turned = paths_of(alloc, &readers(alloc, &TURNED)?)?;
-    let others = paths_of(alloc, &readers(alloc, &OTHERS)?)?;
-    assert!(rt; is_form_below(alloc, &form, &turned)?);
-    assert!(rt; !is_form_below(alloc, &form, &others)?);
-    let index = PathIndex::of(alloc, &form)?;
-    assert!(rt; index.is_below(alloc, &turned)?);
-    assert!(rt; !index.is_below(alloc, &others)?);
+    for are_taken in &[false, true] {
+        let form = paths_of(alloc, &readers(alloc, &NAMES, *are_taken)?)?;
+        let turned = paths_of(alloc, &readers(alloc, &TURNED, *are_taken)?)?;
+        let others = paths_of(alloc, &readers(alloc, &OTHERS, *are_taken)?)?;
+        assert!(rt; is_form_below(alloc, &form, &turned)?);
+        assert!(rt; !is_form_below(alloc, &form, &others)?);
+        let index = PathIndex::of(alloc, &form)?;
+        assert!(rt; index.is_below(alloc, &turned)?);
+        assert!(rt; !index.is_below(alloc, &others)?);
+    }
     Ok(())
 }
 
