@@ -58,10 +58,10 @@ done
 { printf 'lettype t == '; fields 2000; printf ' in let p == \\x: t. (x.a2000'; repeated ', b == (if true then x else x).a1' 260; printf ') in skip'; } | measure '260 conditionals of 2,000 fields'
 { printf 'lettype t == '; fields 1000; printf ' in let p == \\f: '; each '((a%s: int) -> comm)' 1 1 1000; printf '. \\x: t. (f x'; repeated '; f x' 640; printf ') in skip'; } | measure '641 calls of 1,000 alternatives'
 
-# Types whose paths have one key and differ in the domains of their calls alone. So many calls of a procedure of the second type with an argument of the first:
+# Types whose paths have one key and differ in the domains of their calls alone. Calls of a procedure of the second type with an argument of the first, 487 or so many as the third word says; the fourth goes before all:
 calls() {
-    printf 'lettype t == %s in lettype s == %s in let p == \\f: s -> comm. \\x: t. (f x' "$1" "$2"
-    repeated '; f x' 486
+    printf '%slettype t == %s in lettype s == %s in let p == \\f: s -> comm. \\x: t. (f x' "${4:-}" "$1" "$2"
+    repeated '; f x' $((${3:-487} - 1))
     printf ') in skip'
 }
 calls "$(each '((a%s: int) -> int)' 1 1 1000)" "$(each '((a%s: int) -> int)' 1000 -1 1)" | measure '487 calls on 1,000 paths of one key'
@@ -88,12 +88,39 @@ orders() {
             }
         }'
 }
-# 330 conditionals between values of the two types.
+# Conditionals between values of the two types, 330 or so many as the third word says.
 conditionals() {
     printf 'lettype t == %s in lettype s == %s in let p == \\x: t. \\y: s. (' "$1" "$2"
-    repeated '(let q == if true then x else y in skip); ' 329
+    repeated '(let q == if true then x else y in skip); ' $((${3:-330} - 1))
     printf '(let q == if true then x else y in skip)) in skip'
 }
 conditionals "$(orders '' '')" "$(orders '' '')" | measure '330 conditionals of 240 orders of fields'
 conditionals "$(orders '' '')" "$(orders z '')" | measure 'the same, one type with a field more'
 conditionals "$(orders '' out)" "$(orders '' '')" | measure 'the same, one type with a field less'
+
+# Types whose domains have most of their fields in common.
+common() {
+    calls "$(each '(d & (s%s: int) -> int)' 1 1 "$1")" "$(each '(d & (s%s: int) -> int)' "$1" -1 1)" 1300 "lettype d == $(each '(a%s: int)' 1 1 "$2") in "
+}
+common 15 60 | measure '1,300 calls on 15 paths of 61 fields'
+common 60 15 | measure '1,300 calls on 60 paths of 16 fields'
+# Paths `D -> int`, at most so many, where each `D` has so many of the fields a1, a2 up to another number; the last first, if the fourth word is -1.
+subsets() {
+    awk -v size="$1" -v of="$2" -v most="$3" -v step="$4" '
+        function take(k, from, s, i) {
+            if (k == 0) { list[count++] = s; return }
+            for (i = from; i <= of - k + 1 && count < most; i++) take(k - 1, i + 1, s (s == "" ? "" : " & ") "(a" i ": int)")
+        }
+        BEGIN {
+            take(size, 1, "")
+            for (j = 0; j < count; j++) printf "%s((%s) -> int)", (j ? " & " : ""), (step < 0 ? list[count - 1 - j] : list[j])
+        }'
+}
+calls "$(subsets 16 18 80 1)" "$(subsets 16 18 80 -1)" 1500 | measure '1,500 calls on 80 paths of 16 of 18 fields'
+conditionals "$(subsets 8 10 45 1)" "$(subsets 8 10 45 -1)" 1500 | measure '1,500 conditionals of 45 paths of 8 of 10 fields'
+# An argument of 343 paths with a field of each of three sorts, which none of 78 alternatives takes but the last: the others have fields of two sorts alone.
+sorts() {
+    for i in $(seq 7); do for j in $(seq 7); do for k in $(seq 7); do printf '((a%s: int) & (b%s: int) & (c%s: int) -> int) & ' "$i" "$j" "$k"; done; done; done
+    printf '(ns -> int)'
+}
+{ printf 'lettype t == '; sorts; printf ' in lettype d == '; each '(a%s: int)' 1 1 7; printf ' & '; each '(b%s: int)' 1 1 7; printf ' in let p == \\f: '; each '(((d & (z%s: int)) -> int) -> comm)' 1 1 77; printf ' & (ns -> comm). \\x: t. (f x'; repeated '; f x' 1499; printf ') in skip'; } | measure '1,500 calls of 78 alternatives on 344 paths'
