@@ -104,6 +104,7 @@ common() {
 }
 common 15 60 | measure '1,300 calls on 15 paths of 61 fields'
 common 60 15 | measure '1,300 calls on 60 paths of 16 fields'
+calls "$(each '(d & ((s%s: int) -> int) -> int)' 1 1 80)" "$(each '(d & ((s%s: int) -> int) -> int)' 80 -1 1)" 1500 "lettype d == $(each '((a%s: int) -> int)' 1 1 10) in " | measure '1,500 calls on 80 paths of 11 procedures'
 # Paths `D -> int`, at most so many, where each `D` has so many of the fields a1, a2 up to another number; the last first, if the fourth word is -1.
 subsets() {
     awk -v size="$1" -v of="$2" -v most="$3" -v step="$4" '
