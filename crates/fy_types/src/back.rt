@@ -50,7 +50,7 @@ fn types_of(alloc: Global, list: &[Path]) -> Result<TyList, OutOfMemory>
     ensures fields { IfOk result
         (λ all. fields_in_all (plain_types all) ≡ fields_in_form (paths_from (map plain_path list.now))) }
 {
-    let mut all = TyList::new(alloc);
+    let mut all = TyList::with_capacity(alloc, list.len())?;
     for path in list {
         all.push(ty_of_path(alloc, path)?)?;
     }

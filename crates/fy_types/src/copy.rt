@@ -29,7 +29,7 @@ pub fn copy_ty(alloc: Global, ty: &Ty) -> Result<Ty, OutOfMemory>
 fn copy_list(alloc: Global, all: &TyList) -> Result<TyList, OutOfMemory>
     ensures { IfOk result (λ made. plain_types made ≡ plain_types all.now) }
 {
-    let mut made = TyList::new(alloc);
+    let mut made = TyList::with_capacity(alloc, all.len())?;
     for ty in all.as_slice() {
         made.push(copy_ty(alloc, ty)?)?;
     }
@@ -41,7 +41,7 @@ fn copy_list(alloc: Global, all: &TyList) -> Result<TyList, OutOfMemory>
 pub fn copy_paths(alloc: Global, paths: &Paths) -> Result<Paths, OutOfMemory>
     ensures { IfOk result (λ made. plain_paths made ≡ plain_paths paths.now) }
 {
-    let mut made = Paths::new(alloc);
+    let mut made = Paths::with_capacity(alloc, paths.len())?;
     for path in paths.as_slice() {
         made.push(copy_path(alloc, path)?)?;
     }
@@ -64,7 +64,7 @@ pub fn copy_path(alloc: Global, path: &Path) -> Result<Path, OutOfMemory>
 fn copy_elems(alloc: Global, elems: &ElemList) -> Result<ElemList, OutOfMemory>
     ensures { IfOk result (λ made. plain_elems made ≡ plain_elems elems.now) }
 {
-    let mut made = ElemList::new(alloc);
+    let mut made = ElemList::with_capacity(alloc, elems.len())?;
     for elem in elems.as_slice() {
         made.push(copy_elem(alloc, elem)?)?;
     }

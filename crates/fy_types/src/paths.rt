@@ -49,6 +49,15 @@ impl ElemList {
         }
     }
 
+    /// A list of nothing, with memory for so many members.
+    pub fn with_capacity(alloc: Global, capacity: usize) -> Result<ElemList, OutOfMemory>
+        ensures { IfOk result (λ made. elems_in made ≡ []) }
+    {
+        Ok(ElemList {
+            items: Vec::with_capacity(alloc, capacity)?,
+        })
+    }
+
     /// Adds an element last. After a refusal the list is as it was.
     pub fn push(&mut self, item: PathElem) -> Result<(), OutOfMemory>
         ensures ok { OnOk result (elems_in self.new ≡ elems_in self.old ++ item ∷ []) }
@@ -63,6 +72,7 @@ impl ElemList {
         ensures { IfOk result (λ made. elems_in made ≡ elem ∷ elems_in self) }
     {
         let mut items = self.items;
+        items.reserve_exact(1)?;
         items.insert(0, elem)?;
         Ok(ElemList { items })
     }
@@ -106,6 +116,15 @@ impl Paths {
         Paths {
             items: Vec::new(alloc),
         }
+    }
+
+    /// A list of nothing, with memory for so many members.
+    pub fn with_capacity(alloc: Global, capacity: usize) -> Result<Paths, OutOfMemory>
+        ensures { IfOk result (λ made. paths_in made ≡ []) }
+    {
+        Ok(Paths {
+            items: Vec::with_capacity(alloc, capacity)?,
+        })
     }
 
     /// Adds a path last. After a refusal the list is as it was.

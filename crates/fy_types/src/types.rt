@@ -1,6 +1,6 @@
 //! Types, as trees.
 
-ghost use Rattle.std.specs.Prelude.{◌≡◌, [], ◌∷◌, ◌++◌, OnOk, OnErr, length, map};
+ghost use Rattle.std.specs.Prelude.{◌≡◌, [], ◌∷◌, ◌++◌, IfOk, OnOk, OnErr, length, map};
 ghost use Rattle.fy_types.specs.Reading.{types_in, plain_type, plain_types, types_from};
 
 use crate::Name;
@@ -54,6 +54,15 @@ impl TyList {
         TyList {
             items: Vec::new(alloc),
         }
+    }
+
+    /// A list of nothing, with memory for so many members.
+    pub fn with_capacity(alloc: Global, capacity: usize) -> Result<TyList, OutOfMemory>
+        ensures { IfOk result (λ made. types_in made ≡ []) }
+    {
+        Ok(TyList {
+            items: Vec::with_capacity(alloc, capacity)?,
+        })
     }
 
     /// Adds a type last. After a refusal the list is as it was.
