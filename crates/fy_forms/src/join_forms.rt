@@ -187,7 +187,7 @@ fn common_path(alloc: Global, p: &Path, q: &Path) -> Result<Path, TypeError>
 {
     let xs = p.elems.as_slice();
     let ys = q.elems.as_slice();
-    let mut elems = ElemList::new(alloc);
+    let mut elems = ElemList::with_capacity(alloc, xs.len())?;
     let mut nodes = 0;
     for i in 0..xs.len() {
         let merged = merged_elem(alloc, &xs[i], &ys[i])?;

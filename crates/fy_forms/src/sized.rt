@@ -153,7 +153,7 @@ fn called_paths(alloc: Global, domain: &Paths, list: Paths) -> Result<Paths, Out
     ensures { IfOk result
         (λ made. plain_paths made ≡ called (plain_paths domain.now) (plain_paths list)) }
 {
-    let mut made = Paths::new(alloc);
+    let mut made = Paths::with_capacity(alloc, list.len())?;
     for path in list.into_vec() {
         let call = PathElem::Call(copy_paths(alloc, domain)?);
         made.push(path.after(call)?)?;
@@ -164,7 +164,7 @@ fn called_paths(alloc: Global, domain: &Paths, list: Paths) -> Result<Paths, Out
 fn picked_paths(alloc: Global, name: Name, list: Paths) -> Result<Paths, OutOfMemory>
     ensures { IfOk result (λ made. plain_paths made ≡ picked name (plain_paths list)) }
 {
-    let mut made = Paths::new(alloc);
+    let mut made = Paths::with_capacity(alloc, list.len())?;
     for path in list.into_vec() {
         made.push(path.after(PathElem::Field(name))?)?;
     }

@@ -186,7 +186,7 @@ fn copy_from(alloc: Global, path: &Path, start: usize) -> Result<Path, OutOfMemo
     ensures { IfOk result (λ made. plain_path made ≡ behind start (plain_path path.now)) }
 {
     let all = path.elems.as_slice();
-    let mut elems = ElemList::new(alloc);
+    let mut elems = ElemList::with_capacity(alloc, all.len().saturating_sub(start))?;
     for i in start..all.len() {
         elems.push(copy_elem(alloc, &all[i])?)?;
     }

@@ -34,7 +34,7 @@ turned x y e = ap Err (cc)
 
 pub returns-in_err-merged-clause-large : goal.returns-in_err-merged-clause-large
 returns-in_err-merged-clause-large c =
-    let p = err_from_is_err_and c.from_residual.result c.from_residual.ensures.1 in
+    let p = err_from_is_err_and c.from_residual-in_err-merged.result c.from_residual-in_err-merged.ensures.1 in
     let within = within-both (common (plain_path c.args.p.now) (plain_path c.args.q.now)) (map plain_elem (elems_in c.loop-i.elems))
     c.as_slice-xs.result.now c.as_slice-ys.result.now c.loop-i.i c.args.p.now.end c.args.q.now.end c.loop-i.invariant.made c.requires c.loop-i-test.true in
     let xs = drop_item plain_elem c.as_slice-xs.result.now c.loop-i.i c.index-xs-i.result c.loop-i-test.true c.index-xs-i.is in
