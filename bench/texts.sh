@@ -127,3 +127,5 @@ sorts() {
 { printf 'lettype t == '; sorts; printf ' in lettype d == '; each '(a%s: int)' 1 1 7; printf ' & '; each '(b%s: int)' 1 1 7; printf ' in let p == \\f: '; each '(((d & (z%s: int)) -> int) -> comm)' 1 1 77; printf ' & (ns -> comm). \\x: t. (f x'; repeated '; f x' 1499; printf ') in skip'; } | measure '1,500 calls of 78 alternatives on 344 paths'
 # Abstractions over one large type, in a body that is visited once for each choice of alternatives. Their bodies have only types as good as `ns`, so that their least types have no paths.
 { printf 'lettype t == '; fields 2000; printf ' in '; repeated '(\\x: int | bool. ' 8; printf '(\\y: t. 1 2)'; repeated '; (\\y: t. 1 2)' 13; repeated ')' 8; } | measure '3,584 visits of abstractions, 2,000 fields'
+# The same within one another, in more such visits.
+{ printf 'lettype t == '; fields 2000; printf ' in '; repeated '\\x: int | bool. ' 11; repeated '\\y: t. ' 15; printf skip.a; } | measure '30,720 visits of abstractions, 2,000 fields'
