@@ -1,8 +1,8 @@
 -- What the readings give at one level.
-use Rattle.std.proofs.Common.{ℕ, ◌≡◌, List, [], ◌∷◌, suc, map, length, refl, ap, sym, ◌∙◌, rules}
-use Rattle.fy_types.specs.declared.paths.PathElem.{Call, Field, the_lemmas}
+use Rattle.std.proofs.Common.{ℕ, ◌<◌, ◌≡◌, List, [], ◌∷◌, suc, map, length, get_or, refl, ap, sym, ◌∙◌, arith, rules}
+use Rattle.fy_types.specs.declared.paths.PathElem.{PathElem, Call, Field, size-PathElem, the_lemmas}
 use Rattle.fy_types.specs.declared.paths.PathElem.TheVariants.{rolls-Call, rolls-Field}
-use Rattle.fy_types.specs.declared.paths.ElemList.{ElemList}
+use Rattle.fy_types.specs.declared.paths.ElemList.{ElemList, size-ElemList}
 use Rattle.fy_types.specs.declared.types.Atom.{Atom}
 use Rattle.fy_types.specs.declared.paths.Path.{Path, out-Path, roll-Path, fold-roll-Path}
 use Rattle.fy_types.specs.declared.paths.Paths.{Paths}
@@ -30,6 +30,12 @@ plain_paths-at l = search (rules, the_lemmas)
 pub plain_types-at : (l : TyList) → plain_types l ≡ types_from (map plain_type (types_in l))
 plain_types-at l = search (rules, list_of_types.the_lemmas)
 
+-- an element of a list is less deep than it
+pub elem-size : (l : ElemList) (i : ℕ) (x : PathElem) → i < length (elems_in l) → x ≡ get_or (elems_in l) i x → size-PathElem x < size-ElemList l
+elem-size l i x within is = search (arith, the_lemmas)
+
+pub ruleset elements = (plain_elems-at, elem-size)
+
 pub ruleset readings = (plain_elems-at, plain_paths-at, plain_types-at)
 
 abbrev count : PlainTypes → ℕ
@@ -47,4 +53,4 @@ types_from-length xs ys e = sym (count-from xs) ∙ (ap count e ∙ count-from y
 pub plain_path-made : (elems : ElemList) (a : Atom) →
     plain_path (roll-Path (record { elems = elems; end = a })) ≡ fronted (plain_elems elems) (end a)
 plain_path-made elems a =
-    fold-roll-Path PlainElem (List PlainElem) PlainPath PlainPaths elem_step elems_step path_step paths_step (record { elems = elems; end = a })
+    fold-roll-Path (List PlainElem) PlainElem PlainPath PlainPaths elems_step elem_step path_step paths_step (record { elems = elems; end = a })

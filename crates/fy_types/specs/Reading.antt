@@ -14,8 +14,13 @@ use Rattle.fy_types.specs.PathOrder.{ArePathsBelow}
 abbrev pub types_in : TyList → List Ty
 types_in l = (out-TyList l).items.items
 
+abbrev elems_of : {A B C D : Type 0} → ElemList-F A B C D → List B
+elems_of (ElemList-F.None m) = []
+elems_of (ElemList-F.One m x) = x ∷ []
+elems_of (ElemList-F.Many l) = l.items
+
 abbrev pub elems_in : ElemList → List PathElem
-elems_in l = (out-ElemList l).items.items
+elems_in l = elems_of (out-ElemList l)
 
 abbrev pub paths_in : Paths → List Path
 paths_in l = (out-Paths l).items.items
@@ -69,32 +74,32 @@ abbrev pub paths_from : List PlainPath → PlainPaths
 paths_from [] = no_paths
 paths_from (p ∷ ps) = and_path p (paths_from ps)
 
-abbrev pub elem_step : PathElem-F PlainElem (List PlainElem) PlainPath PlainPaths → PlainElem
+abbrev pub elem_step : PathElem-F (List PlainElem) PlainElem PlainPath PlainPaths → PlainElem
 elem_step (PathElem-F.Call D) = a_call D
 elem_step (PathElem-F.Field i) = a_field i
 
-abbrev pub elems_step : ElemList-F PlainElem (List PlainElem) PlainPath PlainPaths → List PlainElem
-elems_step l = l.items.items
+abbrev pub elems_step : ElemList-F (List PlainElem) PlainElem PlainPath PlainPaths → List PlainElem
+elems_step = elems_of
 
-abbrev pub path_step : Path-F PlainElem (List PlainElem) PlainPath PlainPaths → PlainPath
+abbrev pub path_step : Path-F (List PlainElem) PlainElem PlainPath PlainPaths → PlainPath
 path_step p = fronted p.elems (end p.end)
 
-abbrev pub paths_step : Paths-F PlainElem (List PlainElem) PlainPath PlainPaths → PlainPaths
+abbrev pub paths_step : Paths-F (List PlainElem) PlainElem PlainPath PlainPaths → PlainPaths
 paths_step l = paths_from l.items.items
 
 abbrev pub plain_elem : PathElem → PlainElem
-plain_elem = fold-PathElem PlainElem (List PlainElem) PlainPath PlainPaths elem_step elems_step path_step paths_step
+plain_elem = fold-PathElem (List PlainElem) PlainElem PlainPath PlainPaths elems_step elem_step path_step paths_step
 
 abbrev pub plain_elems : ElemList → List PlainElem
-plain_elems = fold-ElemList PlainElem (List PlainElem) PlainPath PlainPaths elem_step elems_step path_step paths_step
+plain_elems = fold-ElemList (List PlainElem) PlainElem PlainPath PlainPaths elems_step elem_step path_step paths_step
 
 -- the path that a value is: its elements in front of its end
 abbrev pub plain_path : Path → PlainPath
-plain_path = fold-Path PlainElem (List PlainElem) PlainPath PlainPaths elem_step elems_step path_step paths_step
+plain_path = fold-Path (List PlainElem) PlainElem PlainPath PlainPaths elems_step elem_step path_step paths_step
 
 -- the path form that a list is
 abbrev pub plain_paths : Paths → PlainPaths
-plain_paths = fold-Paths PlainElem (List PlainElem) PlainPath PlainPaths elem_step elems_step path_step paths_step
+plain_paths = fold-Paths (List PlainElem) PlainElem PlainPath PlainPaths elems_step elem_step path_step paths_step
 
 -- the type that a path form stands for
 abbrev pub type_of_form : Paths → PlainType

@@ -61,6 +61,7 @@ pub fn copy_path(alloc: Global, path: &Path) -> Result<Path, OutOfMemory>
 }
 
 #[cycle(copy_paths)]
+#[tactic(auto, using(crate::proofs::ReadLemmas::elements))]
 fn copy_elems(alloc: Global, elems: &ElemList) -> Result<ElemList, OutOfMemory>
     ensures { IfOk result (λ made. plain_elems made ≡ plain_elems elems.now) }
 {
