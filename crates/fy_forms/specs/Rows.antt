@@ -113,10 +113,10 @@ pub record IsAgain (f : Found) (r : Row) (is : List ℕ) : Type 0 where
 abbrev pub IsMet : List Found → Row → List ℕ → Type 0
 IsMet fs r news = (f : Found) × Contains fs f × IsAgain f r news
 
--- it has the rows of the list, and those that are fresh are enough
+-- it has the rows of the list, and what was met is enough
 pub record IsKnown (k : Known) (list : List (Bor Path)) : Type 0 where
   pub rows : AreRows k.rows list
-  pub enough : IsEnough k.rows.table k.flags.items (lent k.fresh.items) (lent list)
+  pub met : All (λ e. IsEnough k.rows.table e.flags.items (lent e.fresh.items) (lent list)) k.met.items
 
 abbrev pub KnownKeys : Type 0
 KnownKeys = BTreeMap ℕ Known

@@ -1,12 +1,12 @@
 //! The paths of a list whose common paths with a path are new.
 
-ghost use Rattle.std.specs.Prelude.{◌≡◌, List, All, filter, map, IfOk, OnOk, IsTrue};
+ghost use Rattle.std.specs.Prelude.{◌≡◌, List, All, Contains, filter, map, IfOk, IfSome, OnOk, IsTrue};
 ghost use Rattle.std.specs.Borrow.{Bor};
 ghost use Rattle.fy_types.specs.declared.paths.Path.{Path};
 ghost use Rattle.fy_types.specs.Reading.{plain_path};
 ghost use Rattle.fy_forms.specs.Keys.{group_at, lent};
 ghost use Rattle.fy_forms.specs.Numbers.{key_of as key_of_path};
-ghost use Rattle.fy_forms.specs.Rows.{flag_at, lacks_flag, AreKnown, AreRows, IsAgain, IsEnough, IsEnoughFor, IsFlagged, IsFound, IsKnown, IsMet, IsRow};
+ghost use Rattle.fy_forms.specs.Rows.{flag_at, lacks_flag, AreKnown, AreRows, IsAgain, IsEnough, IsEnoughFor, IsFound, IsKnown, IsMet, IsRow};
 
 use crate::index::Groups;
 use crate::join_forms::has_common;
@@ -17,13 +17,20 @@ use fy_types::Path;
 use std::alloc::Global;
 use std::collections::BTreeMap;
 
-/// What is known at a key: the rows of the paths that have it, the flags that were met last, and
-/// those of the paths that are enough for paths with these flags.
+/// Paths that are enough for paths with the flags.
+#[derive(Drop)]
+struct Enough<'a> {
+    flags: Vec<bool>,
+    fresh: Vec<&'a Path>,
+}
+
+/// What is known at a key: the rows of the paths that have it, which of them are enough for the flags that were
+/// met, and where those of each number stand.
 #[derive(Drop)]
 pub(crate) struct Known<'a> {
     rows: Rows<'a>,
-    flags: Vec<bool>,
-    fresh: Vec<&'a Path>,
+    met: Vec<Enough<'a>>,
+    places: BTreeMap<u64, usize>,
 }
 
 /// What is known at each key.
@@ -52,40 +59,76 @@ pub(crate) fn fresh_for<'a>(
     ensures known { OnOk result (AreKnown known.new groups.now) }
     ensures enough { IfOk result (λ fresh. IsEnoughFor (plain_path path.now) (lent fresh.items) (lent list.now)) }
 {
-    let now = match known.remove(&key) {
-        Some(met) => turned_to(alloc, met, path)?,
-        None => known_of(alloc, list, path)?,
+    let mut now = match known.remove(&key) {
+        Some(met) => met,
+        None => known_of(alloc, list)?,
     };
-    let fresh = Vec::from_slice(alloc, now.fresh.as_slice())?;
+    let fresh = fresh_in(alloc, &mut now, path)?;
     known.insert(key, now)?;
     Ok(fresh)
 }
 
-fn known_of<'a>(alloc: Global, list: &[&'a Path], path: &Path) -> Result<Known<'a>, OutOfMemory>
-    ensures known { IfOk result (λ known. IsKnown known list.now) }
-    ensures flagged { IfOk result
-        (λ known. IsFlagged known.rows.table known.flags.items (plain_path path.now)) }
+fn known_of<'a>(alloc: Global, list: &[&'a Path]) -> Result<Known<'a>, OutOfMemory>
+    ensures { IfOk result (λ known. IsKnown known list.now) }
 {
-    let rows = rows_of(alloc, list)?;
-    let flags = flags_of(alloc, &rows.table, path)?;
-    let fresh = fresh_of(alloc, &rows, &flags)?;
-    Ok(Known { rows, flags, fresh })
+    Ok(Known {
+        rows: rows_of(alloc, list)?,
+        met: Vec::new(alloc),
+        places: BTreeMap::new(alloc),
+    })
 }
 
-// What is known, and enough for the path.
-fn turned_to<'a>(alloc: Global, known: Known<'a>, path: &Path) -> Result<Known<'a>, OutOfMemory>
-    requires { All (IsRow known.rows.table) known.rows.rows.items }
-    ensures known { IfOk result (λ now. (list : List (Bor Path)) → IsKnown known.entry list → IsKnown now list) }
-    ensures flagged { IfOk result
-        (λ now. IsFlagged now.rows.table now.flags.items (plain_path path.now)) }
+// Paths that are enough for the path.
+fn fresh_in<'a>(
+    alloc: Global,
+    known: &mut Known<'a>,
+    path: &Path,
+) -> Result<Vec<&'a Path>, OutOfMemory>
+    requires { All (IsRow known.old.rows.table) known.old.rows.rows.items }
+    ensures known { OnOk result ((list : List (Bor Path)) → IsKnown known.old list → IsKnown known.new list) }
+    ensures enough { IfOk result (λ fresh. (list : List (Bor Path)) → IsKnown known.old list
+        → IsEnoughFor (plain_path path.now) (lent fresh.items) (lent list)) }
 {
     let flags = flags_of(alloc, &known.rows.table, path)?;
-    if flags == known.flags {
-        return Ok(known);
+    let number = number_of_flags(flags.as_slice());
+    if let Some(met) = met_with(&known.met, known.places.get(&number), flags.as_slice()) {
+        let fresh = Vec::from_slice(alloc, met.fresh.as_slice())?;
+        return Ok(fresh);
     }
-    let Known { rows, .. } = known;
-    let fresh = fresh_of(alloc, &rows, &flags)?;
-    Ok(Known { rows, flags, fresh })
+    let fresh = fresh_of(alloc, &known.rows, &flags)?;
+    let copied = Vec::from_slice(alloc, fresh.as_slice())?;
+    known.places.insert(number, known.met.len())?;
+    known.met.push(Enough { flags, fresh })?;
+    Ok(copied)
+}
+
+// Few lists of flags have one number, if they aren't the same.
+fn number_of_flags(flags: &[bool]) -> u64 {
+    let mut number = 0;
+    for flag in flags {
+        number = mixed(number, u64::from(*flag));
+    }
+    number
+}
+
+// What was met at the place, if it has the flags.
+fn met_with<'k, 'a>(
+    met: &'k [Enough<'a>],
+    at: Option<&usize>,
+    flags: &[bool],
+) -> Option<&'k Enough<'a>>
+    ensures { IfSome result (λ one. Contains met.now one.now × (one.now.flags.items ≡ flags.now)) }
+{
+    let place = *at?;
+    if place >= met.len() {
+        return None;
+    }
+    let one = &met[place];
+    if one.flags.as_slice() == flags {
+        Some(one)
+    } else {
+        None
+    }
 }
 
 fn fresh_of<'a>(alloc: Global, all: &Rows<'a>, flags: &[bool]) -> Result<Vec<&'a Path>, OutOfMemory>

@@ -5,8 +5,7 @@ ghost use Rattle.fy_types.specs.Reading.{plain_path, plain_paths};
 ghost use Rattle.fy_types.specs.Limits.{IsTooLarge};
 ghost use Rattle.fy_forms.specs.Sized.{IsSized};
 ghost use Rattle.fy_types.specs.Keeping.{added, all_added};
-ghost use Rattle.fy_forms.specs.Keys.{IsMarked, IsSeen};
-ghost use Rattle.fy_forms.specs.Numbers.{number_of as number_of_path};
+ghost use Rattle.fy_forms.specs.Keys.{IsSeen};
 ghost use Rattle.fy_types.specs.Once.{contains};
 
 use crate::error::TypeError;
@@ -109,7 +108,8 @@ pub(crate) fn keep(kept: Sized, places: &mut Places, path: Path) -> Result<Sized
     kept.keep_new(path)
 }
 
-// Whether the path is among the kept ones. Where it isn't, it is noted at the place after them.
+// Whether the path is among the kept ones. Where it isn't, it is noted at the place after them. Those of
+// its number are few, so all are compared only where the one that was noted is another.
 fn find_or_note(places: &mut Places, list: &Paths, path: &Path) -> Result<bool, OutOfMemory>
     requires { IsSeen places.old (plain_paths list.now) }
     ensures kept { IfOk result
@@ -118,24 +118,14 @@ fn find_or_note(places: &mut Places, list: &Paths, path: &Path) -> Result<bool, 
         (IsSeen places.new (added (plain_paths list.now) (plain_path path.now))) }
 {
     let number = number_of(path);
-    if is_kept(list, places, number, path) {
-        return Ok(true);
+    let Some(place) = places.insert(number, list.len())? else {
+        return Ok(false);
+    };
+    if !stands_at(list, place, path) && !has_path(list, path) {
+        return Ok(false);
     }
-    note(places, number, list.len())?;
-    Ok(false)
-}
-
-// Whether the path, which has the number, is among the kept ones. Those of its number are few, so
-// all are compared only where the one that was noted is another.
-fn is_kept(list: &Paths, places: &Places, number: u64, path: &Path) -> bool
-    requires seen { IsSeen places.now (plain_paths list.now) }
-    requires number { number ≡ number_of_path (plain_path path.now) }
-    ensures { result ≡ contains (plain_paths list.now) (plain_path path.now) }
-{
-    match places.get(&number) {
-        None => false,
-        Some(place) => stands_at(list, *place, path) || has_path(list, path),
-    }
+    places.insert(number, place)?;
+    Ok(true)
 }
 
 fn stands_at(list: &Paths, place: usize, path: &Path) -> bool
@@ -143,11 +133,4 @@ fn stands_at(list: &Paths, place: usize, path: &Path) -> bool
 {
     let members = list.as_slice();
     place < members.len() && is_same_path(&members[place], path)
-}
-
-fn note(places: &mut Places, number: u64, place: usize) -> Result<(), OutOfMemory>
-    ensures { OnOk result (IsMarked places.old places.new number) }
-{
-    places.insert(number, place)?;
-    Ok(())
 }

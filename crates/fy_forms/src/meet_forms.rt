@@ -5,6 +5,7 @@ ghost use Rattle.fy_types.specs.Reading.{plain_paths, type_of_form};
 ghost use Rattle.fy_types.specs.Limits.{IsWithinLimits, IsTooLarge};
 ghost use Rattle.fy_forms.specs.Sized.{IsSized};
 ghost use Rattle.fy_types.specs.Bounds.{meet_of, IsGreatestLowerBound};
+ghost use Rattle.fy_types.specs.Once.{once};
 
 use crate::error::TypeError;
 use crate::kept::{keep_all, keep_each};
@@ -34,6 +35,30 @@ pub fn meet(alloc: Global, a: &Paths, b: &Paths) -> Result<Paths, TypeError>
 {
     let sized = meet_form(alloc, a, b)?;
     let Sized { paths, .. } = sized;
+    Ok(paths)
+}
+
+// So many paths are sooner looked for among all.
+const VERY_FEW: usize = 4;
+
+/// The meet of a form, in which each path stands once, and another one: the paths of the first form, which is taken,
+/// and then those of the second, each once, at its first place.
+///
+/// # Errors
+///
+/// `TypeTooLarge` comes exactly where these paths have over 4,096 nodes or nest more than 480.
+pub fn meet_with(alloc: Global, a: Paths, b: &Paths) -> Result<Paths, TypeError>
+    requires { once (plain_paths a) ≡ plain_paths a }
+    ensures ok { IfOk result (λ made. plain_paths made ≡ meet_of (plain_paths a) (plain_paths b.now)) }
+    ensures within { OnOk result (IsWithinLimits (meet_of (plain_paths a) (plain_paths b.now))) }
+    ensures large { IsErrOf result TypeError.TypeTooLarge →
+        IsTooLarge (meet_of (plain_paths a) (plain_paths b.now)) }
+{
+    if b.len() > VERY_FEW {
+        return meet(alloc, &a, b);
+    }
+    let first = Sized::of(a)?;
+    let Sized { paths, .. } = keep_each(alloc, first, b)?;
     Ok(paths)
 }
 

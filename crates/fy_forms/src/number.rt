@@ -8,10 +8,17 @@ ghost use Rattle.fy_types.specs.Reading.{plain_elem, plain_path, plain_paths};
 use fy_types::{Atom, Path, PathElem, Paths};
 
 /// The number of a path. Few paths have one number, if they aren't equal.
-pub(crate) fn number_of(path: &Path) -> u64
+pub fn number_of(path: &Path) -> u64
     ensures { result ≡ number_of_path (plain_path path.now) }
 {
     path_after(0, path)
+}
+
+/// The number of a path form. Few forms have one number, if they aren't equal.
+pub fn number_of_form(paths: &Paths) -> u64
+    ensures { result ≡ paths_number 0 (plain_paths paths.now) }
+{
+    paths_after(0, paths)
 }
 
 /// The number that a mark makes of the number before it.

@@ -38,7 +38,7 @@ pub fn are_same_paths(a: &Paths, b: &Paths) -> bool
 
 /// Whether the paths are the same.
 #[cycle(same)]
-pub(crate) fn is_same_path(p: &Path, q: &Path) -> bool
+pub fn is_same_path(p: &Path, q: &Path) -> bool
     ensures { IsTrue result ↔ (plain_path p.now ≡ plain_path q.now) }
 {
     let xs = p.elems.as_slice();

@@ -54,8 +54,9 @@ fn size_behind(elem: &PathElem, rest: Size) -> Size
     }
 }
 
+/// The size of a list.
 #[cycle(size)]
-fn size_of_paths(paths: &Paths) -> Size
+pub(crate) fn size_of_paths(paths: &Paths) -> Size
     ensures nodes { result.nodes ≡ capped (all_nodes (plain_paths paths.now)) }
     ensures nesting { result.nesting ≡ capped (all_nesting (plain_paths paths.now)) }
 {

@@ -9,7 +9,7 @@ ghost use Rattle.fy_types.specs.Keeping.{added};
 ghost use Rattle.fy_types.specs.Once.{contains};
 
 use crate::error::TypeError;
-use crate::size::size_of_path;
+use crate::size::{size_of_path, size_of_paths};
 use fy_base::OutOfMemory;
 use fy_types::{Atom, ElemList, Name, Path, PathElem, Paths, copy_paths};
 use std::alloc::Global;
@@ -53,6 +53,22 @@ impl Sized {
             paths,
             nodes: 1,
             nesting: 1,
+        })
+    }
+
+    /// The form of the paths.
+    pub(crate) fn of(paths: Paths) -> Result<Sized, TypeError>
+        ensures ok { IfOk result (λ s. IsSized s (plain_paths paths)) }
+        ensures large { IsErrOf result TypeError.TypeTooLarge → IsTooLarge (plain_paths paths) }
+    {
+        let size = size_of_paths(&paths);
+        if size.nodes > MOST_NODES || size.nesting > MOST_NESTING {
+            return Err(TypeError::TypeTooLarge);
+        }
+        Ok(Sized {
+            paths,
+            nodes: size.nodes,
+            nesting: size.nesting,
         })
     }
 
