@@ -1,5 +1,5 @@
 -- How deep the paths of a level are, and those of the next one.
-use Rattle.std.proofs.Common.{ℕ, suc, ◌-◌, ◌<◌, ◌≤◌, ◌≡◌, max, List, [], ◌∷◌, ◌++◌, length, refl, ap, arith}
+use Rattle.std.proofs.Common.{ℕ, zero, suc, ◌-◌, ◌<◌, ◌≤◌, ◌≡◌, max, List, [], ◌∷◌, ◌++◌, length, Contains, refl, ap, arith}
 use Rattle.fy_types.specs.Paths.{PlainPath, PlainPaths, end, call, pick, no_paths, and_path}
 use Rattle.fy_types.specs.Limits.{nesting, all_nesting}
 use Rattle.fy_order.specs.Levels.{PlainTagged, all_tagged, inner, inner_from, next}
@@ -31,3 +31,14 @@ depth-next (t ∷ T) = omega (arith, depth-inner 0 t.path, depth-next T, depth-a
 pub next-less : (T : List PlainTagged) → 0 < length T → depth_in (next T) < depth_in T
 next-less [] some = absurd (omega arith)
 next-less (t ∷ T) some = omega (arith, depth-next (t ∷ T), depth-inner 0 t.path)
+
+depth-of : (T : List PlainTagged) (t : PlainTagged) → Contains T t → nesting t.path ≤ depth_in T
+depth-of [] t (i, within, is) = absurd (omega arith)
+depth-of (x ∷ T) t (zero, within, is) = omega (arith, ap (λ (y : PlainTagged). nesting y.path) is)
+depth-of (x ∷ T) t (suc i, within, is) = omega (arith, depth-of T t (i, omega arith, is))
+
+-- some of the paths are no deeper than all
+pub depth-some : (S T : List PlainTagged) → ((t : PlainTagged) → Contains S t → Contains T t) → depth_in S ≤ depth_in T
+depth-some [] T some = omega arith
+depth-some (x ∷ S) T some =
+    omega (arith, depth-of T x (some x (0, omega arith, refl)), depth-some S T (λ t has. some t (let h = has in (suc h.0, omega (arith, h.1), h.2))))

@@ -1,6 +1,5 @@
 pub mod LevelLemmas
-pub mod LevelSteps
-pub mod ChosenLemmas
+pub mod IndexLemmas
 pub mod DepthLemmas
 pub mod SearchLemmas
 pub mod FoundLemmas

@@ -1,21 +1,21 @@
 -- What is below a path, or above it, has its signs, and what stands in the domains the other way round.
-use Rattle.std.proofs.Common.{take, drop, Vec, Global, not, ℕ, zero, suc, ◌+◌, ◌-◌, ◌<◌, ◌≤◌, ◌≡◌, ◌⊎◌, inl, inr, List, [], ◌∷◌, ◌++◌, length, get_or, set, Bool, true, false, Contains, All, map, refl, sym, ap, ◌∙◌, subst, arith, Some}
+use Rattle.std.proofs.Common.{take, drop, Vec, Global, ℕ, zero, suc, ◌+◌, ◌-◌, ◌<◌, ◌≤◌, ◌≡◌, ◌⊎◌, inl, inr, List, [], ◌∷◌, ◌++◌, length, get_or, Contains, map, refl, sym, ap, ◌∙◌, subst, arith, zero-add, below_more, Bool, true, false}
 use Rattle.std.proofs.Math.Seq.{take-length}
-use Rattle.std.proofs.lemmas.List.{get_or_default, get_or-map, length-map}
-use Rattle.std.proofs.lemmas.List.Elements.{All-append, Contains-append_left, Contains-append_right, Contains-append_cases}
+use Rattle.std.proofs.lemmas.List.{get_or_default, length-map}
+use Rattle.std.proofs.lemmas.List.Elements.{Contains-append_left, Contains-push}
 use Rattle.fy_types.specs.declared.types.Atom.{Atom}
 use Rattle.fy_types.specs.declared.types.Atom.TheVariants.{Comm, Compl}
 use Rattle.fy_types.specs.Paths.{PlainPath, PlainPaths, end, call, pick, no_paths, and_path}
 use Rattle.fy_types.specs.PathOrder.{IsEndBelow, same_end, compl_below, IsPathBelow, ends, calls, picks, ArePathsBelow, and_above, HasBelow, here, there}
-use Rattle.fy_types.specs.Reading.{PlainElem, a_call, a_field, fronted}
+use Rattle.fy_types.proofs.Order.{IsPathBelow-trans}
 use Rattle.fy_forms.specs.Numbers.{mixed}
-use Rattle.fy_order.specs.Levels.{PlainTagged, plain_tagged, IsLevel, IsChosen, HasChosen, AreLevels, AreSomeLevels, width, HaveBelow, HaveAbove, leader, leader_at, places_at, times, IsAt, IsBelow, inner, inner_from, all_tagged, next, sign, sign_from, own_sign, end_of, starts_from, owners_from}
+use Rattle.fy_order.specs.Levels.{PlainTagged, AreAbove, AreBelow, AreCovers, AreIndexed, AreInner, AreLevels, HaveAbove, HaveBelow, IsAt, IsBelow, IsIndexed, IsLevel, indexed_nodes, inner, nodes, plain_tagged, inner_from, all_tagged, list_at, sign, sign_from, own_sign, end_of}
+use Rattle.fy_order.specs.declared.index.Indexed.{Indexed}
 use Rattle.fy_order.specs.declared.levels.Level.{Level}
-use Rattle.fy_order.specs.declared.levels.Tagged.{Tagged}
-use Rattle.fy_order.specs.declared.search.Covering.{Covering}
-use Rattle.fy_order.specs.declared.search.Wanted.{Wanted}
-use Rattle.fy_order.specs.Searching.{Covers, IsFit, IsLed, IsWanted, IsCovered, IsListed, IsReached, IsSought, HasOwner, HasWith}
-use Rattle.fy_order.proofs.LevelLemmas.{at-before, at-after, at-within, at-some, starts-length, owners-length, start-next, start-fits, next-at, none-inner, owner-at}
+use Rattle.fy_order.specs.declared.sign.Tagged.{Tagged}
+use Rattle.fy_order.specs.declared.sign.Wanted.{Wanted}
+use Rattle.fy_order.specs.Searching.{AreCovered, AreMet, IsWanted}
+use Rattle.fy_order.proofs.LevelLemmas.{at-before, at-within, tagged-at, inner-has, inner-is, inner-list}
 
 -- paths below one another have the same signs but for the end
 sign-alike : (n : ℕ) (b : Atom) (p q : PlainPath) → IsPathBelow p q → sign_from n b p ≡ sign_from n b q
@@ -58,17 +58,16 @@ wanted-below t u a b low is turn = let h = own-below t u low in wanted-low (sign
 pub wanted-above : (t u : PlainTagged) (a b : Atom) → IsBelow t u → end_of t.path ≡ a → (a ≡ Compl → b ≡ Comm) → (own_sign u ≡ sign t a) ⊎ (own_sign u ≡ sign t b)
 wanted-above t u a b low is turn = let h = own-above t u low in wanted-high (sign t) (own_sign u) a b h.1 h.0 is turn
 
-pub end-fronted : (xs : List PlainElem) (a : Atom) → end_of (fronted xs (end a)) ≡ a
-end-fronted [] a = refl
-end-fronted (a_call D ∷ xs) a = end-fronted xs a
-end-fronted (a_field i ∷ xs) a = end-fronted xs a
-
 -- some path of the list is below the path
 abbrev pub SomeBelow : List PlainTagged → PlainTagged → Type 0
 SomeBelow L d = (i : ℕ) × (e : PlainTagged) × IsAt L i e × IsBelow e d
 
 some-before : (xs ys : List PlainTagged) (d : PlainTagged) → SomeBelow xs d → SomeBelow (xs ++ ys) d
 some-before xs ys d h = (h.0, h.1, at-before xs ys h.0 h.1 h.2, h.3)
+
+pub at-after : (xs ys : List PlainTagged) (i : ℕ) (d : PlainTagged) → IsAt ys i d → IsAt (xs ++ ys) (length xs + i) d
+at-after [] ys i d at = rw (zero-add i) at
+at-after (x ∷ xs) ys i d at = let e : suc (length xs) + i ≡ suc (length xs + i) = omega arith in rw e (at-after xs ys i d at)
 
 some-after : (xs ys : List PlainTagged) (d : PlainTagged) → SomeBelow ys d → SomeBelow (xs ++ ys) d
 some-after xs ys d h = (length xs + h.0, h.1, at-after xs ys h.0 h.1 h.2, h.3)
@@ -106,268 +105,176 @@ each-from n (pick k p) (call E q) low i d at = elim low [ ]
 pub each-inner : (t u : PlainTagged) → IsBelow t u → (i : ℕ) (d : PlainTagged) → IsAt (inner t) i d → SomeBelow (inner u) d
 each-inner t u low i d at = each-from 0 t.path u.path low.1 i d at
 
--- the places at two signs, one list after the other
-pub both-has : (at : ℕ → List ℕ) (own other : ℕ) (found first : List ℕ) (s k : ℕ) → found ≡ first ++ at other → first ≡ at own →
-    (s ≡ own) ⊎ (s ≡ other) → Contains (at s) k → Contains found k
-both-has at own other found first s k is was (inl e) h =
-    subst (λ xs. Contains xs k) (sym is) (Contains-append_left first (at other) k (subst (λ xs. Contains xs k) (ap at e ∙ sym was) h))
-both-has at own other found first s k is was (inr e) h =
-    subst (λ xs. Contains xs k) (sym is) (Contains-append_right first (at other) k (subst (λ xs. Contains xs k) (ap at e) h))
+below-then : (t u v : PlainTagged) → IsBelow t u → IsBelow u v → IsBelow t v
+below-then t u v low high = (low.0 ∙ high.0, IsPathBelow-trans u.path low.1 high.1)
 
-pub both-known : (at : ℕ → List ℕ) (own other : ℕ) (found first : List ℕ) (k : ℕ) → found ≡ first ++ at other → first ≡ at own →
-    Contains found k → (s : ℕ) × Contains (at s) k
-both-known at own other found first k is was h = elim (Contains-append_cases first (at other) k (subst (λ xs. Contains xs k) is h)) [
-  | inl g ↦ (own, subst (λ xs. Contains xs k) was g)
-  | inr g ↦ (other, g)
-]
-
--- the first of the places is one of them, and what is read there
-pub leader-in : (xs : List ℕ) (x : ℕ) → leader xs ≡ Some x → Contains xs x × (get_or xs 0 0 ≡ x)
-leader-in [] x e = absurd (cc)
-leader-in (y ∷ ys) x e = let is : y ≡ x = cc in ((0, omega arith, is), is)
-
-pub leaders-length : (l : Level) → IsLed l → length l.leaders.items ≡ length l.signs.items
-leaders-length l led = ap length led.leaders ∙ length-map l.signs.items (leader_at l.places)
-
--- the first path with the sign of the path at the place
-pub leader-is : (l : Level) (k : ℕ) → IsLed l → k < length l.signs.items → get_or l.leaders.items k 0 ≡ leader_at l.places (get_or l.signs.items k 0)
-leader-is l k led few = ap (λ xs. get_or xs k 0) led.leaders ∙ get_or-map (leader_at l.places) l.signs.items k 0 0 few
-
--- a flag that is set after one was is that one, or was set before
-pub set-split : (flags : List Bool) (i k : ℕ) → get_or (set flags i true) k false ≡ true → (i ≡ k) ⊎ (get_or flags k false ≡ true)
-set-split [] i k is = inr is
-set-split (f ∷ flags) zero zero is = inl refl
-set-split (f ∷ flags) zero (suc k) is = inr is
-set-split (f ∷ flags) (suc i) zero is = inr is
-set-split (f ∷ flags) (suc i) (suc k) is = elim (set-split flags i k is) [ inl e ↦ inl (ap suc e) | inr h ↦ inr h ]
-
--- Levels.
-
-sign-at : (T : List PlainTagged) (k : ℕ) (t : PlainTagged) → IsAt T k t → get_or (map own_sign T) k 0 ≡ own_sign t
+pub sign-at : (T : List PlainTagged) (k : ℕ) (t : PlainTagged) → IsAt T k t → get_or (map own_sign T) k 0 ≡ own_sign t
 sign-at [] k t at = absurd at
 sign-at (x ∷ T) zero t at = ap own_sign at
 sign-at (x ∷ T) (suc k) t at = sign-at T k t at
 
-pub tagged-at : (xs : List Tagged) (j : ℕ) (x : Tagged) (e : PlainTagged) → x ≡ get_or xs j x → IsAt (map plain_tagged xs) j e → plain_tagged x ≡ e
-tagged-at [] j x e is at = absurd at
-tagged-at (y ∷ xs) zero x e is at = ap plain_tagged is ∙ at
-tagged-at (y ∷ xs) (suc j) x e is at = tagged-at xs j x e is at
+-- what stands in the domains of a path that is below another one is covered by what is above those in the other's
+pub covered-below : (U V T W : List PlainTagged) (vs ws covers : List (Vec ℕ Global)) → AreInner U vs T → AreInner V ws W → AreAbove U V covers →
+    (k i : ℕ) (t u : PlainTagged) → IsAt T k t → IsAt W i u → IsBelow t u → AreCovered covers (list_at ws i) (list_at vs k)
+covered-below U V T W vs ws covers inner_t inner_u above k i t u at_t at_u low e has =
+    let one = inner-is U (list_at vs k) (inner t) (inner-list U vs T inner_t k t at_t) e has in
+    let some = each-inner t u low one.0 one.1 one.2 in
+    let two = inner-has V (list_at ws i) (inner u) (inner-list V ws W inner_u i u at_u) some.0 some.1 some.2 in
+    let x = one.3 in
+    let y = two.2 in (
+      two.0,
+      two.1,
+      above two.0 y.node y.at e x.node x.at
+          (below-then y.node some.1 x.node y.low (below-then some.1 one.1 x.node some.3 x.high)),
+    )
 
-pub at-few : (xs : List Tagged) (j : ℕ) (e : PlainTagged) → IsAt (map plain_tagged xs) j e → j < length xs
-at-few xs j e at = omega (arith, at-within (map plain_tagged xs) j e at, length-map xs plain_tagged)
-
-times-within : (n m b : ℕ) → m < b → (k d : ℕ) → k < length (times n m) → get_or (times n m) k d < b
-times-within zero m b few k d lt = absurd (omega arith)
-times-within (suc n) m b few zero d lt = few
-times-within (suc n) m b few (suc k) d lt = times-within n m b few k d (omega arith)
-
-owners-within : (m : ℕ) (T : List PlainTagged) (k d : ℕ) → k < length (owners_from m T) → get_or (owners_from m T) k d < m + length T
-owners-within m [] k d lt = absurd (omega arith)
-owners-within m (t ∷ T) k d lt =
-    All-append (λ x. x < m + length (t ∷ T)) (times (length (inner t)) m) (owners_from (suc m) T)
-    (times-within (length (inner t)) m (m + length (t ∷ T)) (omega arith))
-    (λ i e few. omega (arith, owners-within (suc m) T i e few)) k d lt
-
-pub level-fit : {all : Bool} {l : Level} {T : List PlainTagged} → IsLevel all l T → IsFit l
-level-fit {l = l} {T = T} is =
-    let signs : length l.signs.items ≡ length T = ap length is.signs ∙ length-map T own_sign in
-    let owners : length l.owners.items ≡ length (next T) = ap length is.owners ∙ owners-length 0 T in
-    record {
-      starts = ap length is.starts ∙ (starts-length 0 T ∙ ap (λ n. n + 1) (sym signs));
-      chosen = is.chosen ∙ sym owners;
-      owned = rw (signs, is.owners) (λ k d lt. omega (arith, owners-within 0 T k d lt));
-      begun = rw (owners, is.starts) (λ k d lt. omega (arith, start-fits 0 T k (omega (arith, starts-length 0 T)), get_or_default (starts_from 0 T) k d 0 lt));
-      looked = rw owners is.looked;
-    }
-
--- the first level has as many paths as the list, and owners as the next one
-width-of : (all : Bool) (ls : List Level) (T : List PlainTagged) → AreLevels all ls T → width ls ≡ length T
-width-of all [] T is = sym (ap length is)
-width-of all (l ∷ ls) T is = ap length is.0.signs ∙ length-map T own_sign
+-- each of those in the domains of a path that is below another one has one below it in the other's
+pub met-above : (U V T W : List PlainTagged) (vs ws lows : List (Vec ℕ Global)) → AreInner U vs T → AreInner V ws W → AreBelow U V lows →
+    (k i : ℕ) (t u : PlainTagged) → IsAt T k u → IsAt W i t → IsBelow t u → AreMet lows (list_at ws i) (list_at vs k)
+met-above U V T W vs ws lows inner_u inner_t below k i t u at_u at_t low j has =
+    let one = inner-is V (list_at ws i) (inner t) (inner-list V ws W inner_t i t at_t) j has in
+    let some = each-inner t u low one.0 one.1 one.2 in
+    let two = inner-has U (list_at vs k) (inner u) (inner-list U vs T inner_u k u at_u) some.0 some.1 some.2 in
+    let x = one.3 in
+    let y = two.2 in (
+      two.0,
+      two.1,
+      below j x.node x.at two.0 y.node y.at
+          (below-then y.node some.1 x.node y.low (below-then some.1 one.1 x.node some.3 x.high)),
+    )
 
 -- all but the first
-abbrev pub rest : List Level → List Level
-rest ls = take (length ls - 1) (drop 1 ls)
+abbrev pub rest : {A : Type 0} → List A → List A
+rest xs = take (length xs - 1) (drop 1 xs)
 
-first-rest : (ls : List Level) (l : Level) → l ≡ get_or ls 0 l → 1 ≤ length ls → ls ≡ l ∷ rest ls
-first-rest [] l is some = absurd (omega arith)
-first-rest (x ∷ xs) l is some =
-    let e : length (x ∷ xs) - 1 ≡ length xs = omega arith in rw (e, take-length xs) (ap (λ y. y ∷ xs) (sym is))
+pub first-rest : {A : Type 0} (xs : List A) (x : A) → x ≡ get_or xs 0 x → 1 ≤ length xs → xs ≡ x ∷ rest xs
+first-rest [] x is some = absurd (omega arith)
+first-rest (y ∷ ys) x is some =
+    let e : length (y ∷ ys) - 1 ≡ length ys = omega arith in rw (e, take-length ys) (ap (λ z. z ∷ ys) (sym is))
 
-pub levels-split : (all : Bool) (ls : List Level) (l : Level) (T : List PlainTagged) → l ≡ get_or ls 0 l → 1 ≤ length ls → AreLevels all ls T → AreLevels all (l ∷ rest ls) T
-levels-split all ls l T is some levels = subst (λ xs. AreLevels all xs T) (first-rest ls l is some) levels
+-- Lists that are walked through, and those that grow by one.
 
-pub fit-first : (all : Bool) (ls : List Level) (l : Level) → l ≡ get_or ls 0 l → 1 ≤ length ls → AreSomeLevels all ls → IsFit l
-fit-first all ls l is some h = level-fit (levels-split all ls l h.0 is some h.1).0
+-- what holds at each place of the list holds of all that it has
+pub each-has : (P : ℕ → Type 0) (list : List ℕ) (i : ℕ) → length list ≤ i → ((j : ℕ) → j < i → P (get_or list j 0)) → (k : ℕ) → Contains list k → P k
+each-has P list i all each k has =
+    subst P (get_or_default list has.0 0 k has.1 ∙ has.2) (each has.0 (omega (arith, has.1)))
 
-pub width-first : (ls : List Level) (l : Level) → l ≡ get_or ls 0 l → 1 ≤ length ls → width ls ≡ length l.signs.items
-width-first ls l is some = ap width (first-rest ls l is some)
+pub pushed-kept : (xs ys : List ℕ) (x k : ℕ) → ys ≡ xs ++ (x ∷ []) → Contains xs k → Contains ys k
+pushed-kept xs ys x k is has = subst (λ zs. Contains zs k) (sym is) (Contains-append_left xs (x ∷ []) k has)
 
-pub owners-first : (all : Bool) (ls : List Level) (l : Level) → l ≡ get_or ls 0 l → 1 ≤ length ls → AreSomeLevels all ls → length l.owners.items ≡ width (rest ls)
-owners-first all ls l is some h =
-    let parts = levels-split all ls l h.0 is some h.1 in
-    ap length parts.0.owners ∙ (owners-length 0 h.0 ∙ sym (width-of (not all) (rest ls) (next h.0) parts.1.1))
+pub pushed-has : (xs ys : List ℕ) (x : ℕ) → ys ≡ xs ++ (x ∷ []) → Contains ys x
+pushed-has xs ys x is = subst (λ zs. Contains zs x) (sym is) (Contains-push xs x)
 
--- what the map of the first level has is within
-pub places-within : (all : Bool) (ls : List Level) (l : Level) (found : List ℕ) → l ≡ get_or ls 0 l → 1 ≤ length ls → AreSomeLevels all ls →
-    ((k : ℕ) → Contains found k → (s : ℕ) × Contains (places_at l.places s) k) → All (λ k. k < length l.signs.items) found
-places-within all ls l found is some h known k d lt =
-    let parts = levels-split all ls l h.0 is some h.1 in
-    let x = get_or found k d in
-    let at = known x (k, lt, get_or_default found k x d lt) in
-    omega (arith, parts.0.within at.0 x at.1, ap length parts.0.signs, length-map h.0 own_sign)
+-- if the path at the place has one of the signs, and all in its domains are covered, the place is on the list
+abbrev pub IsTaken : Level → Wanted → List ℕ → List ℕ → ℕ → Type 0
+IsTaken level wanted covered found k = k < length level.signs.items → IsWanted wanted (get_or level.signs.items k 0)
+    → ((j : ℕ) → Contains (list_at level.inner.items k) j → Contains covered j) → Contains found k
 
--- what is found by signs is enough, where all paths are looked for by them
-pub above-none : (l : Level) (T : List PlainTagged) (t : PlainTagged) (w : Wanted) (found : List ℕ) → IsLevel true l T →
-    ((u : PlainTagged) → IsBelow t u → IsWanted w (own_sign u)) →
-    ((s k : ℕ) → IsWanted w s → Contains (places_at l.places s) k → Contains found k) → HaveAbove T t found
-above-none l T t w found is signs has k u at low = has (own_sign u) k (signs u low) (is.noted k u at (inl refl))
+-- if the path at the place has one of the signs, and each list at the domains has one in its own, the place is on the list
+abbrev pub IsHigh : Level → Wanted → List ℕ → List (Vec ℕ Global) → List ℕ → ℕ → Type 0
+IsHigh level wanted domains lists found k = k < length level.signs.items → IsWanted wanted (get_or level.signs.items k 0)
+    → AreMet lists domains (list_at level.inner.items k) → Contains found k
 
--- what is above the path has signs that are looked for, or is in one of the lists
-abbrev pub IsFrom : List PlainTagged → PlainTagged → List Wanted → List (Vec ℕ Global) → Type 0
-IsFrom N e bare lists = ((w : Wanted) × Contains bare w × ((d : PlainTagged) → IsBelow e d → IsWanted w (own_sign d)))
-    ⊎ ((v : Vec ℕ Global) × Contains lists v × HaveAbove N e v.items)
+-- what is below a path, or above it, is found by its sign, and by what stands in the domains
 
-pub from-sign : (N : List PlainTagged) (e : PlainTagged) (bare : List Wanted) (w : Wanted) (lists : List (Vec ℕ Global)) →
-    IsFrom N e bare lists → IsFrom N e (bare ++ (w ∷ [])) lists
-from-sign N e bare w lists (inl x) = inl (x.0, Contains-append_left bare (w ∷ []) x.0 x.1, x.2)
-from-sign N e bare w lists (inr v) = inr v
+pub sign-on : (l : Level) (U : List PlainTagged) → IsLevel l U → (k : ℕ) (t : PlainTagged) → IsAt (map plain_tagged l.nodes.items) k t → get_or l.signs.items k 0 ≡ own_sign t
+sign-on l U level k t at = rw level.signs (sign-at (map plain_tagged l.nodes.items) k t at)
 
-pub from-list : (N : List PlainTagged) (e : PlainTagged) (bare : List Wanted) (lists : List (Vec ℕ Global)) (v : Vec ℕ Global) →
-    IsFrom N e bare lists → IsFrom N e bare (lists ++ (v ∷ []))
-from-list N e bare lists v (inl x) = inl x
-from-list N e bare lists v (inr x) = inr (x.0, Contains-append_left lists (v ∷ []) x.0 x.1, x.2)
+pub sign-few : (l : Level) (U : List PlainTagged) → IsLevel l U → (k : ℕ) (t : PlainTagged) → IsAt (map plain_tagged l.nodes.items) k t → k < length l.signs.items
+sign-few l U level k t at =
+    let T = map plain_tagged l.nodes.items in
+    omega (arith, at-within T k t at, ap length level.signs, length-map T own_sign)
 
-from-covers : (N : List PlainTagged) (e : PlainTagged) (c : Covering) → c.signs.now ≡ map own_sign N → IsFrom N e c.bare.items c.lists.items →
-    (z : ℕ) (d : PlainTagged) → IsAt N z d → IsBelow e d → Covers c z
-from-covers N e c signs from z d at low = elim from [
-  | inl w ↦ inr (w.0, w.1, subst (IsWanted w.0) (sym (ap (λ xs. get_or xs z 0) signs ∙ sign-at N z d at)) (w.2 d low))
-  | inr v ↦ inl (v.0, v.1, v.2 z d at low)
-]
+pub below-found : (low : Indexed) (more : List Indexed) (high : Level) (deeper : List Level) (covers : List (Vec ℕ Global)) (place : ℕ) (path : Tagged) (u : PlainTagged) (found : List ℕ) →
+    AreIndexed false (low ∷ more) → AreLevels (high ∷ deeper) → AreCovers (low ∷ more) (high ∷ deeper) covers → path ≡ get_or high.nodes.items place path →
+    IsAt (map plain_tagged high.nodes.items) place u →
+    ((k : ℕ) (t : PlainTagged) → k < length low.level.signs.items → get_or low.level.signs.items k 0 ≡ own_sign t → IsBelow t (plain_tagged path) →
+    AreCovered covers (list_at high.inner.items place) (list_at low.level.inner.items k) → Contains found k) →
+    HaveBelow (map plain_tagged low.level.nodes.items) u found
+below-found low more high deeper covers place path u found indexed levels above is at has k t at_t below =
+    let U = indexed_nodes more in
+    let V = nodes deeper in
+    has k t (sign-few low.level U indexed.0 k t at_t) (sign-on low.level U indexed.0 k t at_t)
+    (subst (IsBelow t) (sym (tagged-at high.nodes.items place path u is at)) below)
+    (covered-below U V (map plain_tagged low.level.nodes.items) (map plain_tagged high.nodes.items) low.level.inner.items high.inner.items covers
+    indexed.0.inner levels.0.inner above k place t u at_t at below)
 
-from-reached : (l : Level) (N : List PlainTagged) (e : PlainTagged) (c : Covering) → IsFrom N e c.bare.items c.lists.items →
-    (z : ℕ) (d : PlainTagged) → IsAt N z d → IsBelow e d → Contains (places_at l.looked (get_or (map own_sign N) z 0)) z →
-    IsListed c.lists.items z ⊎ ((s : ℕ) × IsSought c.bare.items s × Contains (places_at l.looked s) z)
-from-reached l N e c from z d at low looked = elim from [
-  | inl w ↦ inr (own_sign d, (w.0, w.1, w.2 d low), subst (λ s. Contains (places_at l.looked s) z) (sign-at N z d at) looked)
-  | inr v ↦ inl (v.0, v.1, v.2 z d at low)
-]
+pub above-found : (high : Indexed) (more : List Indexed) (low : Level) (deeper : List Level) (lows : List (Vec ℕ Global)) (place : ℕ) (path : Tagged) (t : PlainTagged) (found : List ℕ) →
+    AreIndexed true (high ∷ more) → AreLevels (low ∷ deeper) → AreBelow (indexed_nodes more) (nodes deeper) lows → path ≡ get_or low.nodes.items place path →
+    IsAt (map plain_tagged low.nodes.items) place t →
+    ((k : ℕ) (u : PlainTagged) → k < length high.level.signs.items → get_or high.level.signs.items k 0 ≡ own_sign u → IsBelow (plain_tagged path) u →
+    AreMet lows (list_at low.inner.items place) (list_at high.level.inner.items k) → Contains found k) →
+    HaveAbove (map plain_tagged high.level.nodes.items) t found
+above-found high more low deeper lows place path t found indexed levels are_below is at has k u at_u below =
+    let U = indexed_nodes more in
+    let V = nodes deeper in
+    has k u (sign-few high.level U indexed.0 k u at_u) (sign-on high.level U indexed.0 k u at_u)
+    (subst (λ x. IsBelow x u) (sym (tagged-at low.nodes.items place path t is at)) below)
+    (met-above U V (map plain_tagged high.level.nodes.items) (map plain_tagged low.nodes.items) high.level.inner.items low.inner.items lows
+    indexed.0.inner levels.0.inner are_below k place t u at_u at below)
 
--- where there is no next level, what is found by signs is enough
-pub below-none : (l : Level) (T : List PlainTagged) (u : PlainTagged) (w : Wanted) (found : List ℕ) → IsLevel false l T → next T ≡ [] →
-    ((t : PlainTagged) → IsBelow t u → IsWanted w (own_sign t)) →
-    ((s k : ℕ) → IsWanted w s → Contains (places_at l.places s) k → Contains found k) → HaveBelow T u found
-below-none l T u w found is none signs has k t at low =
-    has (own_sign t) k (signs t low) (is.noted k t at (inr (none-inner T none k t at)))
+-- Levels but the first.
 
--- what is found by signs and by what is chosen is enough
-pub below-found : (l : Level) (T : List PlainTagged) (u : PlainTagged) (w : Wanted) (c : Covering) (first found : List ℕ) →
-    IsLevel false l T → HasChosen l T → c.signs.now ≡ map own_sign (next T) →
-    ((t : PlainTagged) → IsBelow t u → IsWanted w (own_sign t)) →
-    ((j : ℕ) (e : PlainTagged) → IsAt (inner u) j e → IsFrom (next T) e c.bare.items c.lists.items) →
-    ((s k : ℕ) → IsWanted w s → Contains (places_at l.places s) k → Contains first k) →
-    ((k : ℕ) → Contains first k → Contains found k) →
-    ((k : ℕ) → IsReached l c k → IsCovered l c k → IsWanted w (get_or l.signs.items k 0) → Contains found k) → HaveBelow T u found
-below-found l T u w c first found is chosen same signs from has kept more k t at low = step (inner t) refl
-  where
-    wanted : IsWanted w (own_sign t)
-    wanted = signs t low
+pub rest-of : {A : Type 0} (x : A) (xs : List A) → rest (x ∷ xs) ≡ xs
+rest-of x xs = let e : length (x ∷ xs) - 1 ≡ length xs = omega arith in rw e (take-length xs)
 
-    sign_is : get_or l.signs.items k 0 ≡ own_sign t
-    sign_is = ap (λ xs. get_or xs k 0) is.signs ∙ sign-at T k t at
+pub covers-rest : (a : List Indexed) (b : List Level) (covers : List (Vec ℕ Global)) → AreAbove (indexed_nodes (rest a)) (nodes (rest b)) covers → AreCovers a b covers
+covers-rest [] b covers above = tt
+covers-rest (x ∷ xs) [] covers above = tt
+covers-rest (x ∷ xs) (l ∷ ls) covers above =
+    subst (λ zs. AreAbove (indexed_nodes xs) (nodes zs) covers) (rest-of l ls) (subst (λ zs. AreAbove (indexed_nodes zs) (nodes (rest (l ∷ ls))) covers) (rest-of x xs) above)
 
-    covers : IsCovered l c k
-    covers = rw is.starts (λ y low_y high_y.
-        let i = y - get_or (starts_from 0 T) k 0 in
-        let e : get_or (starts_from 0 T) k 0 + i ≡ y = omega (arith, low_y) in
-        let d = at-some (inner t) i (omega (arith, low_y, high_y, start-next 0 T k t at)) in
-        let x = each-inner t u low i d.0 d.1 in
-        subst (Covers c) e (from-covers (next T) x.1 c same (from x.0 x.1 x.2) (get_or (starts_from 0 T) k 0 + i) d.0 (next-at T k t at i d.0 d.1) x.3))
+-- Lists of lists that grow by one.
 
-    by : (inner t ≡ [] → ⊥) → Contains found k
-    by some =
-        let h = chosen k t at some in
-        let z = get_or (starts_from 0 T) k 0 + h.0 in
-        let few = h.1 in
-        let mark : IsChosen l T z = rw is.starts at h.2 in
-        let d = at-some (inner t) h.0 h.1 in
-        let x = each-inner t u low h.0 d.0 d.1 in
-        let owner : get_or l.owners.items z 0 ≡ k =
-        ap (λ xs. get_or xs z 0) is.owners ∙ owner-at T k t at z (omega arith) (omega (arith, few, start-next 0 T k t at)) in
-        more k (z, (mark.0, owner), from-reached l (next T) x.1 c (from x.0 x.1 x.2) z d.0 (next-at T k t at h.0 d.0 d.1) x.3 mark.1)
-        covers (subst (IsWanted w) (sym sign_is) wanted)
+lists-last : (xs : List (Vec ℕ Global)) (v : Vec ℕ Global) → list_at (xs ++ (v ∷ [])) (length xs) ≡ v.items
+lists-last [] v = refl
+lists-last (x ∷ xs) v = lists-last xs v
 
-    step : (L : List PlainTagged) → inner t ≡ L → Contains found k
-    step [] e = kept k (has (own_sign t) k wanted (is.noted k t at (inr e)))
-    step (x ∷ L) e = by (λ none. let clash = sym e ∙ none in absurd (cc))
+lists-kept : (xs : List (Vec ℕ Global)) (v : Vec ℕ Global) (j : ℕ) → j < length xs → list_at (xs ++ (v ∷ [])) j ≡ list_at xs j
+lists-kept [] v j few = absurd (omega arith)
+lists-kept (x ∷ xs) v zero few = refl
+lists-kept (x ∷ xs) v (suc j) few = lists-kept xs v j (omega arith)
 
--- what is below a path in the domains belongs to what is above the path
-pub above-owner : {all : Bool} (l : Level) (T : List PlainTagged) (t : PlainTagged) → IsLevel all l T → (i : ℕ) (d : PlainTagged) → IsAt (inner t) i d →
-    (list : List ℕ) → HaveBelow (next T) d list → (k : ℕ) (u : PlainTagged) → IsAt T k u → IsBelow t u → HasOwner l list k
-above-owner l T t is i d in_it list have k u at low =
-    let e = each-inner t u low i d in_it in
-    let z = get_or (starts_from 0 T) k 0 + e.0 in
-    let few = at-within (inner u) e.0 e.1 e.2 in
-    let h = have z e.1 (next-at T k u at e.0 e.1 e.2) e.3 in
-    let owner : get_or l.owners.items z 0 ≡ k =
-    ap (λ xs. get_or xs z 0) is.owners ∙ owner-at T k u at z (omega arith) (omega (arith, start-next 0 T k u at)) in
-    (h.0, h.1, ap (λ y. get_or l.owners.items y 0) (get_or_default list h.0 0 z h.1 ∙ h.2) ∙ owner)
+-- what holds of each list so far and of the next one holds of each of both
+pub lists-pushed : (P : ℕ → List ℕ → Type 0) (xs ys : List (Vec ℕ Global)) (v : Vec ℕ Global) (i : ℕ) → ys ≡ xs ++ (v ∷ []) → length xs ≡ i →
+    ((j : ℕ) → j < i → P j (list_at xs j)) → P i v.items → (j : ℕ) → j < i + 1 → P j (list_at ys j)
+lists-pushed P xs ys v i is long each last =
+    rw is (below_more (λ j. P j (list_at (xs ++ (v ∷ [])) j)) i
+    (λ j few. subst (P j) (sym (lists-kept xs v j (rw long few))) (each j few))
+    (subst (λ n. P n (list_at (xs ++ (v ∷ [])) n)) long (subst (P (length xs)) (sym (lists-last xs v)) (subst (λ n. P n v.items) (sym long) last))))
 
-pub above-sign : {all : Bool} (l : Level) (T : List PlainTagged) (k : ℕ) (u : PlainTagged) → IsLevel all l T → IsAt T k u → get_or l.signs.items k 0 ≡ own_sign u
-above-sign l T k u is at = ap (λ xs. get_or xs k 0) is.signs ∙ sign-at T k u at
+-- The first of the levels.
 
--- a path with the signs of those below one in the domains stands in the domains of what is above the path
-pub above-with : {all : Bool} (l : Level) (T : List PlainTagged) (t : PlainTagged) → IsLevel all l T → (i : ℕ) (d : PlainTagged) → IsAt (inner t) i d →
-    (w : Wanted) → ((x : PlainTagged) → IsBelow x d → IsWanted w (own_sign x)) → (k : ℕ) (u : PlainTagged) → IsAt T k u → IsBelow t u →
-    HasWith l (map own_sign (next T)) w k
-above-with l T t is i d in_it w signs k u at low =
-    let e = each-inner t u low i d in_it in
-    let z = get_or (starts_from 0 T) k 0 + e.0 in
-    let few = at-within (inner u) e.0 e.1 e.2 in
-    let same = sign-at (next T) z e.1 (next-at T k u at e.0 e.1 e.2) in
-    rw is.starts (z, omega arith, omega (arith, few, start-next 0 T k u at), subst (IsWanted w) (sym same) (signs e.1 e.3))
+pub nodes-first : (b : List Level) (high : Level) → high ≡ get_or b 0 high → 1 ≤ length b → nodes b ≡ map plain_tagged high.nodes.items
+nodes-first b high is some = ap nodes (first-rest b high is some)
 
-at-index : (xs : List Tagged) (i : ℕ) (x : Tagged) → i < length xs → x ≡ get_or xs i x → IsAt (map plain_tagged xs) i (plain_tagged x)
-at-index [] i x few is = absurd (omega arith)
-at-index (y ∷ xs) zero x few is = ap plain_tagged (sym is)
-at-index (y ∷ xs) (suc i) x few is = at-index xs i x (omega arith) is
+pub is_indexed-first : (all : Bool) (a : List Indexed) (low : Indexed) → low ≡ get_or a 0 low → 1 ≤ length a → AreIndexed all a → IsIndexed all low.level low.index
+is_indexed-first all a low is some are = let now = subst (AreIndexed all) (first-rest a low is some) are in now.1.0
 
--- the same of the path that stands at an index of the list
-pub owner-in : (l : Level) (T : List PlainTagged) (t : PlainTagged) (items : List Tagged) → IsLevel true l T → map plain_tagged items ≡ inner t →
-    (i : ℕ) (x : Tagged) → i < length items → x ≡ get_or items i x → (list : List ℕ) → HaveBelow (next T) (plain_tagged x) list →
-    (k : ℕ) (u : PlainTagged) → IsAt T k u → IsBelow t u → HasOwner l list k
-owner-in l T t items is domains i x few at_i list have =
-    above-owner l T t is i (plain_tagged x) (subst (λ L. IsAt L i (plain_tagged x)) domains (at-index items i x few at_i)) list have
+-- the same of lists of which only the first is named
+pub first-below : (a : List Indexed) (b : List Level) (low : Indexed) (high : Level) (covers : List (Vec ℕ Global)) (place : ℕ) (path : Tagged) (u : PlainTagged) (found : List ℕ) →
+    low ≡ get_or a 0 low → 1 ≤ length a → high ≡ get_or b 0 high → 1 ≤ length b →
+    AreIndexed false a → AreLevels b → AreCovers a b covers → path ≡ get_or high.nodes.items place path → IsAt (nodes b) place u →
+    ((k : ℕ) (t : PlainTagged) → k < length low.level.signs.items → get_or low.level.signs.items k 0 ≡ own_sign t → IsBelow t (plain_tagged path) →
+    AreCovered covers (list_at high.inner.items place) (list_at low.level.inner.items k) → Contains found k) →
+    HaveBelow (indexed_nodes a) u found
+first-below a b low high covers place path u found is_low some_low is_high some_high indexed levels above is at has =
+    let split_a = first-rest a low is_low some_low in
+    let split_b = first-rest b high is_high some_high in
+    subst (λ xs. HaveBelow (indexed_nodes xs) u found) (sym split_a)
+    (below-found low (rest a) high (rest b) covers place path u found (subst (AreIndexed false) split_a indexed) (subst AreLevels split_b levels)
+    (subst (λ ys. AreCovers (low ∷ rest a) ys covers) split_b (subst (λ xs. AreCovers xs b covers) split_a above)) is
+    (subst (λ ys. IsAt (nodes ys) place u) split_b at) has)
 
-pub with-in : (l : Level) (T : List PlainTagged) (t : PlainTagged) (items : List Tagged) → IsLevel true l T → map plain_tagged items ≡ inner t →
-    (i : ℕ) (x : Tagged) → i < length items → x ≡ get_or items i x → (w : Wanted) →
-    ((y : PlainTagged) → IsBelow y (plain_tagged x) → IsWanted w (own_sign y)) →
-    (k : ℕ) (u : PlainTagged) → IsAt T k u → IsBelow t u → HasWith l (map own_sign (next T)) w k
-with-in l T t items is domains i x few at_i w signs =
-    above-with l T t is i (plain_tagged x) (subst (λ L. IsAt L i (plain_tagged x)) domains (at-index items i x few at_i)) w signs
-
--- the second level has the signs of the next paths
-pub next-signs : (all : Bool) (ls : List Level) (l m : Level) (T : List PlainTagged) → l ≡ get_or ls 0 l → 1 ≤ length ls →
-    m ≡ get_or (rest ls) 0 m → 1 ≤ length (rest ls) → AreLevels all ls T → m.signs.items ≡ map own_sign (next T)
-next-signs all ls l m T is some is_next some_next levels =
-    (levels-split (not all) (rest ls) m (next T) is_next some_next (levels-split all ls l T is some levels).1.1).0.signs
-
-pub next-length : (all : Bool) (ls : List Level) (l m : Level) → l ≡ get_or ls 0 l → 1 ≤ length ls →
-    m ≡ get_or (rest ls) 0 m → 1 ≤ length (rest ls) → AreSomeLevels all ls → length m.signs.items ≡ length l.owners.items
-next-length all ls l m is some is_next some_next h =
-    sym (owners-first all ls l is some h ∙ width-first (rest ls) m is_next some_next)
-
-level-led : (l : Level) (T : List PlainTagged) → IsLevel true l T → IsLed l
-level-led l T is = record {
-  leaders = is.leaders refl;
-  noted = λ k few.
-      let one = at-some T k (omega (arith, few, ap length is.signs, length-map T own_sign)) in
-      subst (λ s. Contains (places_at l.places s) k) (sym (above-sign l T k one.0 is one.1)) (is.noted k one.0 one.1 (inl refl));
-  within = λ s k has. omega (arith, is.within s k has, ap length is.signs, length-map T own_sign);
-}
-
--- on the second level each path is looked for by its sign
-pub next-led : (ls : List Level) (l m : Level) → l ≡ get_or ls 0 l → 1 ≤ length ls →
-    m ≡ get_or (rest ls) 0 m → 1 ≤ length (rest ls) → AreSomeLevels false ls → IsLed m
-next-led ls l m is some is_next some_next h =
-    level-led m (next h.0) (levels-split true (rest ls) m (next h.0) is_next some_next (levels-split false ls l h.0 is some h.1).1.1).0
+pub first-above : (a : List Indexed) (b : List Level) (high : Indexed) (low : Level) (lows : List (Vec ℕ Global)) (place : ℕ) (path : Tagged) (t : PlainTagged) (found : List ℕ) →
+    high ≡ get_or a 0 high → 1 ≤ length a → low ≡ get_or b 0 low → 1 ≤ length b →
+    AreIndexed true a → AreLevels b → AreBelow (indexed_nodes (rest a)) (nodes (rest b)) lows → path ≡ get_or low.nodes.items place path → IsAt (nodes b) place t →
+    ((k : ℕ) (u : PlainTagged) → k < length high.level.signs.items → get_or high.level.signs.items k 0 ≡ own_sign u → IsBelow (plain_tagged path) u →
+    AreMet lows (list_at low.inner.items place) (list_at high.level.inner.items k) → Contains found k) →
+    HaveAbove (indexed_nodes a) t found
+first-above a b high low lows place path t found is_high some_high is_low some_low indexed levels are_below is at has =
+    let split_a = first-rest a high is_high some_high in
+    let split_b = first-rest b low is_low some_low in
+    subst (λ xs. HaveAbove (indexed_nodes xs) t found) (sym split_a)
+    (above-found high (rest a) low (rest b) lows place path t found (subst (AreIndexed true) split_a indexed) (subst AreLevels split_b levels) are_below is
+    (subst (λ ys. IsAt (nodes ys) place t) split_b at) has)

@@ -3,14 +3,15 @@
 ghost use Rattle.std.specs.Prelude.{◌≡◌, ◌↔◌, false, IsTrue, IfOk};
 ghost use Rattle.fy_forms.specs.Keys.{lent, IsIndex};
 ghost use Rattle.fy_order.specs.Indexed.{indexed, IsWhole};
-ghost use Rattle.fy_order.specs.Levels.{AreLevels, MayBeLevels, all_tagged};
+ghost use Rattle.fy_order.specs.Levels.{AreIndexed, HaveBelow, MayBeLevels, all_tagged, indexed_nodes};
 ghost use Rattle.fy_types.specs.Paths.{type_of_paths};
 ghost use Rattle.fy_types.specs.Subtyping.{IsSubtype};
 ghost use Rattle.fy_types.specs.PathOrder.{IsPathBelow, ArePathsBelow, HasBelow};
 ghost use Rattle.fy_types.specs.Reading.{IsElemBelow, paths_in, plain_elem, plain_path, plain_paths, type_of_form};
 
-use crate::levels::{Level, Tagged, levels_of};
-use crate::search::below;
+use crate::index::{Indexed, indexed_levels};
+use crate::levels::{levels_of, tagged};
+use crate::relation::{all_below, covers_of, one_below};
 use fy_base::OutOfMemory;
 use fy_forms::{Groups, are_same_paths, candidates, groups_of, key_of};
 use fy_types::{Path, PathElem, Paths, is_end_below};
@@ -27,7 +28,7 @@ pub struct PathIndex<'a> {
     form: &'a Paths,
     groups: Groups<'a>,
     // None, where no path has many of its key.
-    levels: Vec<Level>,
+    levels: Vec<Indexed<'a>>,
 }
 
 impl<'a> PathIndex<'a> {
@@ -51,7 +52,7 @@ impl<'a> PathIndex<'a> {
         ensures { IfOk result
             (λ r. IsTrue r ↔ IsSubtype (type_of_paths (indexed self.now)) (type_of_form other.now)) }
     {
-        are_keyed_below(
+        are_indexed_below(
             alloc,
             self.form,
             &self.groups,
@@ -82,48 +83,89 @@ fn are_paths_below(alloc: Global, a: &Paths, b: &Paths) -> Result<bool, OutOfMem
     }
     let groups = groups_of(alloc, a.as_slice())?;
     let levels = levels_where(alloc, &groups, a)?;
-    are_keyed_below(alloc, a, &groups, levels.as_slice(), b)
+    are_indexed_below(alloc, a, &groups, levels.as_slice(), b)
 }
 
 #[cycle(keyed)]
-fn are_keyed_below(
+fn are_indexed_below(
     alloc: Global,
     a: &Paths,
     groups: &Groups<'_>,
-    levels: &[Level],
+    levels: &[Indexed<'_>],
     b: &Paths,
 ) -> Result<bool, OutOfMemory>
     requires groups { IsIndex groups.now (paths_in a.now) }
     requires levels { MayBeLevels levels.now (plain_paths a.now) }
     ensures { IfOk result (λ r. IsTrue r ↔ ArePathsBelow (plain_paths a.now) (plain_paths b.now)) }
 {
+    if levels.len() == 0 {
+        are_keyed_below(alloc, a, groups, b)
+    } else {
+        are_found_below(alloc, a, levels, b)
+    }
+}
+
+// Each path is compared with those of its key.
+#[cycle(keyed)]
+fn are_keyed_below(
+    alloc: Global,
+    a: &Paths,
+    groups: &Groups<'_>,
+    b: &Paths,
+) -> Result<bool, OutOfMemory>
+    requires { IsIndex groups.now (paths_in a.now) }
+    ensures { IfOk result (λ r. IsTrue r ↔ ArePathsBelow (plain_paths a.now) (plain_paths b.now)) }
+{
+    let none = Vec::new(alloc);
     for path in b.as_slice() {
-        if !is_one_below(alloc, a, groups, levels, path)? {
+        let list = candidates(&*groups, key_of(path), &none);
+        if !is_some_below(alloc, list, path)? {
             return Ok(false);
         }
     }
     Ok(true)
 }
 
-// Whether one of the form's paths is below the path.
+// Each path is compared with those that can be below it.
 #[cycle(keyed)]
-fn is_one_below(
+fn are_found_below(
     alloc: Global,
     a: &Paths,
-    groups: &Groups<'_>,
-    levels: &[Level],
+    levels: &[Indexed<'_>],
+    b: &Paths,
+) -> Result<bool, OutOfMemory>
+    requires nodes { indexed_nodes levels.now ≡ all_tagged 0 (plain_paths a.now) }
+    requires levels { AreIndexed false levels.now }
+    ensures { IfOk result (λ r. IsTrue r ↔ ArePathsBelow (plain_paths a.now) (plain_paths b.now)) }
+{
+    let others = levels_of(alloc, tagged(alloc, b.as_slice())?)?;
+    let covers = covers_of(alloc, levels, others.as_slice())?;
+    for (place, path) in b.as_slice().iter().enumerate() {
+        let one = one_below(alloc, levels, others.as_slice(), covers.as_slice(), place)?;
+        if !is_at_below(alloc, a, one, path)? {
+            let all = all_below(alloc, levels, others.as_slice(), covers.as_slice(), place)?;
+            if !is_found_below(alloc, a, all.as_slice(), path)? {
+                return Ok(false);
+            }
+        }
+    }
+    Ok(true)
+}
+
+// Whether the path at the place is below the other one.
+#[cycle(keyed)]
+fn is_at_below(
+    alloc: Global,
+    paths: &Paths,
+    place: Option<usize>,
     above: &Path,
 ) -> Result<bool, OutOfMemory>
-    requires groups { IsIndex groups.now (paths_in a.now) }
-    requires levels { MayBeLevels levels.now (plain_paths a.now) }
-    ensures { IfOk result (λ r. IsTrue r ↔ HasBelow (plain_paths a.now) (plain_path above.now)) }
+    ensures { IfOk result (λ r. IsTrue r → HasBelow (plain_paths paths.now) (plain_path above.now)) }
 {
-    let none = Vec::new(alloc);
-    let list = candidates(&*groups, key_of(above), &none);
-    if list.len() < FEW || levels.len() == 0 {
-        is_some_below(alloc, list, above)
-    } else {
-        is_found_below(alloc, a, levels, above)
+    let members = paths.as_slice();
+    match place {
+        Some(place) if place < members.len() => is_path_below(alloc, &members[place], above),
+        _ => Ok(false),
     }
 }
 
@@ -177,37 +219,34 @@ fn are_many(list: &[&Path]) -> bool {
 }
 
 // The levels of the form's paths, or none where no path has many of its key.
-fn levels_where(alloc: Global, groups: &Groups<'_>, form: &Paths) -> Result<Vec<Level>, OutOfMemory>
+fn levels_where<'a>(
+    alloc: Global,
+    groups: &Groups<'_>,
+    form: &'a Paths,
+) -> Result<Vec<Indexed<'a>>, OutOfMemory>
     ensures { IfOk result (λ levels. MayBeLevels levels.items (plain_paths form.now)) }
 {
     if has_many(groups) {
-        levels_of(alloc, form.as_slice())
+        indexed_levels(alloc, tagged(alloc, form.as_slice())?, false)
     } else {
         Ok(Vec::new(alloc))
     }
 }
 
+// Whether one of the paths at the places is below the path.
 #[cycle(keyed)]
 fn is_found_below(
     alloc: Global,
     paths: &Paths,
-    levels: &[Level],
+    places: &[usize],
     above: &Path,
 ) -> Result<bool, OutOfMemory>
-    requires { AreLevels false levels.now (all_tagged 0 (plain_paths paths.now)) }
+    requires { HaveBelow (all_tagged 0 (plain_paths paths.now)) (record { tag = 0; path = plain_path above.now }) places.now }
     ensures { IfOk result (λ r. IsTrue r ↔ HasBelow (plain_paths paths.now) (plain_path above.now)) }
 {
-    let places = below(
-        alloc,
-        levels,
-        Tagged {
-            tag: 0,
-            path: above,
-        },
-    )?;
     let members = paths.as_slice();
-    for place in places.as_slice() {
-        if is_path_below(alloc, &members[*place], above)? {
+    for place in places {
+        if *place < members.len() && is_path_below(alloc, &members[*place], above)? {
             return Ok(true);
         }
     }

@@ -1,10 +1,14 @@
 //! The order of path forms, and what they have behind a call or a field.
 #![tactic(auto)]
 
+mod alike;
+mod covered;
 mod demands;
+mod index;
 mod keyed;
 mod levels;
-mod search;
+mod relation;
+mod sign;
 
 pub use demands::{are_paths_below, has, one_end, others, rests_of_call, rests_of_field};
 pub use keyed::{PathIndex, is_form_below};

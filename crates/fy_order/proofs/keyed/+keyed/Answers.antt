@@ -1,20 +1,22 @@
-use Rattle.std.proofs.Common.{get_or, ◌<◌, length, ◌+◌, map, drop, sym, refl, ◌∙◌, arith, rules, eqb-true, eq-eqb}
+use Rattle.std.proofs.Common.{get_or, ap, subst, ◌≡◌, ◌+◌, map, drop, sym, refl, ◌∙◌, arith, rules, eqb-true, eq-eqb}
 use Rattle.std.proofs.lemmas.List.{length-map}
 use Rattle.std.proofs.lemmas.Result.{IfOk-weaker}
 use Rattle.std.specs.Borrow.{Bor}
 use Rattle.fy_types.specs.declared.paths.Path.{Path}
 use Rattle.fy_forms.specs.Keys.{lent}
 use Rattle.fy_types.specs.Paths.{end}
-use Rattle.fy_types.specs.PathOrder.{IsPathBelow, ends, none_left}
+use Rattle.fy_types.specs.PathOrder.{IsPathBelow, HasBelow, ends, none_left}
 use Rattle.fy_types.specs.PathOrder as order
 use Rattle.fy_types.specs.Reading.{plain_elem, plain_path, plain_paths, paths_in, fronted, paths_from}
 use Rattle.fy_forms.proofs.KeyLemmas.{candidates-depth, deepest-item, item-size, some-by_index}
-use Rattle.fy_order.specs.Levels.{all_tagged}
-use Rattle.fy_order.proofs.FoundLemmas.{place-within, none-below, none-here, none-more, at-below}
+use Rattle.fy_order.specs.Levels.{all_tagged, nodes, IsAt}
+use Rattle.fy_order.proofs.FoundLemmas.{none-below, none-here, none-more, at-below, tagged-item}
 use Rattle.fy_types.proofs.Steps.{drop_item, drop_end, not_so, all-next, all-first, some-next, some-none, front-split, front-next, fronted-length, fronted-end, elem-call, elem-field, field-elem}
 use Rattle.fy_types.proofs.ReadLemmas.{plain_elem-Call, plain_elem-Field, plain_path-at, plain_paths-at}
 use Rattle.fy_order.proofs.keyed.+keyed.Goals as goal
 use Rattle.fy_order.proofs.keyed.+keyed.Goals.{is_path_below-then-xs-ys-via-then-xs-ys, is_path_below-then-xs-ys-via-else-xs-ys+then-not-is_end_below}
+use Rattle.fy_order.proofs.keyed.+keyed.Goals.{are_found_below-then-not-branch+in_ok-all+in_ok-is_found_below+else-not-branch-2, are_found_below-else-not-branch}
+use Rattle.fy_order.proofs.keyed.+keyed.Goals.{is_found_below-else-place-members-via-then-place-members+in_ok-is_path_below+else-branch, is_found_below-else-place-members-via-else-place-members}
 
 pub is_elem_below-returns-in-Call-y : goal.is_elem_below-returns-in-Call-y
 is_elem_below-returns-in-Call-y t c =
@@ -66,28 +68,28 @@ is_path_below-returns t c =
     let now = rw (xs, ys) at c.loop-i.invariant in
     (λ r. now.0 (ends (c.is_end_below.ensures.0 c.if-not-is_end_below.false)), λ below. refl)
 
-pub is_one_below-is_some_below-requires : goal.is_one_below-is_some_below-requires
-is_one_below-is_some_below-requires t c =
-    let depth = candidates-depth c.args.groups.now c.args.a.now (paths_in c.args.a.now) c.key_of.result c.candidates-list.result.now
-    c.requires.groups c.candidates-list.ensures refl in
-    search rules
-
-pub are_keyed_below-is_one_below-requires : goal.are_keyed_below-is_one_below-requires
-are_keyed_below-is_one_below-requires t c =
+pub are_keyed_below-is_some_below-requires : goal.are_keyed_below-is_some_below-requires
+are_keyed_below-is_some_below-requires t c =
     let item = item-size c.args.b.now c.loop-path.path-index c.path-item.result
     (rw c.as_slice-path-items.ensures.members at c.loop-path-test.true) (rw c.as_slice-path-items.ensures.members at c.path-item.is) in
+    let depth = candidates-depth c.args.groups.now c.args.a.now (paths_in c.args.a.now) c.key_of.result c.candidates-list.result.now
+    c.requires c.candidates-list.ensures refl in
     search rules
 
 pub are_keyed_below-returns-then-not-branch : goal.are_keyed_below-returns-then-not-branch
 are_keyed_below-returns-then-not-branch t c =
     let rest = drop_item plain_path c.as_slice-path-items.result.now c.loop-path.path-index c.path-item.result c.loop-path-test.true c.path-item.is in
-    (λ r. cc, λ below. absurd (not_so c.if-not-branch.true c.in_ok-is_one_below.ensures.1 (all-first (rw rest at (c.loop-path.invariant.1 below)))))
+    let enough = some-by_index c.args.groups.now (plain_paths c.args.a.now) (paths_in c.args.a.now) c.key_of.result c.candidates-list.result.now
+    (plain_path c.path-item.result) c.requires c.key_of.ensures c.candidates-list.ensures (plain_paths-at c.args.a.now) in
+    (λ r. cc, λ below. absurd (not_so c.if-not-branch.true c.in_ok-is_some_below.ensures.1 (enough.1 (all-first (rw rest at (c.loop-path.invariant.1 below))))))
 
 pub are_keyed_below-loop-path-preserved : goal.are_keyed_below-loop-path-preserved
 are_keyed_below-loop-path-preserved t c =
     let rest = drop_item plain_path c.as_slice-path-items.result.now c.loop-path.path-index c.path-item.result c.loop-path-test.true c.path-item.is in
+    let enough = some-by_index c.args.groups.now (plain_paths c.args.a.now) (paths_in c.args.a.now) c.key_of.result c.candidates-list.result.now
+    (plain_path c.path-item.result) c.requires c.key_of.ensures c.candidates-list.ensures (plain_paths-at c.args.a.now) in
     let step = all-next {Q = paths_from (map plain_path (drop (c.loop-path.path-index + 1) c.as_slice-path-items.result.now))}
-    (c.in_ok-is_one_below.ensures.0 c.if-not-branch.false) in
+    (enough.0 (c.in_ok-is_some_below.ensures.0 c.if-not-branch.false)) in
     let now = rw rest at c.loop-path.invariant in
     (λ low. now.0 (step.1 low), λ below. step.0 (now.1 below))
 
@@ -166,57 +168,66 @@ is_some_below-returns t c =
     let now = rw none at c.loop-path.invariant in
     (λ r. cc, λ some. absurd (some-none (now.1 some)))
 
-pub is_found_below-offset_bounds-members-place : goal.is_found_below-offset_bounds-members-place
-is_found_below-offset_bounds-members-place t c =
-    let at : get_or c.as_slice-place-items.result.now c.loop-place.place-index 0 < length c.as_slice-members.result.now =
-    place-within c.args.paths.now c.args.levels.now c.as_slice-members.result.now c.in_ok-places.places.items c.as_slice-place-items.result.now c.loop-place.place-index
-    c.requires c.as_slice-members.ensures.reading c.in_ok-places.ensures.within c.as_slice-place-items.ensures.value c.loop-place-test.true in
-    search rules
+pub are_found_below-is_found_below-requires : goal.are_found_below-is_found_below-requires
+are_found_below-is_found_below-requires t c =
+    let item = item-size c.args.b.now c.loop-place.place c.path-item.result
+    (rw c.as_slice-path-items.ensures.members at c.loop-place-test.true) (rw c.as_slice-path-items.ensures.members at c.path-item.is) in
+    let at = tagged-item 0 c.as_slice-path-items.result.now c.loop-place.place c.path-item.result c.loop-place-test.true c.path-item.is in
+    let same : nodes c.as_slice-then-not-branch.result.now ≡ all_tagged 0 (paths_from (map plain_path c.as_slice-path-items.result.now)) =
+    ap nodes c.as_slice-then-not-branch.ensures.value ∙ (c.in_ok-others.ensures.nodes
+    ∙ (c.in_ok-tagged.ensures ∙ ap (λ P. all_tagged 0 P) (sym c.as_slice.ensures.reading ∙ c.as_slice-path-items.ensures.reading))) in
+    let have = c.in_ok-all.ensures (record { tag = 0; path = plain_path c.path-item.result })
+    (subst (λ T. IsAt T c.loop-place.place (record { tag = 0; path = plain_path c.path-item.result })) (sym same) at) in
+    (search rules, rw (c.as_slice-then-not-branch-3.ensures.value, sym c.requires.nodes) have)
 
-pub is_found_below-bounds-members-place : goal.is_found_below-bounds-members-place
-is_found_below-bounds-members-place t c =
-    let at : get_or c.as_slice-place-items.result.now c.loop-place.place-index 0 < length c.as_slice-members.result.now =
-    place-within c.args.paths.now c.args.levels.now c.as_slice-members.result.now c.in_ok-places.places.items c.as_slice-place-items.result.now c.loop-place.place-index
-    c.requires c.as_slice-members.ensures.reading c.in_ok-places.ensures.within c.as_slice-place-items.ensures.value c.loop-place-test.true in
-    at
+pub are_found_below-returns-then-not-branch-2 : goal.are_found_below-returns-then-not-branch-2
+are_found_below-returns-then-not-branch-2 t c =
+    let rest = drop_item plain_path c.as_slice-path-items.result.now c.loop-place.place c.path-item.result c.loop-place-test.true c.path-item.is in
+    (λ r. cc, λ below. absurd (not_so c.if-not-branch-2.true c.in_ok-is_found_below.ensures.1 (all-first (rw rest at (c.loop-place.invariant.1 below)))))
 
-pub is_found_below-is_path_below-requires : goal.is_found_below-is_path_below-requires
-is_found_below-is_path_below-requires t c =
-    let at : get_or c.as_slice-place-items.result.now c.loop-place.place-index 0 < length c.as_slice-members.result.now =
-    place-within c.args.paths.now c.args.levels.now c.as_slice-members.result.now c.in_ok-places.places.items c.as_slice-place-items.result.now c.loop-place.place-index
-    c.requires c.as_slice-members.ensures.reading c.in_ok-places.ensures.within c.as_slice-place-items.ensures.value c.loop-place-test.true in
-    let item = item-size c.args.paths.now (get_or c.as_slice-place-items.result.now c.loop-place.place-index 0) c.index-members-place.result
-    (rw c.as_slice-members.ensures.members at at) (rw c.as_slice-members.ensures.members at c.index-members-place.is) in
-    search rules
+pub are_found_below-loop-place-preserved : goal.are_found_below-loop-place-preserved
+are_found_below-loop-place-preserved t c =
+    let rest = drop_item plain_path c.as_slice-path-items.result.now c.loop-place.place c.path-item.result c.loop-place-test.true c.path-item.is in
+    let some : HasBelow (plain_paths c.args.a.now) (plain_path c.path-item.result) =
+    elim c.if-not-branch.branch [
+      | are_found_below-then-not-branch+in_ok-all+in_ok-is_found_below+else-not-branch-2 w ↦ w.in_ok-is_found_below.ensures.0 w.if-not-branch-2.false
+      | are_found_below-else-not-branch w ↦ c.in_ok-is_at_below.ensures w.if-not-branch.false
+    ] in
+    let step = all-next {Q = paths_from (map plain_path (drop (c.loop-place.place + 1) c.as_slice-path-items.result.now))} some in
+    let now = rw rest at c.loop-place.invariant in
+    (λ low. now.0 (step.1 low), λ below. step.0 (now.1 below))
+
+pub are_found_below-returns : goal.are_found_below-returns
+are_found_below-returns t c =
+    let none = drop_end plain_path c.as_slice-path-items.result.now c.loop-place.place c.loop-place-test.false in
+    let now = rw none at c.loop-place.invariant in
+    (λ r. now.0 none_left, λ below. refl)
+
+pub is_at_below-returns-in-Some : goal.is_at_below-returns-in-Some
+is_at_below-returns-in-Some t c =
+    IfOk-weaker c.is_path_below.result _ _
+    (λ r both s. rw c.as_slice-members.ensures.reading (at-below c.as_slice-members.result.now (plain_path c.args.above.now) c.in-Some.place
+    c.index-members-place.result c.if-place-members.true c.index-members-place.is (both.0 s))) c.is_path_below.ensures
 
 pub is_found_below-returns-then-branch : goal.is_found_below-returns-then-branch
 is_found_below-returns-then-branch t c =
-    let at : get_or c.as_slice-place-items.result.now c.loop-place.place-index 0 < length c.as_slice-members.result.now =
-    place-within c.args.paths.now c.args.levels.now c.as_slice-members.result.now c.in_ok-places.places.items c.as_slice-place-items.result.now c.loop-place.place-index
-    c.requires c.as_slice-members.ensures.reading c.in_ok-places.ensures.within c.as_slice-place-items.ensures.value c.loop-place-test.true in
-    let some = at-below c.as_slice-members.result.now (plain_path c.args.above.now) (get_or c.as_slice-place-items.result.now c.loop-place.place-index 0)
-    c.index-members-place.result at c.index-members-place.is (c.in_ok-is_path_below.ensures.0 c.if-branch.true) in
+    let some = at-below c.as_slice-members.result.now (plain_path c.args.above.now) (get_or c.args.places.now c.loop-place.place-index 0)
+    c.index-members-place.result c.if-place-members.true c.index-members-place.is (c.in_ok-is_path_below.ensures.0 c.if-branch.true) in
     (λ r. rw c.as_slice-members.ensures.reading some, λ below. refl)
 
 pub is_found_below-loop-place-preserved : goal.is_found_below-loop-place-preserved
 is_found_below-loop-place-preserved t c =
-    let at : get_or c.as_slice-place-items.result.now c.loop-place.place-index 0 < length c.as_slice-members.result.now =
-    place-within c.args.paths.now c.args.levels.now c.as_slice-members.result.now c.in_ok-places.places.items c.as_slice-place-items.result.now c.loop-place.place-index
-    c.requires c.as_slice-members.ensures.reading c.in_ok-places.ensures.within c.as_slice-place-items.ensures.value c.loop-place-test.true in
-    let now = none-here c.as_slice-members.result.now c.as_slice-place-items.result.now (plain_path c.args.above.now) c.loop-place.place-index
-    c.index-members-place.result at c.index-members-place.is (λ low. not_so c.if-branch.false c.in_ok-is_path_below.ensures.1 low) in
-    none-more c.as_slice-members.result.now c.as_slice-place-items.result.now (plain_path c.args.above.now) c.loop-place.place-index c.loop-place.invariant now
+    none-more c.as_slice-members.result.now c.args.places.now (plain_path c.args.above.now) c.loop-place.place-index c.loop-place.invariant
+    (λ x few is low. elim c.else-place-members.branch [
+      | is_found_below-else-place-members-via-then-place-members+in_ok-is_path_below+else-branch w ↦
+          none-here c.as_slice-members.result.now c.args.places.now (plain_path c.args.above.now) c.loop-place.place-index
+          w.index-members-place.result w.if-place-members.true w.index-members-place.is (λ h. not_so w.if-branch.false w.in_ok-is_path_below.ensures.1 h) x is low
+      | is_found_below-else-place-members-via-else-place-members w ↦ absurd (omega (arith, few, w.if-place-members.false))
+    ])
 
 pub is_found_below-returns : goal.is_found_below-returns
 is_found_below-returns t c =
-    let have = c.in_ok-places.ensures.have (all_tagged 0 (plain_paths c.args.paths.now)) c.requires in
-    let none = none-below c.as_slice-members.result.now (plain_path c.args.above.now) c.as_slice-place-items.result.now 0
-    (rw (sym c.as_slice-place-items.ensures.value, c.as_slice-members.ensures.reading) at have)
-    (λ j x within is low. c.loop-place.invariant j x (omega (arith, c.loop-place-test.false)) is low) in
+    let none = none-below c.as_slice-members.result.now (plain_path c.args.above.now) c.args.places.now 0
+    (rw c.as_slice-members.ensures.reading at c.requires)
+    (λ j x within few is low. c.loop-place.invariant j x (omega (arith, c.loop-place-test.false)) few is low) in
     (λ r. cc, λ some. absurd (none (rw c.as_slice-members.ensures.reading at some)))
-
-pub is_one_below-returns-then-levels-eq0 : goal.is_one_below-returns-then-levels-eq0
-is_one_below-returns-then-levels-eq0 t c =
-    let enough = some-by_index c.args.groups.now (plain_paths c.args.a.now) (paths_in c.args.a.now) c.key_of.result c.candidates-list.result.now
-    (plain_path c.args.above.now) c.requires.groups c.key_of.ensures c.candidates-list.ensures (plain_paths-at c.args.a.now) in
-    IfOk-weaker c.is_some_below.result _ _ (λ r both. (λ s. enough.0 (both.0 s), λ some. both.1 (enough.1 some))) c.is_some_below.ensures

@@ -1,4 +1,4 @@
-use Rattle.std.proofs.Common.{ℕ, ◌<◌, ◌≡◌, ◌↔◌, ◌+◌, ◌*◌, drop, map, get_or}
+use Rattle.std.proofs.Common.{ℕ, ◌<◌, ◌≡◌, ◌↔◌, ◌+◌, ◌*◌, drop, map, get_or, length}
 use Rattle.fy_types.specs.declared.paths.PathElem.{size-PathElem}
 use Rattle.fy_types.specs.declared.paths.Path.{Path, size-Path}
 use Rattle.fy_types.specs.declared.paths.Paths.{size-Paths}
@@ -12,6 +12,11 @@ use Rattle.fy_order.proofs.keyed.+keyed.Given as goal
 abbrev pub invariant-are_keyed_below-loop-path : goal.invariant-are_keyed_below-loop-path
 invariant-are_keyed_below-loop-path l =
     ArePathsBelow (plain_paths l.a) (paths_from (map plain_path (drop l.path-index l.path-items)))
+    ↔ ArePathsBelow (plain_paths l.a) (plain_paths l.b)
+
+abbrev pub invariant-are_found_below-loop-place : goal.invariant-are_found_below-loop-place
+invariant-are_found_below-loop-place l =
+    ArePathsBelow (plain_paths l.a) (paths_from (map plain_path (drop l.place l.path-items)))
     ↔ ArePathsBelow (plain_paths l.a) (plain_paths l.b)
 
 abbrev pub invariant-are_few_below-loop-path : goal.invariant-are_few_below-loop-path
@@ -35,7 +40,13 @@ invariant-is_path_below-loop-i l =
 
 -- the depths that are left, four times, so that a function can stand above another at equal depths
 abbrev pub decreases-are_paths_below : goal.decreases-are_paths_below
-decreases-are_paths_below l = 4 * (size-Paths l.a.now + size-Paths l.b.now) + 1
+decreases-are_paths_below l = 4 * (size-Paths l.a.now + size-Paths l.b.now) + 2
+
+abbrev pub decreases-are_indexed_below : goal.decreases-are_indexed_below
+decreases-are_indexed_below l = 4 * (size-Paths l.a.now + size-Paths l.b.now) + 1
+
+abbrev pub decreases-are_found_below : goal.decreases-are_found_below
+decreases-are_found_below l = 4 * (size-Paths l.a.now + size-Paths l.b.now)
 
 abbrev pub decreases-are_keyed_below : goal.decreases-are_keyed_below
 decreases-are_keyed_below l = 4 * (size-Paths l.a.now + size-Paths l.b.now)
@@ -58,10 +69,10 @@ decreases-is_elem_below l = 4 * (size-PathElem l.x.now + size-PathElem l.y.now)
 abbrev pub decreases-is_found_below : goal.decreases-is_found_below
 decreases-is_found_below l = 4 * (size-Paths l.paths.now + size-Path l.above.now) + 1
 
-abbrev pub decreases-is_one_below : goal.decreases-is_one_below
-decreases-is_one_below l = 4 * (size-Paths l.a.now + size-Path l.above.now) + 2
+abbrev pub decreases-is_at_below : goal.decreases-is_at_below
+decreases-is_at_below l = 4 * (size-Paths l.paths.now + size-Path l.above.now) + 1
 
 -- none of the paths so far is below
 abbrev pub invariant-is_found_below-loop-place : goal.invariant-is_found_below-loop-place
 invariant-is_found_below-loop-place l =
-    (j : ℕ) (x : Path) → j < l.place-index → x ≡ get_or l.members (get_or l.place-items j 0) x → IsPathBelow (plain_path x) (plain_path l.above) → ⊥
+    (j : ℕ) (x : Path) → j < l.place-index → get_or l.places j 0 < length l.members → x ≡ get_or l.members (get_or l.places j 0) x → IsPathBelow (plain_path x) (plain_path l.above) → ⊥
