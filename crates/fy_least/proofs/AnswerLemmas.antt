@@ -1,15 +1,12 @@
 -- Answers about equal paths, places and numbers; and refusals that are handed on.
-use Rattle.std.proofs.Common.{ℕ, ◌≡◌, [], map, refl, sym, ap, ◌∙◌, subst}
+use Rattle.std.proofs.Common.{ℕ, ◌≡◌, refl, sym, ap, ◌∙◌, subst}
 use Rattle.std.specs.Prelude.{IfOk, IsErrOf, Result, Ok, Err}
 use Rattle.fy_base.specs.declared.data.Place.{Place}
 use Rattle.fy_forms.specs.declared.error.TypeError.{TypeError}
 use Rattle.fy_forms.specs.declared.error.TypeError.TheVariants as types
-use Rattle.fy_types.specs.declared.paths.Paths.{Paths}
 use Rattle.fy_types.specs.Types.{PlainType, arrow}
-use Rattle.fy_types.specs.Paths.{PlainPaths, no_paths, paths, picked}
+use Rattle.fy_types.specs.Paths.{PlainPaths, paths, picked}
 use Rattle.fy_types.specs.Nested.{IsTypeOf}
-use Rattle.fy_types.specs.Reading.{paths_in, paths_from, plain_path, plain_paths}
-use Rattle.fy_types.proofs.ReadLemmas.{plain_paths-at}
 use Rattle.fy_derive.specs.Derivations.{PlainDerivation, sub}
 use Rattle.fy_derive.specs.Reading.{plain_derivation}
 use Rattle.fy_least.specs.declared.error.LeastError.{LeastError}
@@ -53,6 +50,3 @@ field-paths i T R (A, q, t) = ap paths t ∙ ap (picked i) q.0
 
 pub definition-made : (P : PlainPaths) (d e x made : PlainDerivation) → IsSubsumed P d x → made ≡ rule_of_both x e → IsDefinition P d e made
 definition-made P d e x made (A, q, t) m = (A, q, m ∙ ap (λ y. rule_of_both y e) t)
-
-pub empty-paths : (l : Paths) → paths_in l ≡ [] → plain_paths l ≡ no_paths
-empty-paths l e = plain_paths-at l ∙ ap (λ xs. paths_from (map plain_path xs)) e

@@ -1,12 +1,11 @@
 -- What finding answers of a phrase, said of the form of the phrase.
-use Rattle.std.proofs.Common.{ℕ, ◌≡◌, List, ◌∷◌, map, reverse, Bor, refl, sym, ap, ◌∙◌, subst}
+use Rattle.std.proofs.Common.{ℕ, ◌≡◌, List, ◌∷◌, Bor, refl, sym, ap, ◌∙◌, subst}
 use Rattle.std.specs.Prelude.{IfOk, IsErrOf, Result, Ok, Err}
 use Rattle.fy_base.specs.declared.data.Place.{Place}
 use Rattle.fy_forms.specs.declared.error.TypeError.{TypeError}
 use Rattle.fy_forms.specs.declared.error.TypeError.TheVariants as types
-use Rattle.fy_types.specs.declared.types.Ty.{Ty}
 use Rattle.fy_types.specs.Paths.{PlainPaths}
-use Rattle.fy_types.specs.Reading.{plain_paths, plain_type}
+use Rattle.fy_types.specs.Reading.{plain_paths}
 use Rattle.fy_phrase.specs.declared.phrase.MarkKind.{MarkKind}
 use Rattle.fy_base.specs.declared.data.Datum.{Datum}
 use Rattle.fy_phrase.specs.declared.phrase.Phrase as form
@@ -15,7 +14,8 @@ use Rattle.fy_phrase.specs.declared.phrase.Phrase.TheOpen.{Phrase-F}
 use Rattle.fy_phrase.specs.declared.phrase.Phrase.TheVariants.{rolls-Lit, rolls-Skip, rolls-Mark}
 use Rattle.fy_phrase.specs.Tree.{Tree, Trees, lit, skip, mark}
 use Rattle.fy_phrase.specs.Reads.{reads, reads_form, reads_list}
-use Rattle.fy_derive.specs.Least.{forms_of, visits}
+use Rattle.fy_derive.specs.Least.{visits}
+use Rattle.fy_written.specs.declared.table.Table.{Table}
 use Rattle.fy_least.specs.declared.bound.Bound.{Bound}
 use Rattle.fy_least.specs.declared.error.LeastError.{LeastError}
 use Rattle.fy_least.specs.declared.error.LeastError.TheVariants.{TypeTooLarge}
@@ -24,7 +24,8 @@ use Rattle.fy_least.specs.declared.scope.Scope as scope_form
 use Rattle.fy_least.specs.declared.scope.Scope.{Scope}
 use Rattle.fy_least.specs.Counts.{PassLimits}
 use Rattle.fy_least.specs.Refused.{of_type}
-use Rattle.fy_least.specs.Scopes.{scope_forms}
+use Rattle.fy_least.specs.declared.context.Context.{Context}
+use Rattle.fy_least.specs.Scopes.{context_forms, scope_forms}
 use Rattle.fy_least.specs.Visited.{IsFound}
 use Rattle.fy_least.proofs.ScopeLemmas.{forms-around, forms-under}
 
@@ -60,8 +61,8 @@ too-large types.TypeTooLarge e = refl
 too-large types.OutOfMemory e = absurd (cc)
 
 -- the path forms of a scope, by its form
-pub scope-under : (P : Bor Bound) (o : Bor Scope) → scope_forms (scope_form.Under P o) ≡ plain_paths P.now.paths ∷ scope_forms o.now
+pub scope-under : (P : Bor Bound) (o : Bor Scope) → scope_forms (scope_form.Under P o) ≡ plain_paths P.now.paths.now ∷ scope_forms o.now
 scope-under P o = forms-under (scope_form.Under P o) P o refl
 
-pub scope-around : (ts : Bor (List Ty)) → scope_forms (scope_form.Around ts) ≡ forms_of (reverse (map plain_type ts.now))
-scope-around ts = forms-around _ ts refl
+pub scope-around : (x : Bor Context) (table : Bor Table) → scope_forms (scope_form.Around x table) ≡ context_forms x.now
+scope-around x table = forms-around _ x table refl

@@ -10,7 +10,7 @@ use Rattle.fy_types.specs.Limits.{nodes, all_nodes}
 use Rattle.fy_types.proofs.OnceLemmas.{is_same-sound, is_same-refl}
 use Rattle.fy_phrase.specs.Tree.{Tree, Trees, no_trees, and_tree, var, lit, unary, binary, cond as conditional, case, lam, app, field, sel, merge, let_in, rec, skip, seq, assign, while_do, forever, new, escape, accept, put, read, mark}
 use Rattle.fy_derive.specs.Atoms.{data_atom, acceptor_atom, cell_type, datum_atom, operand_atom, unary_atom, binary_atom, put_atom}
-use Rattle.fy_derive.specs.Kinds.{Kind, kind_of}
+use Rattle.fy_derive.specs.Kinds.{Kind, begins, kind_of}
 use Rattle.fy_derive.specs.Subsumption.{paths_below}
 use Rattle.fy_derive.specs.Least.{paths_at, if_passed, has, some_data, has_operands, has_assignment, command_of, one_end, alternatives_of, rests_of_call, rests_of_field, others, merge_of, least_type, join_of_all, join_behind}
 
@@ -204,6 +204,28 @@ distinct-field i (and_other {p = pick j p} {P = P} e h) = cases (eqb i j) refl (
     cases : (b : Bool) → eqb i j ≡ b → IsDistinct (rests_of_field i P) → IsDistinct (append (if_passed b (and_path p no_paths)) (rests_of_field i P))
     cases true f g = and_other (rests-out i p P (subst (λ k. contains P (pick k p) ≡ false) (sym (eqb-true i j f)) e)) g
     cases false f g = g
+
+still-other : (k : Kind) (p : PlainPath) (P : PlainPaths) → contains P p ≡ false → contains (others k P) p ≡ false
+still-other k p no_paths e = refl
+still-other k p (and_path q P) e = cases (begins k q) (is_same q p) refl (λ f. still-other k p P f)
+  where
+    right-false : (a b : Bool) → a || b ≡ false → b ≡ false
+    right-false true b x = absurd (cc)
+    right-false false b x = x
+
+    cases : (b c : Bool) → is_same q p ≡ c → (contains P p ≡ false → contains (others k P) p ≡ false) →
+        contains (if b then others k P else and_path q (others k P)) p ≡ false
+    cases true c g h = h (right-false (is_same q p) (contains P p) e)
+    cases false true g h = let clash = sym (ap (λ b. b || contains P p) g) ∙ e in absurd (cc)
+    cases false false g h = ap (λ b. b || contains (others k P) p) g ∙ h (right-false (is_same q p) (contains P p) e)
+
+pub distinct-others : (k : Kind) {P : PlainPaths} → IsDistinct P → IsDistinct (others k P)
+distinct-others k none_there = none_there
+distinct-others k (and_other {p = p} {P = P} e h) = cases (begins k p) (distinct-others k h)
+  where
+    cases : (b : Bool) → IsDistinct (others k P) → IsDistinct (if b then others k P else and_path p (others k P))
+    cases true g = g
+    cases false g = and_other (still-other k p P e) g
 
 distinct-merge : (o : Option Kind) (P Q : PlainPaths) → IsDistinct (merge_of o P Q)
 distinct-merge None P Q = none_there

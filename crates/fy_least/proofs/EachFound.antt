@@ -1,5 +1,5 @@
 -- What is found of the first of several phrases, or under the first of several alternatives, and of one more.
-use Rattle.std.proofs.Common.{ℕ, zero, suc, ◌+◌, ◌<◌, ◌≤◌, ◌≡◌, List, [], ◌∷◌, ◌++◌, length, map, take, get_or, sym, ap, ◌∙◌, subst, arith}
+use Rattle.std.proofs.Common.{ℕ, zero, suc, ◌+◌, ◌<◌, ◌≤◌, ◌≡◌, List, [], ◌∷◌, ◌++◌, ◌⊎◌, inl, inr, length, map, take, get_or, sym, ap, ◌∙◌, subst, arith}
 use Rattle.std.proofs.lemmas.List.{map-append, take_more, take_all}
 use Rattle.fy_types.specs.declared.types.Ty.{Ty}
 use Rattle.fy_types.specs.Paths.{PlainPaths, paths}
@@ -61,7 +61,7 @@ pub alternatives-all : (G : List PlainPaths) (b : Tree) (xs : List Ty) (i : ℕ)
     AreFoundUnder G b (types_from (map plain_type (take i xs))) fs → AreFoundUnder G b (types_from (map plain_type xs)) fs
 alternatives-all G b xs i fs past hs = subst (λ ys. AreFoundUnder G b (types_from (map plain_type ys)) fs) (take_all i xs past) hs
 
-pub alternative-large : (xs : List Ty) (i : ℕ) (x : Ty) → i < length xs → x ≡ get_or xs i x → IsTooLarge (paths (plain_type x)) →
+alternative-large : (xs : List Ty) (i : ℕ) (x : Ty) → i < length xs → x ≡ get_or xs i x → IsTooLarge (paths (plain_type x)) →
     SomeTooLarge (forms (types_from (map plain_type xs)))
 alternative-large [] i x within is h = absurd (omega arith)
 alternative-large (y ∷ ys) zero x within is h = this_form (subst (λ z. IsTooLarge (paths (plain_type z))) is h)
@@ -69,7 +69,7 @@ alternative-large (y ∷ ys) (suc i) x within is h =
     let earlier : i < length ys = omega arith in
     later_form (alternative-large ys i x earlier is h)
 
-pub alternative-refused : (G : List PlainPaths) (b : Tree) (xs : List Ty) (i : ℕ) (x : Ty) → i < length xs → x ≡ get_or xs i x →
+alternative-refused : (G : List PlainPaths) (b : Tree) (xs : List Ty) (i : ℕ) (x : Ty) → i < length xs → x ≡ get_or xs i x →
     ((m : ℕ) → PassLimits (visits m (paths (plain_type x) ∷ G) b)) → (m : ℕ) →
     PassLimits (visits_under (types_from (map plain_type xs)) (λ D. visits m (D ∷ G) b))
 alternative-refused G b [] i x within is h m = absurd (omega arith)
@@ -80,3 +80,11 @@ alternative-refused G b (y ∷ ys) (suc i) x within is h m =
     let earlier : i < length ys = omega arith in
     pass-right (visits m (paths (plain_type y) ∷ G) b) (visits_under (types_from (map plain_type ys)) (λ D. visits m (D ∷ G) b))
     (alternative-refused G b ys i x earlier is h m)
+
+-- an alternative that is refused, or under which the body is
+pub alternative-passes : (G : List PlainPaths) (b : Tree) (xs : List Ty) (i : ℕ) (x : Ty) → i < length xs → x ≡ get_or xs i x →
+    IsTooLarge (paths (plain_type x)) ⊎ ((m : ℕ) → PassLimits (visits m (paths (plain_type x) ∷ G) b)) →
+    SomeTooLarge (forms (types_from (map plain_type xs)))
+    ⊎ ((m : ℕ) → PassLimits (visits_under (types_from (map plain_type xs)) (λ D. visits m (D ∷ G) b)))
+alternative-passes G b xs i x within is (inl large) = inl (alternative-large xs i x within is large)
+alternative-passes G b xs i x within is (inr passes) = inr (alternative-refused G b xs i x within is passes)

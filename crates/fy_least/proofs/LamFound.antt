@@ -131,11 +131,14 @@ meet-shallow no_derivations = omega arith
 meet-shallow (and_derivation d no_derivations) = omega arith
 meet-shallow (and_derivation d (and_derivation e ds)) = omega arith
 
+-- each path of what is found stands once
+pub found-once : (G : List PlainPaths) (p : Tree) (f : Found) → IsFound G p f → once (plain_paths f.paths) ≡ plain_paths f.paths
+found-once G p f h = subst (λ P. once P ≡ P) (sym h.paths) (once-distinct (distinct-least p G))
+
 -- what is asked of the bodies before their paths are put together
 pub bodies-once : {G : List PlainPaths} {b : Tree} {As : PlainTypes} {fs : List Found} → AreFoundUnder G b As fs → AreOnce fs
 bodies-once no_alternatives = tt
-bodies-once {G = G} {b = b} (and_alternative {A = A} w h r) =
-    (subst (λ P. once P ≡ P) (sym h.paths) (once-distinct (distinct-least b (paths A ∷ G))), bodies-once r)
+bodies-once {G = G} {b = b} (and_alternative {A = A} {f = f} w h r) = (found-once (paths A ∷ G) b f h, bodies-once r)
 
 pub bodies-length : {G : List PlainPaths} {b : Tree} (As : List PlainType) {fs : List Found} → AreFoundUnder G b (types_from As) fs →
     length As ≡ length fs

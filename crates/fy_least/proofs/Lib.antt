@@ -3,7 +3,6 @@ pub mod AnswerLemmas
 pub mod ArmLemmas
 pub mod BelowLemmas
 pub mod BlameLemmas
-pub mod BoundLemmas
 pub mod CallLemmas
 pub mod CountLemmas
 pub mod DistinctLemmas

@@ -5,24 +5,20 @@ use Rattle.fy_types.specs.declared.types.Ty as tree
 use Rattle.fy_types.specs.declared.types.Ty.{Ty}
 use Rattle.fy_types.specs.Paths.{PlainPath, PlainPaths, call, pick, no_paths, and_path, append, called, picked, paths, all_paths}
 use Rattle.fy_types.specs.Reading.{plain_type, types_from}
-use Rattle.fy_types.specs.Once.{is_same, are_same, without, once}
+use Rattle.fy_types.specs.Once.{is_same, without, once}
 use Rattle.fy_types.specs.Bounds.{meet_of}
 use Rattle.fy_types.specs.Limits.{all_nodes, all_nesting, IsTooLarge}
 use Rattle.fy_types.proofs.Making.{all_paths-append, first_paths, first_paths-more}
-use Rattle.fy_types.proofs.OnceLemmas.{is_same-refl}
 use Rattle.fy_types.proofs.TypeForms.{reads_arrow, reads_field}
+use Rattle.fy_written.proofs.EachLemmas.{same-itself}
 use Rattle.fy_least.proofs.DistinctLemmas.{distinct-once, once-distinct}
 use Rattle.fy_least.proofs.CallLemmas.{meet-once, large-part, large-front}
 
 -- a call or a field in front of each path
-are_same-refl : (D : PlainPaths) → are_same D D ≡ true
-are_same-refl no_paths = refl
-are_same-refl (and_path p P) = rw (is_same-refl p, are_same-refl P) refl
-
 without-called : (D : PlainPaths) (p : PlainPath) (Q : PlainPaths) → without (call D p) (called D Q) ≡ called D (without p Q)
 without-called D p no_paths = refl
 without-called D p (and_path q Q) =
-    ap (λ b. if b && is_same q p then without (call D p) (called D Q) else and_path (call D q) (without (call D p) (called D Q))) (are_same-refl D)
+    ap (λ b. if b && is_same q p then without (call D p) (called D Q) else and_path (call D q) (without (call D p) (called D Q))) (same-itself D)
     ∙ (ap (λ X. if is_same q p then X else and_path (call D q) X) (without-called D p Q) ∙ cases (is_same q p))
   where
     cases : (b : Bool) → (if b then called D (without p Q) else and_path (call D q) (called D (without p Q)))

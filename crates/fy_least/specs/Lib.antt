@@ -13,3 +13,4 @@ pub mod Rules
 pub mod Scopes
 pub mod Visited
 pub mod Writable
+pub mod Outers

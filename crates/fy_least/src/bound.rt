@@ -1,54 +1,45 @@
 //! The path forms of the types of variables that are bound in a phrase.
 
-ghost use Rattle.std.specs.Prelude.{◌≡◌, true, IfOk, IsErrOf};
-ghost use Rattle.fy_types.specs.Limits.{IsTooLarge};
+ghost use Rattle.std.specs.Prelude.{◌≡◌, true, IfOk};
 ghost use Rattle.fy_types.specs.Once.{are_same, once as once_of};
 ghost use Rattle.fy_types.specs.Reading.{plain_paths};
 
-use crate::error::LeastError;
-use crate::forms::once;
 use fy_base::OutOfMemory;
 use fy_types::{Paths, copy_paths};
+use fy_written::Form;
 use std::alloc::Global;
 
-/// A path form, and whether each path is known to stand in it once. It is looked at where the variable
-/// is bound, so that at each use of the variable the form is copied, with no search for repeats.
+/// A path form, and each of its paths once, as each use of the variable has them.
 #[derive(Drop)]
-pub(crate) struct Bound {
-    pub paths: Paths,
-    distinct: bool,
-    ghost stand_once: { distinct ≡ true → are_same (once_of (plain_paths paths)) (plain_paths paths) ≡ true },
+pub(crate) struct Bound<'a> {
+    pub paths: &'a Paths,
+    each: &'a Paths,
+    ghost each_once: { are_same (once_of (plain_paths paths.now)) (plain_paths each.now) ≡ true },
 }
 
-impl Bound {
-    /// The paths. A form in which repeats can't be looked for within the limits counts as one with
-    /// repeats.
-    pub(crate) fn new(alloc: Global, paths: Paths) -> Result<Bound, OutOfMemory>
-        ensures { IfOk result (λ b. plain_paths b.paths ≡ plain_paths paths) }
+impl<'a> Bound<'a> {
+    /// The form of a type.
+    pub(crate) fn of_form(form: &'a Form) -> Bound<'a>
+        ensures { plain_paths result.paths.now ≡ plain_paths form.now.paths }
     {
-        match once(alloc, &paths) {
-            Ok(each) => {
-                let distinct = each.len() == paths.len();
-                Ok(Bound { paths, distinct })
-            }
-            Err(LeastError::TypeTooLarge) => Ok(Bound {
-                paths,
-                distinct: false,
-            }),
-            Err(LeastError::OutOfMemory) => Err(OutOfMemory),
+        Bound {
+            paths: &form.paths,
+            each: form.each(),
         }
     }
 
-    /// The paths, each once.
-    pub(crate) fn each(&self, alloc: Global) -> Result<Paths, LeastError>
-        ensures ok { IfOk result (λ made. plain_paths made ≡ once_of (plain_paths self.now.paths)) }
-        ensures large { IsErrOf result LeastError.TypeTooLarge → IsTooLarge (once_of (plain_paths self.now.paths)) }
+    /// Paths of which each stands once.
+    pub(crate) fn of_distinct(paths: &'a Paths) -> Bound<'a>
+        requires { once_of (plain_paths paths.now) ≡ plain_paths paths.now }
+        ensures { plain_paths result.paths.now ≡ plain_paths paths.now }
     {
-        if self.distinct {
-            let copied = copy_paths(alloc, &self.paths)?;
-            Ok(copied)
-        } else {
-            once(alloc, &self.paths)
-        }
+        Bound { paths, each: paths }
+    }
+
+    /// The paths, each once.
+    pub(crate) fn each(&self, alloc: Global) -> Result<Paths, OutOfMemory>
+        ensures { IfOk result (λ made. plain_paths made ≡ once_of (plain_paths self.now.paths.now)) }
+    {
+        copy_paths(alloc, self.each)
     }
 }

@@ -1,6 +1,6 @@
 //! Derivations of programs.
 
-ghost use Rattle.std.specs.Prelude.{◌≤◌, List, All, IfOk};
+ghost use Rattle.std.specs.Prelude.{◌≤◌, ℕ, List, All, IfOk, IsErrOf, map, reverse};
 ghost use Rattle.fy_base.specs.Outside.{Bytes};
 ghost use Rattle.fy_types.specs.Fields.{AllFields, HasFullMeets, IsNamed};
 ghost use Rattle.fy_types.specs.Nested.{type_nesting};
@@ -9,19 +9,25 @@ ghost use Rattle.fy_phrase.specs.CoreLimits.{KeepsCoreLimits};
 ghost use Rattle.fy_phrase.specs.PhraseNames.{AllNames, HasFullTypes};
 ghost use Rattle.fy_phrase.specs.Reads.{reads};
 ghost use Rattle.fy_derive.specs.Judging.{in_scope};
+ghost use Rattle.fy_derive.specs.Least.{forms_of, visits};
 ghost use Rattle.fy_derive.specs.Limits.{KeepsLimits, most_type_nesting};
 ghost use Rattle.fy_derive.specs.Printable.{IsPrintable};
 ghost use Rattle.fy_derive.specs.Reading.{plain_derivation};
+ghost use Rattle.fy_least.specs.Counts.{PassLimits};
 ghost use Rattle.fy_least.specs.Finding.{IsFinding, IsFindingOf};
 ghost use Rattle.fy_least.specs.Layers.{subsumed, IsLayered};
+ghost use Rattle.fy_least.specs.Visited.{IsFound};
 
-use crate::error::FindError;
-use crate::found::to_type;
+use crate::context::Context;
+use crate::error::{FindError, LeastError};
+use crate::found::{Found, to_type};
 use crate::least::found_in;
 use crate::scope::Scope;
 use fy_derive::Derivation;
+use fy_memo::Memo;
 use fy_phrase::Phrase;
 use fy_types::{Atom, Ty, TyList, copy_ty, is_below, ty_of};
+use fy_written::Table;
 use std::alloc::Global;
 
 /// A derivation that the phrase is a command, with no variable in scope.
@@ -84,7 +90,7 @@ pub fn find_as(
         AllFields (IsNamed names) (plain_type ty.now) → IsPrintable names (plain_derivation d)) }
     ensures layered { IfOk result (λ d. IsLayered subsumed (plain_derivation d)) }
 {
-    let found = found_in(alloc, p, &Scope::Around(context.as_slice()))?;
+    let found = found_around(alloc, context.as_slice(), p)?;
     let least = ty_of(alloc, &found.paths)?;
     let fits = is_below(alloc, &least, ty)?;
     if fits {
@@ -94,4 +100,16 @@ pub fn find_as(
     } else {
         Err(FindError::NoType(found.blame))
     }
+}
+
+// What is found of the phrase, where the variables around it have the types, the outermost first.
+fn found_around<'a>(alloc: Global, types: &'a [Ty], p: &'a Phrase) -> Result<Found, LeastError>
+    ensures ok { IfOk result (IsFound (forms_of (reverse (map plain_type types.now))) (reads p.now)) }
+    ensures large { IsErrOf result LeastError.TypeTooLarge →
+        (m : ℕ) → PassLimits (visits m (forms_of (reverse (map plain_type types.now))) (reads p.now)) }
+{
+    let table = Table::of(alloc, p)?;
+    let mut memo = Memo::new(alloc);
+    let context = Context::of(alloc, types)?;
+    found_in(alloc, p, &Scope::Around(&context, &table), &mut memo)
 }

@@ -28,15 +28,17 @@ use crate::rules::{rule_of_one, rule_of_two};
 use crate::scope::{Scope, form_at};
 use fy_base::{OutOfMemory, Place};
 use fy_derive::{Demand, Derivation, DerivationList};
-use fy_forms::{join, meet, paths_of};
-use fy_order::{are_paths_below, has, others, rests_of_call, rests_of_field};
-use fy_types::{Atom, Name, Paths, Ty, copy_ty, ty_of};
+use fy_forms::{meet_with, paths_of};
+use fy_memo::Memo;
+use fy_order::{are_paths_below, has, others, rests_of_field};
+use fy_types::{Atom, Name, Paths, Ty, copy_paths, copy_ty, ty_of};
+use fy_written::Form;
 use std::alloc::Global;
 
 /// A variable.
 pub(crate) fn variable(
     alloc: Global,
-    scope: &Scope<'_>,
+    scope: &Scope<'_, '_>,
     number: u32,
     at: Place,
 ) -> Result<Found, LeastError>
@@ -54,20 +56,13 @@ pub(crate) fn variable(
     Found::new(paths, derivation, at, 0)
 }
 
-/// Each path of the form once.
-pub(crate) fn once(alloc: Global, paths: &Paths) -> Result<Paths, LeastError>
-    ensures ok { IfOk result (λ made. plain_paths made ≡ once_of (plain_paths paths.now)) }
-    ensures large { IsErrOf result LeastError.TypeTooLarge → IsTooLarge (once_of (plain_paths paths.now)) }
-{
-    Ok(meet(alloc, &Paths::new(alloc), paths)?)
-}
-
 /// A procedure called with an argument.
 pub(crate) fn application(
     alloc: Global,
     procedure: Found,
     argument: Found,
     at: Place,
+    memo: &mut Memo,
 ) -> Result<Found, LeastError>
     ensures made { IfOk result
         (λ f. IsMade (once_of (rests_of_call_of (plain_paths argument.paths) (plain_paths procedure.paths)))
@@ -80,8 +75,7 @@ pub(crate) fn application(
 {
     let blame = procedure.blame_or(argument.blame_or(at));
     let total = both(procedure.total, argument.total)?;
-    let rests = rests_of_call(alloc, &argument.paths, &procedure.paths)?;
-    let paths = once(alloc, &rests)?;
+    let paths = memo.rests_of_call(alloc, &argument.paths, &procedure.paths)?;
     let Found {
         paths: domain,
         derivation: second,
@@ -170,6 +164,7 @@ pub(crate) fn merge(
     demand: Option<Demand>,
     at: Place,
 ) -> Result<Found, LeastError>
+    requires { once_of (plain_paths left.paths) ≡ plain_paths left.paths }
     ensures made { IfOk result
         (λ f. IsMade (merge_of (option_map plain_kind demand) (plain_paths left.paths) (plain_paths right.paths))
         (blame_at left (blame_at right at)) (left.total + right.total) f) }
@@ -185,8 +180,8 @@ pub(crate) fn merge(
         return Ok(Found::none(alloc, blame, total));
     };
     let kept = others(alloc, demand, &left.paths)?;
-    let paths = meet(alloc, &kept, &right.paths)?;
     let derivation = both_operands(alloc, &kept, left.derivation, right.derivation)?;
+    let paths = meet_with(alloc, kept, &right.paths)?;
     Found::new(paths, derivation, blame, total)
 }
 
@@ -233,31 +228,32 @@ pub(crate) fn definition(
     Found::new(body.paths, derivation, blame, total)
 }
 
-/// A phrase of the type that is defined by itself, whose paths are given too.
+/// A phrase of the type that is defined by itself, whose form is given too.
 pub(crate) fn recursion(
     alloc: Global,
     ty: &Ty,
-    form: &Paths,
+    form: &Form,
     body: Found,
     at: Place,
 ) -> Result<Found, LeastError>
     requires { body.total ≤ most_together }
     ensures made { IfOk result
-        (λ f. IsMade (if_passed (is_recursive body (plain_paths form.now)) (once_of (plain_paths form.now)))
+        (λ f. IsMade (if_passed (is_recursive body (plain_paths form.now.paths)) (once_of (plain_paths form.now.paths)))
         (blame_at body at) (body.total) f) }
     ensures derived { IfOk result
         (λ f. plain_derivation f.derivation
-        ≡ derived_if (is_recursive body (plain_paths form.now)) (rule_of (sub (plain_type ty.now) (derivation_of body)))) }
+        ≡ derived_if (is_recursive body (plain_paths form.now.paths)) (rule_of (sub (plain_type ty.now) (derivation_of body)))) }
     ensures large { IsErrOf result LeastError.TypeTooLarge →
-        IsRefused (if_passed (is_recursive body (plain_paths form.now)) (once_of (plain_paths form.now))) (body.total) }
+        IsRefused (if_passed (is_recursive body (plain_paths form.now.paths)) (once_of (plain_paths form.now.paths))) (body.total) }
 {
     let blame = body.blame_or(at);
-    if !are_paths_below(alloc, &body.paths, form)? {
+    if !are_paths_below(alloc, &body.paths, &form.paths)? {
         return Ok(Found::none(alloc, blame, body.total));
     }
     let premise = to_type(alloc, copy_ty(alloc, ty)?, body.derivation)?;
     let derivation = rule_of_one(alloc, premise)?;
-    Found::new(once(alloc, form)?, derivation, blame, body.total)
+    let paths = copy_paths(alloc, form.each())?;
+    Found::new(paths, derivation, blame, body.total)
 }
 
 /// A conditional, from its condition and its branches.
@@ -267,6 +263,7 @@ pub(crate) fn conditional(
     first: Found,
     second: Found,
     at: Place,
+    memo: &mut Memo,
 ) -> Result<Found, LeastError>
     ensures made { IfOk result
         (λ f. IsMade (if_passed (has_atom test Atom.Bool) (join_of (plain_paths first.paths) (plain_paths second.paths)))
@@ -282,7 +279,7 @@ pub(crate) fn conditional(
     if !has(&test.paths, Atom::Bool) {
         return Ok(Found::none(alloc, blame, total));
     }
-    let paths = join(alloc, &first.paths, &second.paths)?;
+    let paths = memo.join(alloc, &first.paths, &second.paths)?;
     let parts = (test.derivation, first.derivation, second.derivation);
     let derivation = choice(alloc, &paths, parts)?;
     Found::new(paths, derivation, blame, total)

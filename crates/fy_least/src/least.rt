@@ -1,6 +1,7 @@
 //! Least types of phrases, with derivations.
 
-ghost use Rattle.std.specs.Prelude.{◌≡◌, ◌⊎◌, ℕ, ◌∷◌, IfOk, IsErrOf, map};
+ghost use Rattle.std.specs.Prelude.{◌≡◌, ◌⊎◌, ℕ, ◌∷◌, IfOk, IfSome, IsErrOf, OnOk, OnSome, map};
+ghost use Rattle.fy_types.specs.Limits.{IsTooLarge, IsWithinLimits};
 ghost use Rattle.fy_types.specs.Paths.{paths as paths_in_type};
 ghost use Rattle.fy_types.specs.Reading.{plain_paths, plain_type, plain_types, types_from};
 ghost use Rattle.fy_phrase.specs.Reads.{reads, reads_parts};
@@ -21,20 +22,26 @@ use crate::forms::{
 use crate::found::Found;
 use crate::many::{abstraction, case};
 use crate::rules::{assignment, axiom, binary, command, with_one, with_two};
-use crate::scope::Scope;
+use crate::scope::{Scope, written_at};
 use fy_base::{BinOp, OutOfMemory, Place, PutKind, UnOp};
 use fy_derive::{
     acceptor_atom, data_atom, datum_atom, demand_of, operand_atom, put_atom, unary_atom,
 };
-use fy_forms::paths_of;
+use fy_memo::Memo;
 use fy_order::one_end;
 use fy_phrase::{DataTy, Parts, Phrase};
-use fy_types::{Atom, ElemList, Name, Path, Paths, Ty, TyList, copy_paths};
+use fy_types::{Atom, ElemList, Name, Path, Paths, Ty, TyList};
+use fy_written::Form;
 use std::alloc::Global;
 
 /// What is found of a phrase, where the variables have the paths of the scope.
 #[cycle(least)]
-pub(crate) fn found_in(alloc: Global, p: &Phrase, scope: &Scope<'_>) -> Result<Found, LeastError>
+pub(crate) fn found_in(
+    alloc: Global,
+    p: &Phrase,
+    scope: &Scope<'_, '_>,
+    memo: &mut Memo,
+) -> Result<Found, LeastError>
     ensures ok { IfOk result (IsFound (scope_forms scope.now) (reads p.now)) }
     ensures large { IsErrOf result LeastError.TypeTooLarge →
         (m : ℕ) → PassLimits (visits m (scope_forms scope.now) (reads p.now)) }
@@ -42,39 +49,59 @@ pub(crate) fn found_in(alloc: Global, p: &Phrase, scope: &Scope<'_>) -> Result<F
     match p {
         Phrase::Var(number, at) => variable(alloc, &*scope, *number, *at),
         Phrase::Lit(datum, at) => axiom(alloc, datum_atom(*datum), *at),
-        Phrase::Unary(op, part, at) => found_in_unary(alloc, *op, part, *at, &*scope),
+        Phrase::Unary(op, part, at) => found_in_unary(alloc, *op, part, *at, &*scope, &mut *memo),
         Phrase::Binary(op, left, right, at) => {
-            found_in_binary(alloc, *op, left, right, *at, &*scope)
+            found_in_binary(alloc, *op, left, right, *at, &*scope, &mut *memo)
         }
         Phrase::Cond(test, first, second, at) => {
-            found_in_conditional(alloc, test, first, second, *at, &*scope)
+            found_in_conditional(alloc, test, first, second, *at, &*scope, &mut *memo)
         }
-        Phrase::Case(index, parts, at) => found_in_case(alloc, index, parts, *at, &*scope),
-        Phrase::Lam(_, types, body, at) => found_in_abstraction(alloc, types, body, *at, &*scope),
+        Phrase::Case(index, parts, at) => found_in_case(
+            alloc, index, parts, *at, &*scope, &mut *memo,
+        ),
+        Phrase::Lam(_, types, body, at) => found_in_abstraction(
+            alloc, types, body, *at, &*scope, &mut *memo,
+        ),
         Phrase::App(procedure, argument, at) => {
-            found_in_application(alloc, procedure, argument, *at, &*scope)
+            found_in_application(alloc, procedure, argument, *at, &*scope, &mut *memo)
         }
-        Phrase::Field(name, part, at) => found_in_field(alloc, *name, part, *at, &*scope),
-        Phrase::Sel(part, name, at) => found_in_selection(alloc, part, *name, *at, &*scope),
-        Phrase::Merge(left, right, at) => found_in_merge(alloc, left, right, *at, &*scope),
+        Phrase::Field(name, part, at) => found_in_field(
+            alloc, *name, part, *at, &*scope, &mut *memo,
+        ),
+        Phrase::Sel(part, name, at) => found_in_selection(
+            alloc, part, *name, *at, &*scope, &mut *memo,
+        ),
+        Phrase::Merge(left, right, at) => found_in_merge(
+            alloc, left, right, *at, &*scope, &mut *memo,
+        ),
         Phrase::LetIn(_, defined, body, at) => {
-            found_in_definition(alloc, defined, body, *at, &*scope)
+            found_in_definition(alloc, defined, body, *at, &*scope, &mut *memo)
         }
-        Phrase::Rec(_, ty, body, at) => found_in_recursion(alloc, ty, body, *at, &*scope),
+        Phrase::Rec(_, ty, body, at) => found_in_recursion(
+            alloc, ty, body, *at, &*scope, &mut *memo,
+        ),
         Phrase::Skip(at) => axiom(alloc, Atom::Comm, *at),
-        Phrase::Seq(first, second, at) => found_in_sequence(alloc, first, second, *at, &*scope),
+        Phrase::Seq(first, second, at) => found_in_sequence(
+            alloc, first, second, *at, &*scope, &mut *memo,
+        ),
         Phrase::Assign(acceptor, value, at) => {
-            found_in_assignment(alloc, acceptor, value, *at, &*scope)
+            found_in_assignment(alloc, acceptor, value, *at, &*scope, &mut *memo)
         }
-        Phrase::WhileDo(test, body, at) => found_in_loop(alloc, test, body, *at, &*scope),
-        Phrase::Forever(body, at) => found_in_endless_loop(alloc, body, *at, &*scope),
+        Phrase::WhileDo(test, body, at) => found_in_loop(
+            alloc, test, body, *at, &*scope, &mut *memo,
+        ),
+        Phrase::Forever(body, at) => found_in_endless_loop(alloc, body, *at, &*scope, &mut *memo),
         Phrase::New(_, ty, first, body, at) => {
-            found_in_cell(alloc, *ty, first, body, *at, &*scope)
+            found_in_cell(alloc, *ty, first, body, *at, &*scope, &mut *memo)
         }
-        Phrase::Escape(_, body, at) => found_in_escape(alloc, body, *at, &*scope),
-        Phrase::Accept(_, ty, body, at) => found_in_acceptor(alloc, *ty, body, *at, &*scope),
-        Phrase::Put(kind, part, at) => found_in_output(alloc, *kind, part, *at, &*scope),
-        Phrase::Read(part, at) => found_in_input(alloc, part, *at, &*scope),
+        Phrase::Escape(_, body, at) => found_in_escape(alloc, body, *at, &*scope, &mut *memo),
+        Phrase::Accept(_, ty, body, at) => found_in_acceptor(
+            alloc, *ty, body, *at, &*scope, &mut *memo,
+        ),
+        Phrase::Put(kind, part, at) => found_in_output(
+            alloc, *kind, part, *at, &*scope, &mut *memo,
+        ),
+        Phrase::Read(part, at) => found_in_input(alloc, part, *at, &*scope, &mut *memo),
         Phrase::Mark(_, at) => Ok(Found::none(alloc, *at, 0)),
     }
 }
@@ -85,13 +112,14 @@ fn found_in_unary(
     op: UnOp,
     part: &Phrase,
     at: Place,
-    scope: &Scope<'_>,
+    scope: &Scope<'_, '_>,
+    memo: &mut Memo,
 ) -> Result<Found, LeastError>
     ensures ok { IfOk result (IsFound (scope_forms scope.now) (tree.unary op (reads part.now) at)) }
     ensures large { IsErrOf result LeastError.TypeTooLarge →
         (m : ℕ) → PassLimits (visits m (scope_forms scope.now) (tree.unary op (reads part.now) at)) }
 {
-    let part = found_in(alloc, part, &*scope)?;
+    let part = found_in(alloc, part, &*scope, &mut *memo)?;
     with_one(alloc, part, operand_atom(op), unary_atom(op), at)
 }
 
@@ -102,14 +130,15 @@ fn found_in_binary(
     left: &Phrase,
     right: &Phrase,
     at: Place,
-    scope: &Scope<'_>,
+    scope: &Scope<'_, '_>,
+    memo: &mut Memo,
 ) -> Result<Found, LeastError>
     ensures ok { IfOk result (IsFound (scope_forms scope.now) (tree.binary op (reads left.now) (reads right.now) at)) }
     ensures large { IsErrOf result LeastError.TypeTooLarge →
         (m : ℕ) → PassLimits (visits m (scope_forms scope.now) (tree.binary op (reads left.now) (reads right.now) at)) }
 {
-    let left = found_in(alloc, left, &*scope)?;
-    let right = found_in(alloc, right, &*scope)?;
+    let left = found_in(alloc, left, &*scope, &mut *memo)?;
+    let right = found_in(alloc, right, &*scope, &mut *memo)?;
     binary(alloc, op, (left, right), at)
 }
 
@@ -120,16 +149,17 @@ fn found_in_conditional(
     first: &Phrase,
     second: &Phrase,
     at: Place,
-    scope: &Scope<'_>,
+    scope: &Scope<'_, '_>,
+    memo: &mut Memo,
 ) -> Result<Found, LeastError>
     ensures ok { IfOk result (IsFound (scope_forms scope.now) (tree.cond (reads test.now) (reads first.now) (reads second.now) at)) }
     ensures large { IsErrOf result LeastError.TypeTooLarge →
         (m : ℕ) → PassLimits (visits m (scope_forms scope.now) (tree.cond (reads test.now) (reads first.now) (reads second.now) at)) }
 {
-    let test = found_in(alloc, test, &*scope)?;
-    let first = found_in(alloc, first, &*scope)?;
-    let second = found_in(alloc, second, &*scope)?;
-    conditional(alloc, test, first, second, at)
+    let test = found_in(alloc, test, &*scope, &mut *memo)?;
+    let first = found_in(alloc, first, &*scope, &mut *memo)?;
+    let second = found_in(alloc, second, &*scope, &mut *memo)?;
+    conditional(alloc, test, first, second, at, &mut *memo)
 }
 
 #[cycle(least)]
@@ -138,14 +168,15 @@ fn found_in_case(
     index: &Phrase,
     parts: &Parts,
     at: Place,
-    scope: &Scope<'_>,
+    scope: &Scope<'_, '_>,
+    memo: &mut Memo,
 ) -> Result<Found, LeastError>
     ensures ok { IfOk result (IsFound (scope_forms scope.now) (tree.case (reads index.now) (reads_parts parts.now) at)) }
     ensures large { IsErrOf result LeastError.TypeTooLarge →
         (m : ℕ) → PassLimits (visits m (scope_forms scope.now) (tree.case (reads index.now) (reads_parts parts.now) at)) }
 {
-    let index = found_in(alloc, index, &*scope)?;
-    let parts = found_in_each(alloc, parts, &*scope)?;
+    let index = found_in(alloc, index, &*scope, &mut *memo)?;
+    let parts = found_in_each(alloc, parts, &*scope, &mut *memo)?;
     case(alloc, index, parts, at)
 }
 
@@ -155,14 +186,15 @@ fn found_in_abstraction(
     types: &TyList,
     body: &Phrase,
     at: Place,
-    scope: &Scope<'_>,
+    scope: &Scope<'_, '_>,
+    memo: &mut Memo,
 ) -> Result<Found, LeastError>
     ensures ok { (d : ℕ) → IfOk result (IsFound (scope_forms scope.now) (tree.lam d (plain_types types.now) (reads body.now) at)) }
     ensures large { (d : ℕ) → IsErrOf result LeastError.TypeTooLarge →
         (m : ℕ) → PassLimits (visits m (scope_forms scope.now) (tree.lam d (plain_types types.now) (reads body.now) at)) }
 {
     let types = types.as_slice();
-    let bodies = found_under(alloc, types, body, &*scope)?;
+    let bodies = found_under(alloc, types, body, at, &*scope, &mut *memo)?;
     abstraction(alloc, types, bodies, at)
 }
 
@@ -172,15 +204,16 @@ fn found_in_application(
     procedure: &Phrase,
     argument: &Phrase,
     at: Place,
-    scope: &Scope<'_>,
+    scope: &Scope<'_, '_>,
+    memo: &mut Memo,
 ) -> Result<Found, LeastError>
     ensures ok { IfOk result (IsFound (scope_forms scope.now) (tree.app (reads procedure.now) (reads argument.now) at)) }
     ensures large { IsErrOf result LeastError.TypeTooLarge →
         (m : ℕ) → PassLimits (visits m (scope_forms scope.now) (tree.app (reads procedure.now) (reads argument.now) at)) }
 {
-    let procedure = found_in(alloc, procedure, &*scope)?;
-    let argument = found_in(alloc, argument, &*scope)?;
-    application(alloc, procedure, argument, at)
+    let procedure = found_in(alloc, procedure, &*scope, &mut *memo)?;
+    let argument = found_in(alloc, argument, &*scope, &mut *memo)?;
+    application(alloc, procedure, argument, at, &mut *memo)
 }
 
 #[cycle(least)]
@@ -189,13 +222,14 @@ fn found_in_field(
     name: Name,
     part: &Phrase,
     at: Place,
-    scope: &Scope<'_>,
+    scope: &Scope<'_, '_>,
+    memo: &mut Memo,
 ) -> Result<Found, LeastError>
     ensures ok { IfOk result (IsFound (scope_forms scope.now) (tree.field name (reads part.now) at)) }
     ensures large { IsErrOf result LeastError.TypeTooLarge →
         (m : ℕ) → PassLimits (visits m (scope_forms scope.now) (tree.field name (reads part.now) at)) }
 {
-    let part = found_in(alloc, part, &*scope)?;
+    let part = found_in(alloc, part, &*scope, &mut *memo)?;
     field(alloc, name, part, at)
 }
 
@@ -205,13 +239,14 @@ fn found_in_selection(
     part: &Phrase,
     name: Name,
     at: Place,
-    scope: &Scope<'_>,
+    scope: &Scope<'_, '_>,
+    memo: &mut Memo,
 ) -> Result<Found, LeastError>
     ensures ok { IfOk result (IsFound (scope_forms scope.now) (tree.sel (reads part.now) name at)) }
     ensures large { IsErrOf result LeastError.TypeTooLarge →
         (m : ℕ) → PassLimits (visits m (scope_forms scope.now) (tree.sel (reads part.now) name at)) }
 {
-    let part = found_in(alloc, part, &*scope)?;
+    let part = found_in(alloc, part, &*scope, &mut *memo)?;
     selection(alloc, part, name, at)
 }
 
@@ -221,15 +256,16 @@ fn found_in_merge(
     left: &Phrase,
     right: &Phrase,
     at: Place,
-    scope: &Scope<'_>,
+    scope: &Scope<'_, '_>,
+    memo: &mut Memo,
 ) -> Result<Found, LeastError>
     ensures ok { IfOk result (IsFound (scope_forms scope.now) (tree.merge (reads left.now) (reads right.now) at)) }
     ensures large { IsErrOf result LeastError.TypeTooLarge →
         (m : ℕ) → PassLimits (visits m (scope_forms scope.now) (tree.merge (reads left.now) (reads right.now) at)) }
 {
     let demand = demand_of(right);
-    let left = found_in(alloc, left, &*scope)?;
-    let right = found_in(alloc, right, &*scope)?;
+    let left = found_in(alloc, left, &*scope, &mut *memo)?;
+    let right = found_in(alloc, right, &*scope, &mut *memo)?;
     merge(alloc, left, right, demand, at)
 }
 
@@ -239,16 +275,16 @@ fn found_in_definition(
     defined: &Phrase,
     body: &Phrase,
     at: Place,
-    scope: &Scope<'_>,
+    scope: &Scope<'_, '_>,
+    memo: &mut Memo,
 ) -> Result<Found, LeastError>
     ensures ok { (d : ℕ) → IfOk result (IsFound (scope_forms scope.now) (tree.let_in d (reads defined.now) (reads body.now) at)) }
     ensures large { (d : ℕ) → IsErrOf result LeastError.TypeTooLarge →
         (m : ℕ) → PassLimits (visits m (scope_forms scope.now) (tree.let_in d (reads defined.now) (reads body.now) at)) }
 {
-    let defined = found_in(alloc, defined, &*scope)?;
-    let copied = copy_paths(alloc, &defined.paths)?;
-    let bound = Bound::new(alloc, copied)?;
-    let body = found_in(alloc, body, &Scope::Under(&bound, &*scope))?;
+    let defined = found_in(alloc, defined, &*scope, &mut *memo)?;
+    let bound = Bound::of_distinct(&defined.paths);
+    let body = found_in(alloc, body, &Scope::Under(&bound, &*scope), &mut *memo)?;
     definition(alloc, defined, body, at)
 }
 
@@ -258,16 +294,42 @@ fn found_in_recursion(
     ty: &Ty,
     body: &Phrase,
     at: Place,
-    scope: &Scope<'_>,
+    scope: &Scope<'_, '_>,
+    memo: &mut Memo,
 ) -> Result<Found, LeastError>
     ensures ok { (d : ℕ) → IfOk result (IsFound (scope_forms scope.now) (tree.rec d (plain_type ty.now) (reads body.now) at)) }
     ensures large { (d : ℕ) → IsErrOf result LeastError.TypeTooLarge →
         (m : ℕ) → PassLimits (visits m (scope_forms scope.now) (tree.rec d (plain_type ty.now) (reads body.now) at)) }
 {
-    let form = paths_of(alloc, ty)?;
-    let bound = Bound::new(alloc, form)?;
-    let body = found_in(alloc, body, &Scope::Under(&bound, &*scope))?;
-    recursion(alloc, ty, &bound.paths, body, at)
+    match written_at(&*scope, at, 0, ty) {
+        Some(form) => found_in_fixed(alloc, ty, form, body, at, &*scope, &mut *memo),
+        None => {
+            let form = Form::of(alloc, ty)?;
+            found_in_fixed(alloc, ty, &form, body, at, &*scope, &mut *memo)
+        }
+    }
+}
+
+// What is found of a recursion whose type has the form.
+#[cycle(least)]
+fn found_in_fixed(
+    alloc: Global,
+    ty: &Ty,
+    form: &Form,
+    body: &Phrase,
+    at: Place,
+    scope: &Scope<'_, '_>,
+    memo: &mut Memo,
+) -> Result<Found, LeastError>
+    requires form { plain_paths form.now.paths ≡ paths_in_type (plain_type ty.now) }
+    requires within { IsWithinLimits (paths_in_type (plain_type ty.now)) }
+    ensures ok { (d : ℕ) → IfOk result (IsFound (scope_forms scope.now) (tree.rec d (plain_type ty.now) (reads body.now) at)) }
+    ensures large { (d : ℕ) → IsErrOf result LeastError.TypeTooLarge →
+        (m : ℕ) → PassLimits (visits m (scope_forms scope.now) (tree.rec d (plain_type ty.now) (reads body.now) at)) }
+{
+    let bound = Bound::of_form(form);
+    let body = found_in(alloc, body, &Scope::Under(&bound, &*scope), &mut *memo)?;
+    recursion(alloc, ty, form, body, at)
 }
 
 #[cycle(least)]
@@ -276,14 +338,15 @@ fn found_in_sequence(
     first: &Phrase,
     second: &Phrase,
     at: Place,
-    scope: &Scope<'_>,
+    scope: &Scope<'_, '_>,
+    memo: &mut Memo,
 ) -> Result<Found, LeastError>
     ensures ok { IfOk result (IsFound (scope_forms scope.now) (tree.seq (reads first.now) (reads second.now) at)) }
     ensures large { IsErrOf result LeastError.TypeTooLarge →
         (m : ℕ) → PassLimits (visits m (scope_forms scope.now) (tree.seq (reads first.now) (reads second.now) at)) }
 {
-    let first = found_in(alloc, first, &*scope)?;
-    let second = found_in(alloc, second, &*scope)?;
+    let first = found_in(alloc, first, &*scope, &mut *memo)?;
+    let second = found_in(alloc, second, &*scope, &mut *memo)?;
     command(alloc, (first, second), Atom::Comm, at)
 }
 
@@ -293,14 +356,15 @@ fn found_in_assignment(
     acceptor: &Phrase,
     value: &Phrase,
     at: Place,
-    scope: &Scope<'_>,
+    scope: &Scope<'_, '_>,
+    memo: &mut Memo,
 ) -> Result<Found, LeastError>
     ensures ok { IfOk result (IsFound (scope_forms scope.now) (tree.assign (reads acceptor.now) (reads value.now) at)) }
     ensures large { IsErrOf result LeastError.TypeTooLarge →
         (m : ℕ) → PassLimits (visits m (scope_forms scope.now) (tree.assign (reads acceptor.now) (reads value.now) at)) }
 {
-    let acceptor = found_in(alloc, acceptor, &*scope)?;
-    let value = found_in(alloc, value, &*scope)?;
+    let acceptor = found_in(alloc, acceptor, &*scope, &mut *memo)?;
+    let value = found_in(alloc, value, &*scope, &mut *memo)?;
     assignment(alloc, (acceptor, value), at)
 }
 
@@ -310,14 +374,15 @@ fn found_in_loop(
     test: &Phrase,
     body: &Phrase,
     at: Place,
-    scope: &Scope<'_>,
+    scope: &Scope<'_, '_>,
+    memo: &mut Memo,
 ) -> Result<Found, LeastError>
     ensures ok { IfOk result (IsFound (scope_forms scope.now) (tree.while_do (reads test.now) (reads body.now) at)) }
     ensures large { IsErrOf result LeastError.TypeTooLarge →
         (m : ℕ) → PassLimits (visits m (scope_forms scope.now) (tree.while_do (reads test.now) (reads body.now) at)) }
 {
-    let test = found_in(alloc, test, &*scope)?;
-    let body = found_in(alloc, body, &*scope)?;
+    let test = found_in(alloc, test, &*scope, &mut *memo)?;
+    let body = found_in(alloc, body, &*scope, &mut *memo)?;
     with_two(
         alloc,
         (test, body),
@@ -332,13 +397,14 @@ fn found_in_endless_loop(
     alloc: Global,
     body: &Phrase,
     at: Place,
-    scope: &Scope<'_>,
+    scope: &Scope<'_, '_>,
+    memo: &mut Memo,
 ) -> Result<Found, LeastError>
     ensures ok { IfOk result (IsFound (scope_forms scope.now) (tree.forever (reads body.now) at)) }
     ensures large { IsErrOf result LeastError.TypeTooLarge →
         (m : ℕ) → PassLimits (visits m (scope_forms scope.now) (tree.forever (reads body.now) at)) }
 {
-    let body = found_in(alloc, body, &*scope)?;
+    let body = found_in(alloc, body, &*scope, &mut *memo)?;
     with_one(alloc, body, Atom::Comm, Atom::Compl, at)
 }
 
@@ -349,16 +415,17 @@ fn found_in_cell(
     first: &Phrase,
     body: &Phrase,
     at: Place,
-    scope: &Scope<'_>,
+    scope: &Scope<'_, '_>,
+    memo: &mut Memo,
 ) -> Result<Found, LeastError>
     ensures ok { (d : ℕ) → IfOk result (IsFound (scope_forms scope.now) (tree.new d ty (reads first.now) (reads body.now) at)) }
     ensures large { (d : ℕ) → IsErrOf result LeastError.TypeTooLarge →
         (m : ℕ) → PassLimits (visits m (scope_forms scope.now) (tree.new d ty (reads first.now) (reads body.now) at)) }
 {
-    let first = found_in(alloc, first, &*scope)?;
+    let first = found_in(alloc, first, &*scope, &mut *memo)?;
     let cell = cell_form(alloc, ty)?;
-    let bound = Bound::new(alloc, cell)?;
-    let body = found_in(alloc, body, &Scope::Under(&bound, &*scope))?;
+    let bound = Bound::of_distinct(&cell);
+    let body = found_in(alloc, body, &Scope::Under(&bound, &*scope), &mut *memo)?;
     command(alloc, (first, body), data_atom(ty), at)
 }
 
@@ -367,15 +434,16 @@ fn found_in_escape(
     alloc: Global,
     body: &Phrase,
     at: Place,
-    scope: &Scope<'_>,
+    scope: &Scope<'_, '_>,
+    memo: &mut Memo,
 ) -> Result<Found, LeastError>
     ensures ok { (d : ℕ) → IfOk result (IsFound (scope_forms scope.now) (tree.escape d (reads body.now) at)) }
     ensures large { (d : ℕ) → IsErrOf result LeastError.TypeTooLarge →
         (m : ℕ) → PassLimits (visits m (scope_forms scope.now) (tree.escape d (reads body.now) at)) }
 {
     let end = one_end(alloc, Atom::Compl)?;
-    let bound = Bound::new(alloc, end)?;
-    let body = found_in(alloc, body, &Scope::Under(&bound, &*scope))?;
+    let bound = Bound::of_distinct(&end);
+    let body = found_in(alloc, body, &Scope::Under(&bound, &*scope), &mut *memo)?;
     with_one(alloc, body, Atom::Comm, Atom::Comm, at)
 }
 
@@ -385,15 +453,16 @@ fn found_in_acceptor(
     ty: DataTy,
     body: &Phrase,
     at: Place,
-    scope: &Scope<'_>,
+    scope: &Scope<'_, '_>,
+    memo: &mut Memo,
 ) -> Result<Found, LeastError>
     ensures ok { (d : ℕ) → IfOk result (IsFound (scope_forms scope.now) (tree.accept d ty (reads body.now) at)) }
     ensures large { (d : ℕ) → IsErrOf result LeastError.TypeTooLarge →
         (m : ℕ) → PassLimits (visits m (scope_forms scope.now) (tree.accept d ty (reads body.now) at)) }
 {
     let value = one_end(alloc, data_atom(ty))?;
-    let bound = Bound::new(alloc, value)?;
-    let body = found_in(alloc, body, &Scope::Under(&bound, &*scope))?;
+    let bound = Bound::of_distinct(&value);
+    let body = found_in(alloc, body, &Scope::Under(&bound, &*scope), &mut *memo)?;
     with_one(alloc, body, Atom::Comm, acceptor_atom(ty), at)
 }
 
@@ -403,13 +472,14 @@ fn found_in_output(
     kind: PutKind,
     part: &Phrase,
     at: Place,
-    scope: &Scope<'_>,
+    scope: &Scope<'_, '_>,
+    memo: &mut Memo,
 ) -> Result<Found, LeastError>
     ensures ok { IfOk result (IsFound (scope_forms scope.now) (tree.put kind (reads part.now) at)) }
     ensures large { IsErrOf result LeastError.TypeTooLarge →
         (m : ℕ) → PassLimits (visits m (scope_forms scope.now) (tree.put kind (reads part.now) at)) }
 {
-    let part = found_in(alloc, part, &*scope)?;
+    let part = found_in(alloc, part, &*scope, &mut *memo)?;
     with_one(alloc, part, put_atom(kind), Atom::Comm, at)
 }
 
@@ -418,26 +488,32 @@ fn found_in_input(
     alloc: Global,
     part: &Phrase,
     at: Place,
-    scope: &Scope<'_>,
+    scope: &Scope<'_, '_>,
+    memo: &mut Memo,
 ) -> Result<Found, LeastError>
     ensures ok { IfOk result (IsFound (scope_forms scope.now) (tree.read (reads part.now) at)) }
     ensures large { IsErrOf result LeastError.TypeTooLarge →
         (m : ℕ) → PassLimits (visits m (scope_forms scope.now) (tree.read (reads part.now) at)) }
 {
-    let part = found_in(alloc, part, &*scope)?;
+    let part = found_in(alloc, part, &*scope, &mut *memo)?;
     with_one(alloc, part, Atom::IntAcc, Atom::Comm, at)
 }
 
 // What is found of each part of a case.
 #[cycle(least)]
-fn found_in_each(alloc: Global, parts: &Parts, scope: &Scope<'_>) -> Result<Vec<Found>, LeastError>
+fn found_in_each(
+    alloc: Global,
+    parts: &Parts,
+    scope: &Scope<'_, '_>,
+    memo: &mut Memo,
+) -> Result<Vec<Found>, LeastError>
     ensures ok { IfOk result (λ v. AreFound (scope_forms scope.now) (reads_parts parts.now) v.items) }
     ensures large { IsErrOf result LeastError.TypeTooLarge →
         (m : ℕ) → PassLimits (visits_of_all m (scope_forms scope.now) (reads_parts parts.now)) }
 {
     let mut made = Vec::new(alloc);
     for part in parts.as_slice() {
-        made.push(found_in(alloc, part, &*scope)?)?;
+        made.push(found_in(alloc, part, &*scope, &mut *memo)?)?;
     }
     Ok(made)
 }
@@ -448,7 +524,9 @@ fn found_under(
     alloc: Global,
     alternatives: &[Ty],
     body: &Phrase,
-    scope: &Scope<'_>,
+    at: Place,
+    scope: &Scope<'_, '_>,
+    memo: &mut Memo,
 ) -> Result<Vec<Found>, LeastError>
     ensures ok { IfOk result
         (λ v. AreFoundUnder (scope_forms scope.now) (reads body.now)
@@ -460,11 +538,40 @@ fn found_under(
 {
     let mut made = Vec::new(alloc);
     for ty in alternatives {
-        let form = paths_of(alloc, ty)?;
-        let bound = Bound::new(alloc, form)?;
-        made.push(found_in(alloc, body, &Scope::Under(&bound, &*scope))?)?;
+        let form = written_at(&*scope, at, made.len(), ty);
+        made.push(found_with(alloc, ty, form, body, &*scope, &mut *memo)?)?;
     }
     Ok(made)
+}
+
+// What is found of a phrase in which a variable of the type is bound. The type's form may be given.
+#[cycle(least)]
+fn found_with(
+    alloc: Global,
+    ty: &Ty,
+    form: Option<&Form>,
+    body: &Phrase,
+    scope: &Scope<'_, '_>,
+    memo: &mut Memo,
+) -> Result<Found, LeastError>
+    requires form { IfSome form (λ form. plain_paths form.now.paths ≡ paths_in_type (plain_type ty.now)) }
+    requires within { OnSome form (IsWithinLimits (paths_in_type (plain_type ty.now))) }
+    ensures ok { IfOk result (IsFound (paths_in_type (plain_type ty.now) ∷ scope_forms scope.now) (reads body.now)) }
+    ensures within { OnOk result (IsWithinLimits (paths_in_type (plain_type ty.now))) }
+    ensures large { IsErrOf result LeastError.TypeTooLarge → IsTooLarge (paths_in_type (plain_type ty.now))
+        ⊎ ((m : ℕ) → PassLimits (visits m (paths_in_type (plain_type ty.now) ∷ scope_forms scope.now) (reads body.now))) }
+{
+    match form {
+        Some(form) => {
+            let bound = Bound::of_form(form);
+            found_in(alloc, body, &Scope::Under(&bound, &*scope), &mut *memo)
+        }
+        None => {
+            let form = Form::of(alloc, ty)?;
+            let bound = Bound::of_form(&form);
+            found_in(alloc, body, &Scope::Under(&bound, &*scope), &mut *memo)
+        }
+    }
 }
 
 // The paths of a cell's variable.

@@ -2,6 +2,7 @@
 #![tactic(auto)]
 
 mod bound;
+mod context;
 mod error;
 mod finder;
 mod forms;
@@ -9,6 +10,7 @@ mod found;
 mod laws;
 mod least;
 mod many;
+mod outer;
 mod rules;
 mod scope;
 mod size;

@@ -104,6 +104,9 @@ pub(crate) fn paths_of_call(
     ensures large { IsErrOf result TypeError.TypeTooLarge →
         IsTooLarge (called_of (paths_in_type (plain_type alternative.now)) (plain_paths paths.now)) }
 {
+    if paths.len() == 0 {
+        return Ok(Paths::new(alloc));
+    }
     let arrow = arrow_to(alloc, alternative, paths)?;
     paths_of(alloc, &arrow)
 }

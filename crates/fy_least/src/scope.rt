@@ -1,31 +1,35 @@
 //! The least types of the variables in scope.
 
-ghost use Rattle.std.specs.Prelude.{◌≡◌, IfOk, IsErrOf, map, option_map, reverse, slice_get};
-ghost use Rattle.fy_types.specs.Limits.{IsTooLarge};
+ghost use Rattle.std.specs.Prelude.{◌≡◌, IfOk, IfSome, IsErrOf, OnSome, option_map, slice_get};
+ghost use Rattle.fy_types.specs.Limits.{IsTooLarge, IsWithinLimits};
 ghost use Rattle.fy_types.specs.Once.{once as once_of};
+ghost use Rattle.fy_types.specs.Paths.{paths as paths_in_type};
 ghost use Rattle.fy_types.specs.Reading.{plain_paths, plain_type};
 ghost use Rattle.fy_derive.specs.Least.{paths_at};
 ghost use Rattle.fy_least.specs.Scopes.{scope_forms};
 
 use crate::bound::Bound;
+use crate::context::Context;
 use crate::error::LeastError;
-use crate::written::once_in;
+use fy_base::Place;
 use fy_types::{Paths, Ty};
+use fy_written::{Form, Table};
 use std::alloc::Global;
 
 /// The path forms of the types of the variables in scope, the innermost first.
 #[derive(Clone, Copy, Drop)]
-pub(crate) enum Scope<'a> {
-    /// The variables that are bound around the whole phrase, by their types, the outermost first.
-    Around(&'a [Ty]),
+pub(crate) enum Scope<'a, 't> {
+    /// The variables that are bound around the whole phrase, the outermost first, and the forms of the
+    /// types that are written in it.
+    Around(&'a Context<'t>, &'a Table<'t>),
     /// One that is bound in it, and those around.
-    Under(&'a Bound, &'a Scope<'a>),
+    Under(&'a Bound<'a>, &'a Scope<'a, 't>),
 }
 
 /// The paths of a variable, each once, if the variable is in scope.
 pub(crate) fn form_at(
     alloc: Global,
-    scope: &Scope<'_>,
+    scope: &Scope<'_, '_>,
     variable: u32,
 ) -> Result<Option<Paths>, LeastError>
     ensures ok { IfOk result
@@ -37,13 +41,7 @@ pub(crate) fn form_at(
     let mut left = variable;
     loop {
         match rest {
-            Scope::Around(types) => {
-                let Some(ty) = type_at(types, left) else {
-                    return Ok(None);
-                };
-                let made = once_in(alloc, ty)?;
-                return Ok(Some(made));
-            }
+            Scope::Around(context, _) => return context.form_at(alloc, left),
             Scope::Under(bound, outer) => {
                 if left == 0 {
                     let made = bound.each(alloc)?;
@@ -56,14 +54,22 @@ pub(crate) fn form_at(
     }
 }
 
-// The type of a variable that is bound around the whole phrase.
-fn type_at<'a>(types: &'a [Ty], variable: u32) -> Option<&'a Ty>
-    ensures { option_map (λ ty. plain_type ty.now) result ≡ slice_get (reverse (map plain_type types.now)) variable }
+/// The form of a type, which is the one with the index among those that are written at the place in the
+/// whole phrase. None, if it has to be made.
+pub(crate) fn written_at<'a>(
+    scope: &'a Scope<'a, '_>,
+    at: Place,
+    index: usize,
+    ty: &Ty,
+) -> Option<&'a Form>
+    ensures form { IfSome result (λ form. plain_paths form.now.paths ≡ paths_in_type (plain_type ty.now)) }
+    ensures within { OnSome result (IsWithinLimits (paths_in_type (plain_type ty.now))) }
 {
-    let place = variable as usize;
-    if place < types.len() {
-        Some(&types[types.len() - 1 - place])
-    } else {
-        None
+    let mut rest = scope;
+    loop {
+        match rest {
+            Scope::Around(_, table) => return table.find(at, index, ty),
+            Scope::Under(_, outer) => rest = outer,
+        }
     }
 }

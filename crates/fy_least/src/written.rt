@@ -9,7 +9,7 @@ ghost use Rattle.fy_types.specs.Reading.{plain_paths, plain_type, plain_types};
 use crate::error::LeastError;
 use crate::found::field_of;
 use crate::many::paths_of_call;
-use fy_forms::{TypeError, meet, paths_of};
+use fy_forms::{TypeError, meet_with, paths_of};
 use fy_order::one_end;
 use fy_types::{Name, Paths, Ty, TyList};
 use std::alloc::Global;
@@ -50,7 +50,7 @@ fn once_in_all(alloc: Global, list: &TyList) -> Result<Paths, LeastError>
     let mut paths = Paths::new(alloc);
     for ty in list.as_slice() {
         let member = once_in(alloc, ty)?;
-        paths = meet(alloc, &paths, &member)?;
+        paths = meet_with(alloc, paths, &member)?;
     }
     Ok(paths)
 }

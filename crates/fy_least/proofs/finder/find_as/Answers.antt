@@ -10,7 +10,6 @@ use Rattle.fy_derive.specs.Printable.{IsPrintable}
 use Rattle.fy_least.specs.Counts.{PassLimits}
 use Rattle.fy_least.specs.Layers.{subsumed, IsLayered}
 use Rattle.fy_least.specs.Visited.{IsFound, derivation_of}
-use Rattle.fy_least.proofs.ArmLemmas.{scope-around}
 use Rattle.fy_least.proofs.FindLemmas.{found-kept, found-accepted, found-untyped, found-limits, found-layered, found-printable, found-refused}
 use Rattle.fy_least.proofs.finder.find_as.Goals as goal
 
@@ -20,7 +19,7 @@ never b off on = cc
 pub returns-in_err-found-clause-found : goal.returns-in_err-found-clause-found
 returns-in_err-found-clause-found c =
     let p = err_from_is_err_and c.from_residual.result c.from_residual.ensures.1 in
-    let around = scope-around c.as_slice.result ∙ ap (λ ts. forms_of (reverse (map plain_type ts))) c.as_slice.ensures.members in
+    let around = ap (λ ts. forms_of (reverse (map plain_type ts))) c.as_slice.ensures.members in
     rw (p.1, p.2) (found-refused (in_scope c.args.context.now) (reads c.args.p.now) (plain_type c.args.ty.now) c.in_err-found.field-0.0
     (λ e. subst (λ G. (m : ℕ) → PassLimits (visits m G (reads c.args.p.now))) around (c.in_err-found.ensures.large e)))
 
@@ -30,7 +29,7 @@ returns-in_ok-whole-clause-found c =
     let p = reads c.args.p.now in
     let T = plain_type c.args.ty.now in
     let f = c.in_ok-found.found in
-    let around = scope-around c.as_slice.result ∙ ap (λ ts. forms_of (reverse (map plain_type ts))) c.as_slice.ensures.members in
+    let around = ap (λ ts. forms_of (reverse (map plain_type ts))) c.as_slice.ensures.members in
     let h = subst (λ H. IsFound H p f) around c.in_ok-found.ensures.ok in
     let same = c.in_ok-whole.ensures ∙ ap (λ A. sub A (derivation_of f)) c.in_ok-wanted.ensures in (
       found-kept G p T f h,
@@ -44,7 +43,7 @@ returns-in_ok-whole-clause-limits c =
     let p = reads c.args.p.now in
     let T = plain_type c.args.ty.now in
     let f = c.in_ok-found.found in
-    let around = scope-around c.as_slice.result ∙ ap (λ ts. forms_of (reverse (map plain_type ts))) c.as_slice.ensures.members in
+    let around = ap (λ ts. forms_of (reverse (map plain_type ts))) c.as_slice.ensures.members in
     let h = subst (λ H. IsFound H p f) around c.in_ok-found.ensures.ok in
     let same = c.in_ok-whole.ensures ∙ ap (λ A. sub A (derivation_of f)) c.in_ok-wanted.ensures in
     λ l low. subst KeepsLimits (sym same) (found-limits G p T f h l low)
@@ -55,7 +54,7 @@ returns-in_ok-whole-clause-printable c =
     let p = reads c.args.p.now in
     let T = plain_type c.args.ty.now in
     let f = c.in_ok-found.found in
-    let around = scope-around c.as_slice.result ∙ ap (λ ts. forms_of (reverse (map plain_type ts))) c.as_slice.ensures.members in
+    let around = ap (λ ts. forms_of (reverse (map plain_type ts))) c.as_slice.ensures.members in
     let h = subst (λ H. IsFound H p f) around c.in_ok-found.ensures.ok in
     let same = c.in_ok-whole.ensures ∙ ap (λ A. sub A (derivation_of f)) c.in_ok-wanted.ensures in
     λ l full meets names named around written. subst (IsPrintable names) (sym same) (found-printable G p T f h l full meets names named around written)
@@ -66,7 +65,7 @@ returns-in_ok-whole-clause-layered c =
     let p = reads c.args.p.now in
     let T = plain_type c.args.ty.now in
     let f = c.in_ok-found.found in
-    let around = scope-around c.as_slice.result ∙ ap (λ ts. forms_of (reverse (map plain_type ts))) c.as_slice.ensures.members in
+    let around = ap (λ ts. forms_of (reverse (map plain_type ts))) c.as_slice.ensures.members in
     let h = subst (λ H. IsFound H p f) around c.in_ok-found.ensures.ok in
     let same = c.in_ok-whole.ensures ∙ ap (λ A. sub A (derivation_of f)) c.in_ok-wanted.ensures in
     subst (IsLayered subsumed) (sym same) (found-layered G p T f h)
@@ -77,7 +76,7 @@ returns-else-fits-clause-found c =
     let p = reads c.args.p.now in
     let T = plain_type c.args.ty.now in
     let f = c.in_ok-found.found in
-    let around = scope-around c.as_slice.result ∙ ap (λ ts. forms_of (reverse (map plain_type ts))) c.as_slice.ensures.members in
+    let around = ap (λ ts. forms_of (reverse (map plain_type ts))) c.as_slice.ensures.members in
     let h = subst (λ H. IsFound H p f) around c.in_ok-found.ensures.ok in (
       found-kept G p T f h,
       found-untyped G p T f h (plain_type c.in_ok-least.least) c.in_ok-least.ensures.made

@@ -17,9 +17,9 @@ use Rattle.fy_least.specs.Many.{AreFound, no_parts, AreFoundUnder, no_alternativ
 use Rattle.fy_least.specs.Scopes.{scope_forms}
 use Rattle.fy_least.specs.Visited.{IsFound, IsMade, IsRefused, blame_at}
 use Rattle.fy_least.proofs.ArmLemmas.{ok-of, large-of, turned, too-large, scope-under}
-use Rattle.fy_least.proofs.EachFound.{part-more, parts-all, part-refused, alternative-more, alternatives-all, alternative-large, alternative-refused}
+use Rattle.fy_least.proofs.EachFound.{part-more, parts-all, part-refused, alternative-more, alternatives-all, alternative-passes}
 use Rattle.fy_least.proofs.FormFound.{app-found, field-found, sel-found, let-found, rec-found, merge-found, cond-found}
-use Rattle.fy_least.proofs.LamFound.{bodies-once, bodies-length, lam-found}
+use Rattle.fy_least.proofs.LamFound.{bodies-once, bodies-length, found-once, lam-found}
 use Rattle.fy_least.proofs.ManyFound.{case-found}
 use Rattle.fy_least.proofs.RefusedLemmas.{one-refused, two-refused, three-refused, only-part, first-part, other-parts, second-part, cond-part, written-refused, under-refused, lam-refused, case-refused}
 use Rattle.fy_least.proofs.RuleFound.{unary-found, binary-found}
@@ -482,6 +482,9 @@ found_in_merge-returns-in_err-right-clause-large t c =
     rw (err.1, err.2) (λ e. second-part G G p q (merge p q c.args.at) (λ m. refl)
     (c.in_err-right.ensures.large e))
 
+pub found_in_merge-merge-requires : goal.found_in_merge-merge-requires
+found_in_merge-merge-requires t c = found-once (scope_forms c.args.scope.now) (reads c.args.left.now) c.in_ok-left.left c.in_ok-left.ensures.ok
+
 pub found_in_merge-returns-clause-ok : goal.found_in_merge-returns-clause-ok
 found_in_merge-returns-clause-ok t c =
     let G = scope_forms c.args.scope.now in
@@ -521,6 +524,10 @@ found_in_definition-returns-in_err-defined-clause-large t c =
     rw (err.1, err.2) (λ d e. first-part G p (let_in d p q c.args.at)
     (λ m. visits (m + 1 + sizes.nodes p) (least_type G p ∷ G) q) (λ m. refl) (c.in_err-defined.ensures.large e))
 
+pub found_in_definition-of_distinct-bound-requires : goal.found_in_definition-of_distinct-bound-requires
+found_in_definition-of_distinct-bound-requires t c =
+    found-once (scope_forms c.args.scope.now) (reads c.args.defined.now) c.in_ok-defined.defined c.in_ok-defined.ensures.ok
+
 pub found_in_definition-returns-in_err-body-clause-large : goal.found_in_definition-returns-in_err-body-clause-large
 found_in_definition-returns-in_err-body-clause-large t c =
     let G = scope_forms c.args.scope.now in
@@ -529,7 +536,7 @@ found_in_definition-returns-in_err-body-clause-large t c =
     let hf = c.in_ok-defined.ensures.ok in
     let err = err_from_is_err_and c.from_residual-in_err-body.result c.from_residual-in_err-body.ensures.1 in
     rw (err.1, err.2) (λ d e. second-part G (least_type G p ∷ G) p q (let_in d p q c.args.at) (λ m. refl)
-    (rw (scope-under, c.in_ok-bound.ensures, c.in_ok-copied.ensures, hf.paths) at (c.in_err-body.ensures.large e)))
+    (rw (scope-under, c.of_distinct-bound.ensures, hf.paths) at (c.in_err-body.ensures.large e)))
 
 pub found_in_definition-returns-clause-ok : goal.found_in_definition-returns-clause-ok
 found_in_definition-returns-clause-ok t c =
@@ -539,7 +546,7 @@ found_in_definition-returns-clause-ok t c =
     let f = c.in_ok-defined.defined in
     let g = c.in_ok-body.body in
     let hf = c.in_ok-defined.ensures.ok in
-    let hg = rw (scope-under, c.in_ok-bound.ensures, c.in_ok-copied.ensures) at c.in_ok-body.ensures.ok in
+    let hg = rw (scope-under, c.of_distinct-bound.ensures) at c.in_ok-body.ensures.ok in
     λ d. ok-of c.definition.result refl (λ r. let-found G d p q c.args.at f g r hf hg)
     c.definition.ensures.made c.definition.ensures.derived
 
@@ -551,50 +558,48 @@ found_in_definition-returns-clause-large t c =
     let f = c.in_ok-defined.defined in
     let g = c.in_ok-body.body in
     let hf = c.in_ok-defined.ensures.ok in
-    let hg = rw (scope-under, c.in_ok-bound.ensures, c.in_ok-copied.ensures) at c.in_ok-body.ensures.ok in
+    let hg = rw (scope-under, c.of_distinct-bound.ensures) at c.in_ok-body.ensures.ok in
     let inner : IsFound (least_type G p ∷ G) q g = rw hf.paths at hg in
     λ d e. two-refused G (least_type G p ∷ G) p q (let_in d p q c.args.at) f g hf inner refl (λ m. refl)
     (rw inner.paths at (c.definition.ensures.large e))
 
-pub found_in_recursion-returns-in_err-form-clause-large : goal.found_in_recursion-returns-in_err-form-clause-large
-found_in_recursion-returns-in_err-form-clause-large t c =
+pub found_in_recursion-returns-in_err-form-in-None-clause-large : goal.found_in_recursion-returns-in_err-form-in-None-clause-large
+found_in_recursion-returns-in_err-form-in-None-clause-large t c =
     let G = scope_forms c.args.scope.now in
     let T = plain_type c.args.ty.now in
     let p = reads c.args.body.now in
     let err = err_from_is_err_and c.from_residual.result c.from_residual.ensures.1 in
     rw (err.1, err.2) (λ d e. written-refused G (rec d T p c.args.at) (λ m. visits (m + 1) (paths T ∷ G) p) (λ m. refl)
-    (this_form (c.in_err-form.ensures.large (too-large _ e))))
+    (this_form (c.in_err-form-in-None.ensures.large (too-large _ e))))
 
-pub found_in_recursion-returns-in_err-body-clause-large : goal.found_in_recursion-returns-in_err-body-clause-large
-found_in_recursion-returns-in_err-body-clause-large t c =
+pub found_in_fixed-returns-in_err-body-clause-large : goal.found_in_fixed-returns-in_err-body-clause-large
+found_in_fixed-returns-in_err-body-clause-large t c =
     let G = scope_forms c.args.scope.now in
     let T = plain_type c.args.ty.now in
     let p = reads c.args.body.now in
-    let err = err_from_is_err_and c.from_residual-in_err-body.result c.from_residual-in_err-body.ensures.1 in
+    let err = err_from_is_err_and c.from_residual.result c.from_residual.ensures.1 in
     rw (err.1, err.2) (λ d e. only-part G (paths T ∷ G) p (rec d T p c.args.at) (λ m. refl)
-    (rw (scope-under, c.in_ok-bound.ensures, c.in_ok-form.ensures.ok) at (c.in_err-body.ensures.large e)))
+    (rw (scope-under, c.of_form-bound.ensures, c.requires.form) at (c.in_err-body.ensures.large e)))
 
-pub found_in_recursion-returns-clause-ok : goal.found_in_recursion-returns-clause-ok
-found_in_recursion-returns-clause-ok t c =
+pub found_in_fixed-returns-clause-ok : goal.found_in_fixed-returns-clause-ok
+found_in_fixed-returns-clause-ok t c =
     let G = scope_forms c.args.scope.now in
     let T = plain_type c.args.ty.now in
     let p = reads c.args.body.now in
-    let form = c.in_ok-form.ensures in
     let part = c.in_ok-body.body in
-    let h = rw (scope-under, c.in_ok-bound.ensures, c.in_ok-form.ensures.ok) at c.in_ok-body.ensures.ok in
-    λ d. ok-of c.recursion.result refl (λ r. rec-found G d T p c.args.at (plain_paths c.in_ok-bound.bound.paths) part r (c.in_ok-bound.ensures ∙ form.ok) form.within h)
+    let h = rw (scope-under, c.of_form-bound.ensures, c.requires.form) at c.in_ok-body.ensures.ok in
+    λ d. ok-of c.recursion.result refl (λ r. rec-found G d T p c.args.at (plain_paths c.args.form.now.paths) part r c.requires.form c.requires.within h)
     c.recursion.ensures.made c.recursion.ensures.derived
 
-pub found_in_recursion-returns-clause-large : goal.found_in_recursion-returns-clause-large
-found_in_recursion-returns-clause-large t c =
+pub found_in_fixed-returns-clause-large : goal.found_in_fixed-returns-clause-large
+found_in_fixed-returns-clause-large t c =
     let G = scope_forms c.args.scope.now in
     let T = plain_type c.args.ty.now in
     let p = reads c.args.body.now in
-    let form = c.in_ok-form.ensures in
     let part = c.in_ok-body.body in
-    let h = rw (scope-under, c.in_ok-bound.ensures, c.in_ok-form.ensures.ok) at c.in_ok-body.ensures.ok in
+    let h = rw (scope-under, c.of_form-bound.ensures, c.requires.form) at c.in_ok-body.ensures.ok in
     λ d e. one-refused G (paths T ∷ G) p (rec d T p c.args.at) part h refl (λ m. refl)
-    (rw (h.paths, c.in_ok-bound.ensures, c.in_ok-form.ensures.ok) at (c.recursion.ensures.large e))
+    (rw (h.paths, c.requires.form) at (c.recursion.ensures.large e))
 
 pub found_in_sequence-returns-in_err-first-clause-large : goal.found_in_sequence-returns-in_err-first-clause-large
 found_in_sequence-returns-in_err-first-clause-large = commands.found_in_sequence-returns-in_err-first-clause-large
@@ -716,25 +721,17 @@ found_in_each-returns-in_err-found_in-clause-large t c =
 
 pub found_under-loop-ty-preserved : goal.found_under-loop-ty-preserved
 found_under-loop-ty-preserved t c =
-    let form = c.in_ok-form.ensures in
     alternative-more (scope_forms c.args.scope.now) (reads c.args.body.now) c.args.alternatives.now c.loop-ty.ty-index c.ty-item.result
-    c.loop-ty.made.items _ c.in_ok-found_in.field-0 c.loop-ty-test.true c.ty-item.is c.in_ok-push.ensures.items c.loop-ty.invariant form.within
-    (rw (scope-under, c.in_ok-bound.ensures, form.ok) at c.in_ok-found_in.ensures.ok)
+    c.loop-ty.made.items _ c.in_ok-found_with.field-0 c.loop-ty-test.true c.ty-item.is c.in_ok-push.ensures.items c.loop-ty.invariant
+    c.in_ok-found_with.ensures.within c.in_ok-found_with.ensures.ok
 
 pub found_under-returns-clause-ok : goal.found_under-returns-clause-ok
 found_under-returns-clause-ok t c =
     alternatives-all (scope_forms c.args.scope.now) (reads c.args.body.now) c.args.alternatives.now c.loop-ty.ty-index c.loop-ty.made.items
     c.loop-ty-test.false c.loop-ty.invariant
 
-pub found_under-returns-in_err-form-clause-large : goal.found_under-returns-in_err-form-clause-large
-found_under-returns-in_err-form-clause-large t c =
+pub found_under-returns-in_err-found_with-clause-large : goal.found_under-returns-in_err-found_with-clause-large
+found_under-returns-in_err-found_with-clause-large t c =
     let p = err_from_is_err_and c.from_residual.result c.from_residual.ensures.1 in
-    rw (p.1, p.2) (λ e. inl (alternative-large c.args.alternatives.now c.loop-ty.ty-index c.ty-item.result c.loop-ty-test.true c.ty-item.is
-    (c.in_err-form.ensures.large (too-large _ e))))
-
-pub found_under-returns-in_err-found_in-clause-large : goal.found_under-returns-in_err-found_in-clause-large
-found_under-returns-in_err-found_in-clause-large t c =
-    let p = err_from_is_err_and c.from_residual-in_err-found_in.result c.from_residual-in_err-found_in.ensures.1 in
-    rw (p.1, p.2) (λ e. inr (alternative-refused (scope_forms c.args.scope.now) (reads c.args.body.now) c.args.alternatives.now
-    c.loop-ty.ty-index c.ty-item.result c.loop-ty-test.true c.ty-item.is
-    (rw (scope-under, c.in_ok-bound.ensures, c.in_ok-form.ensures.ok) at (c.in_err-found_in.ensures.large (turned _ _ e)))))
+    rw (p.1, p.2) (λ e. alternative-passes (scope_forms c.args.scope.now) (reads c.args.body.now) c.args.alternatives.now
+    c.loop-ty.ty-index c.ty-item.result c.loop-ty-test.true c.ty-item.is (c.in_err-found_with.ensures.large (turned _ _ e)))

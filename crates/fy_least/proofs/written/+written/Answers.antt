@@ -1,12 +1,14 @@
-use Rattle.std.proofs.Common.{◌+◌, ap, sym, ◌∙◌, subst}
+use Rattle.std.proofs.Common.{◌+◌, ◌≡◌, ap, sym, ◌∙◌, subst}
 use Rattle.std.proofs.lemmas.Result.{err_from_is_err_and}
 use Rattle.fy_types.specs.Limits.{IsTooLarge}
 use Rattle.fy_types.specs.Once.{once}
 use Rattle.fy_types.specs.Paths.{paths, all_paths}
 use Rattle.fy_types.specs.Reading.{plain_paths}
-use Rattle.fy_types.proofs.Making.{first_paths-all}
+use Rattle.fy_types.proofs.Making.{first_paths, first_paths-all}
 use Rattle.fy_types.proofs.TypeForms.{reads_ns, reads_atom}
-use Rattle.fy_least.proofs.AnswerLemmas.{empty-paths, large-error}
+use Rattle.fy_written.proofs.EachLemmas.{empty-paths}
+use Rattle.fy_least.proofs.DistinctLemmas.{distinct-once, once-distinct}
+use Rattle.fy_least.proofs.AnswerLemmas.{large-error}
 use Rattle.fy_least.proofs.ErrorLemmas.{large-again}
 use Rattle.fy_least.proofs.WrittenLemmas.{arrow-once, arrow-large, field-once, field-large, members-next, large-member, large-members}
 use Rattle.fy_least.proofs.written.+written.Goals as goal
@@ -61,6 +63,10 @@ once_in-returns-in_ok-made-in-Field-clause-ok t c =
 
 pub once_in_all-loop-ty-init : goal.once_in_all-loop-ty-init
 once_in_all-loop-ty-init t c = empty-paths c.new-paths.result c.new-paths.ensures
+
+pub once_in_all-meet_with-requires : goal.once_in_all-meet_with-requires
+once_in_all-meet_with-requires t c =
+    subst (λ P. once P ≡ P) (sym c.loop-ty.invariant) (once-distinct (distinct-once (first_paths c.loop-ty.ty-index c.as_slice-ty-items.result.now)))
 
 pub once_in_all-returns-in_err-member-clause-large : goal.once_in_all-returns-in_err-member-clause-large
 once_in_all-returns-in_err-member-clause-large t c =

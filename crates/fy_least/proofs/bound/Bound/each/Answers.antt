@@ -1,8 +1,12 @@
 use Rattle.std.proofs.Common.{sym, ◌∙◌}
+use Rattle.std.proofs.lemmas.Result.{IfOk-weaker}
+use Rattle.fy_types.specs.Once.{once}
 use Rattle.fy_types.specs.Reading.{plain_paths}
-use Rattle.fy_least.proofs.BoundLemmas.{stood-once}
+use Rattle.fy_written.proofs.EachLemmas.{same-lists}
 use Rattle.fy_least.proofs.bound.Bound.each.Goals as goal
 
-pub returns-in_ok-copied-clause-ok : goal.returns-in_ok-copied-clause-ok
-returns-in_ok-copied-clause-ok c =
-    c.in_ok-copied.ensures ∙ sym (stood-once (plain_paths c.args.self.now.paths) (c.args.self.now.stand_once c.if-self.true))
+pub returns : goal.returns
+returns c =
+    let P = plain_paths c.args.self.now.paths.now in
+    IfOk-weaker c.copy_paths.result _ _ (λ made h. h ∙ sym (same-lists (once P) (plain_paths c.args.self.now.each.now) c.args.self.now.each_once))
+    c.copy_paths.ensures

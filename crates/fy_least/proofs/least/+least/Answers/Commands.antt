@@ -184,7 +184,7 @@ found_in_cell-returns-in_err-body-clause-large t c =
     let q = reads c.args.body.now in
     let err = err_from_is_err_and c.from_residual-in_err-body.result c.from_residual-in_err-body.ensures.1 in
     rw (err.1, err.2) (λ d e. second-part G (paths (cell_type c.args.ty) ∷ G) p q (new d c.args.ty p q c.args.at) (λ m. refl)
-    (rw (scope-under, c.in_ok-bound.ensures, c.in_ok-cell.ensures) at (c.in_err-body.ensures.large e)))
+    (rw (scope-under, c.of_distinct-bound.ensures, c.in_ok-cell.ensures) at (c.in_err-body.ensures.large e)))
 
 pub found_in_cell-returns-clause-ok : goal.found_in_cell-returns-clause-ok
 found_in_cell-returns-clause-ok t c =
@@ -194,7 +194,7 @@ found_in_cell-returns-clause-ok t c =
     let f = c.in_ok-first.first in
     let g = c.in_ok-body.body in
     let hf = c.in_ok-first.ensures.ok in
-    let hg = rw (scope-under, c.in_ok-bound.ensures, c.in_ok-cell.ensures) at c.in_ok-body.ensures.ok in
+    let hg = rw (scope-under, c.of_distinct-bound.ensures, c.in_ok-cell.ensures) at c.in_ok-body.ensures.ok in
     λ d. ok-of c.command.result refl (λ r. new-found G d c.args.ty p q c.args.at f g r hf hg)
     (rw c.data_atom.ensures at c.command.ensures.made) (rw c.data_atom.ensures at c.command.ensures.derived)
 
@@ -206,7 +206,7 @@ found_in_cell-returns-clause-large t c =
     let f = c.in_ok-first.first in
     let g = c.in_ok-body.body in
     let hf = c.in_ok-first.ensures.ok in
-    let hg = rw (scope-under, c.in_ok-bound.ensures, c.in_ok-cell.ensures) at c.in_ok-body.ensures.ok in
+    let hg = rw (scope-under, c.of_distinct-bound.ensures, c.in_ok-cell.ensures) at c.in_ok-body.ensures.ok in
     λ d e. two-refused G (paths (cell_type c.args.ty) ∷ G) p q (new d c.args.ty p q c.args.at) f g hf hg refl (λ m. refl)
     (subst (λ P. IsRefused P (f.total + g.total))
     (sym (command-same (has (least_type G p) (data_atom c.args.ty)) (least_type (paths (cell_type c.args.ty) ∷ G) q)))
@@ -218,14 +218,14 @@ found_in_escape-returns-in_err-body-clause-large t c =
     let p = reads c.args.body.now in
     let err = err_from_is_err_and c.from_residual-in_err-body.result c.from_residual-in_err-body.ensures.1 in
     rw (err.1, err.2) (λ d e. only-part G (one_end Compl ∷ G) p (escape d p c.args.at) (λ m. refl)
-    (rw (scope-under, c.in_ok-bound.ensures, c.in_ok-end.ensures) at (c.in_err-body.ensures.large e)))
+    (rw (scope-under, c.of_distinct-bound.ensures, c.in_ok-end.ensures) at (c.in_err-body.ensures.large e)))
 
 pub found_in_escape-returns-clause-ok : goal.found_in_escape-returns-clause-ok
 found_in_escape-returns-clause-ok t c =
     let G = scope_forms c.args.scope.now in
     let p = reads c.args.body.now in
     let part = c.in_ok-body.body in
-    let h = rw (scope-under, c.in_ok-bound.ensures, c.in_ok-end.ensures) at c.in_ok-body.ensures.ok in
+    let h = rw (scope-under, c.of_distinct-bound.ensures, c.in_ok-end.ensures) at c.in_ok-body.ensures.ok in
     λ d. ok-of c.with_one.result refl (λ r. escape-found G d p c.args.at part r h)
     c.with_one.ensures.made c.with_one.ensures.derived
 
@@ -234,7 +234,7 @@ found_in_escape-returns-clause-large t c =
     let G = scope_forms c.args.scope.now in
     let p = reads c.args.body.now in
     let part = c.in_ok-body.body in
-    let h = rw (scope-under, c.in_ok-bound.ensures, c.in_ok-end.ensures) at c.in_ok-body.ensures.ok in
+    let h = rw (scope-under, c.of_distinct-bound.ensures, c.in_ok-end.ensures) at c.in_ok-body.ensures.ok in
     λ d e. one-refused G (one_end Compl ∷ G) p (escape d p c.args.at) part h refl (λ m. refl)
     (rw h.paths at (c.with_one.ensures.large e))
 
@@ -244,14 +244,14 @@ found_in_acceptor-returns-in_err-body-clause-large t c =
     let p = reads c.args.body.now in
     let err = err_from_is_err_and c.from_residual-in_err-body.result c.from_residual-in_err-body.ensures.1 in
     rw (err.1, err.2) (λ d e. only-part G (one_end (data_atom c.args.ty) ∷ G) p (accept d c.args.ty p c.args.at) (λ m. refl)
-    (rw (scope-under, c.in_ok-bound.ensures, c.in_ok-value.ensures, c.data_atom.ensures) at (c.in_err-body.ensures.large e)))
+    (rw (scope-under, c.of_distinct-bound.ensures, c.in_ok-value.ensures, c.data_atom.ensures) at (c.in_err-body.ensures.large e)))
 
 pub found_in_acceptor-returns-clause-ok : goal.found_in_acceptor-returns-clause-ok
 found_in_acceptor-returns-clause-ok t c =
     let G = scope_forms c.args.scope.now in
     let p = reads c.args.body.now in
     let part = c.in_ok-body.body in
-    let h = rw (scope-under, c.in_ok-bound.ensures, c.in_ok-value.ensures, c.data_atom.ensures) at c.in_ok-body.ensures.ok in
+    let h = rw (scope-under, c.of_distinct-bound.ensures, c.in_ok-value.ensures, c.data_atom.ensures) at c.in_ok-body.ensures.ok in
     λ d. ok-of c.with_one.result refl (λ r. accept-found G d c.args.ty p c.args.at part r h)
     (rw c.acceptor_atom.ensures at c.with_one.ensures.made) c.with_one.ensures.derived
 
@@ -260,7 +260,7 @@ found_in_acceptor-returns-clause-large t c =
     let G = scope_forms c.args.scope.now in
     let p = reads c.args.body.now in
     let part = c.in_ok-body.body in
-    let h = rw (scope-under, c.in_ok-bound.ensures, c.in_ok-value.ensures, c.data_atom.ensures) at c.in_ok-body.ensures.ok in
+    let h = rw (scope-under, c.of_distinct-bound.ensures, c.in_ok-value.ensures, c.data_atom.ensures) at c.in_ok-body.ensures.ok in
     λ d e. one-refused G (one_end (data_atom c.args.ty) ∷ G) p (accept d c.args.ty p c.args.at) part h refl (λ m. refl)
     (rw (c.acceptor_atom.ensures, h.paths) at (c.with_one.ensures.large e))
 

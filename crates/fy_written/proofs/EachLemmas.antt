@@ -1,12 +1,17 @@
--- A list with as many paths as it has when each stands once, is that list.
-use Rattle.std.proofs.Common.{◌+◌, ◌≤◌, ◌≡◌, Bool, true, false, length, refl, sym, ap, ◌∙◌, subst, arith, if◌then◌else◌}
+-- A list with as many paths as it has when each stands once, is that list; and what a form says of its paths.
+use Rattle.std.proofs.Common.{◌+◌, ◌≤◌, ◌≡◌, Bool, true, false, Option, Some, None, [], length, map, refl, sym, ap, ◌∙◌, subst, arith, if◌then◌else◌}
+use Rattle.std.specs.Prelude.{IsErrOf, Err}
+use Rattle.fy_forms.specs.declared.error.TypeError.{TypeError}
+use Rattle.fy_forms.specs.declared.error.TypeError.TheVariants.{TypeTooLarge, OutOfMemory}
 use Rattle.fy_types.specs.declared.paths.Paths.{Paths}
 use Rattle.fy_types.specs.Once.{is_same, are_same, without, once}
 use Rattle.fy_types.specs.Paths.{PlainPath, PlainPaths, no_paths, and_path}
-use Rattle.fy_types.specs.Reading.{paths_in, plain_paths}
+use Rattle.fy_types.specs.Reading.{paths_in, paths_from, plain_path, plain_paths}
 use Rattle.fy_types.proofs.Making.{count-in}
 use Rattle.fy_types.proofs.OnceLemmas.{both_true, is_same-iff, is_same-refl}
+use Rattle.fy_types.proofs.ReadLemmas.{plain_paths-at}
 use Rattle.fy_types.proofs.Sizes.{count}
+use Rattle.fy_written.specs.Forms.{has_each}
 
 without-few : (p : PlainPath) (Q : PlainPaths) → count (without p Q) ≤ count Q
 without-few p no_paths = omega arith
@@ -39,11 +44,11 @@ once-all (and_path p P) e =
     let all : count (once P) ≡ count P = omega arith in
     ap (and_path p) (without-none p (once P) none ∙ once-all P all)
 
-same-itself : (P : PlainPaths) → are_same P P ≡ true
+pub same-itself : (P : PlainPaths) → are_same P P ≡ true
 same-itself no_paths = refl
 same-itself (and_path p P) = rw (is_same-refl p, same-itself P) refl
 
-same-lists : (P Q : PlainPaths) → are_same P Q ≡ true → P ≡ Q
+pub same-lists : (P Q : PlainPaths) → are_same P Q ≡ true → P ≡ Q
 same-lists no_paths no_paths e = refl
 same-lists no_paths (and_path q Q) e = absurd (cc)
 same-lists (and_path p P) no_paths e = absurd (cc)
@@ -59,3 +64,26 @@ each-once made P e same =
 
 pub stood-once : (P : PlainPaths) → are_same (once P) P ≡ true → once P ≡ P
 stood-once P e = same-lists (once P) P e
+
+pub empty-paths : (l : Paths) → paths_in l ≡ [] → plain_paths l ≡ no_paths
+empty-paths l e = plain_paths-at l ∙ ap (λ xs. paths_from (map plain_path xs)) e
+
+-- each path of a form, by whether some stand there twice
+pub each-none : (P : Paths) (o : Option Paths) → o ≡ None → has_each P o ≡ true → plain_paths P ≡ once (plain_paths P)
+each-none P None is h = sym (stood-once (plain_paths P) h)
+each-none P (Some E) is h = absurd (cc)
+
+pub each-some : (P : Paths) (o : Option Paths) (E : Paths) → o ≡ Some E → has_each P o ≡ true → plain_paths E ≡ once (plain_paths P)
+each-some P None E is h = absurd (cc)
+each-some P (Some F) E is h =
+    let same : F ≡ E = cc in
+    sym (same-lists (once (plain_paths P)) (plain_paths E) (subst (λ x. are_same (once (plain_paths P)) (plain_paths x) ≡ true) same h))
+
+-- the form of an entry is that of an equal type
+pub form-same : (P Q R : PlainPaths) → are_same P Q ≡ true → Q ≡ R → P ≡ R
+form-same P Q R same e = same-lists P Q same ∙ e
+
+-- a refusal is the same at another type of results
+pub large-again : {X Y : Type 0} (e : TypeError) → IsErrOf {T = X} (Err e) TypeTooLarge → IsErrOf {T = Y} (Err e) TypeTooLarge
+large-again TypeTooLarge h = refl
+large-again OutOfMemory h = absurd (cc)
