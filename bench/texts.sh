@@ -129,3 +129,30 @@ sorts() {
 { printf 'lettype t == '; fields 2000; printf ' in '; repeated '(\\x: int | bool. ' 8; printf '(\\y: t. 1 2)'; repeated '; (\\y: t. 1 2)' 13; repeated ')' 8; } | measure '3,584 visits of abstractions, 2,000 fields'
 # The same within one another, in more such visits.
 { printf 'lettype t == '; fields 2000; printf ' in '; repeated '\\x: int | bool. ' 11; repeated '\\y: t. ' 15; printf skip.a; } | measure '30,720 visits of abstractions, 2,000 fields'
+# Calls whose arguments all differ, by a field more, so that no call is made before. The types are those of rows above, or others.
+merges() {
+    printf '%slettype t == %s in lettype s == %s in let p == \\f: s -> comm. \\x: t. (f (x, c1 == 1)' "${4:-}" "$1" "$2"
+    for i in $(seq 2 "$3"); do printf '; f (x, c%s == 1)' "$i"; done
+    printf ') in skip'
+}
+merges "$(each '((a%s: int) -> int)' 1 1 1000)" "$(each '((a%s: int) -> int)' 1000 -1 1)" 320 | measure '320 calls on 1,000 paths, each another way'
+merges "$(each '(d & ((s%s: int) -> int) -> int)' 1 1 80)" "$(each '(d & ((s%s: int) -> int) -> int)' 80 -1 1)" 1000 "lettype d == $(each '((a%s: int) -> int)' 1 1 10) in " | measure '1,000 calls on 11 procedures, each another way'
+merges "$(subsets 16 18 80 1)" "$(subsets 16 18 80 -1)" 1000 | measure '1,000 calls on 16 of 18 fields, each another way'
+merges "$(each '(d & ((s%s: int) -> int) -> int)' 1 1 300)" "$(each '(d & ((s%s: int) -> int) -> int)' 300 -1 1)" 400 'lettype d == ((a: int) -> int) in ' | measure '400 calls on 300 paths of two procedures, so'
+# The same 240 orders of six fields as the domains of procedures: all of these have one type.
+procedures=$(orders '' '' | sed 's/^((/(((/; s/ & ((/ \& (((/g; s/-> int)/-> int) -> int)/g')
+merges "$procedures" "$procedures" 400 | measure '400 calls on 240 orders in procedures, so'
+deep="$(repeated '(' 12)(a%s: int)$(repeated ' -> int)' 12)"
+merges "$(each "$deep" 1 1 153)" "$(each "$deep" 153 -1 1)" 400 | measure '400 calls on 153 paths twelve deep, so'
+{ printf 'lettype t == '; sorts; printf ' in lettype d == '; each '(a%s: int)' 1 1 7; printf ' & '; each '(b%s: int)' 1 1 7; printf ' in let p == \\f: '; each '(((d & (z%s: int)) -> int) -> comm)' 1 1 77; printf ' & (ns -> comm). \\x: t. (f (x, c1 == 1)'; for i in $(seq 2 1000); do printf '; f (x, c%s == 1)' "$i"; done; printf ') in skip'; } | measure '1,000 calls of 78 alternatives, so'
+# Conditionals whose branches all differ, by a field more.
+joins() {
+    printf 'lettype t == %s in lettype s == %s in let p == \\x: t. \\y: s. (' "$1" "$2"
+    for i in $(seq "$3"); do
+        [ "$i" = 1 ] || printf '; '
+        printf '(let q == if true then (x, c%s == 1) else (y, c%s == 1) in skip)' "$i" "$i"
+    done
+    printf ') in skip'
+}
+joins "$(each '(a%s: int)' 1 1 2000)" "$(each '(a%s: int)' 2000 -1 1)" 400 | measure '400 conditionals of 2,000 fields, so'
+joins "$(orders '' out)" "$(orders '' '')" 400 | measure '400 conditionals with a field less, so'

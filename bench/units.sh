@@ -2,7 +2,7 @@
 # Measures units beside whole texts:
 #     bench/units.sh
 # Prints the user time of `unit` on 64 units, of `join` and of `link` of them, and of `build` on the joined text; then the same of one unit whose
-# source has 1,048,576 bytes. FORSYTHE names another built program than bin/forsythe.
+# source has 1,048,576 bytes; then the user time of `unit` on units that use an import of many fields or paths. FORSYTHE names another built program than bin/forsythe.
 set -eu
 . "$(dirname "$0")/measured.sh"
 
@@ -57,3 +57,21 @@ measure '64 units'
 echo main >list
 # The joined text has three bytes more than what stands behind the `==` of the header.
 measure 'a unit of 1,048,576 bytes'
+
+# Pieces with the numbers from a first to a last one.
+each() {
+    for i in $(seq "$2" "$3" "$4"); do [ "$i" = "$2" ] || printf ' & '; printf "$1" "$i"; done
+}
+
+# Units that use an import in each command.
+{ printf 'x : '; each '(a%s: int)' 1 1 2000; printf ', m : comm == putint (x.a1)'; repeated '; putint (x.a2000)' 899; } >fields.fy
+printf '%-34s unit %s s\n' '900 uses of 2,000 fields' "$(user_time unit fields.fy fields)"
+{
+    printf 'x : '
+    each '(a%s: int)' 1 1 2000
+    printf ', f : ('
+    each '(a%s: int)' 2000 -1 1
+    printf ') -> comm, m : comm == skip'
+    for i in $(seq 200); do printf '; f (x, c%s == 1)' "$i"; done
+} >calls.fy
+printf '%-34s unit %s s\n' '200 calls on 2,000 fields' "$(user_time unit calls.fy calls)"
