@@ -19,6 +19,7 @@ use fy_base::{OutOfMemory, Place};
 use fy_syntax::{Decl, SurfaceTy, SurfaceTyList};
 use fy_types::{Atom, Name, Ty, TyList};
 use std::alloc::Global;
+use std::rc::Rc;
 
 const MAX_TYPE_NODES: u64 = 4096;
 
@@ -186,8 +187,8 @@ pub(crate) fn build_type(alloc: Global, ty: &SurfaceTy, frame: &Frame) -> Result
 {
     match ty {
         SurfaceTy::Arrow(domain, rest, _) => Ok(Ty::Arrow(
-            Box::new(alloc, build_type(alloc, domain, frame)?)?,
-            Box::new(alloc, build_type(alloc, rest, frame)?)?,
+            Rc::new(alloc, build_type(alloc, domain, frame)?)?,
+            Rc::new(alloc, build_type(alloc, rest, frame)?)?,
         )),
         SurfaceTy::Meet(members, _) => Ok(Ty::Meet(build_types(alloc, members, frame)?)),
         SurfaceTy::Field(names, part, _) => {
@@ -245,7 +246,7 @@ fn with_fields(alloc: Global, names: &[Name], part: Ty) -> Result<Ty, OutOfMemor
 {
     let mut made = part;
     for i in (0..names.len()).rev() {
-        made = Ty::Field(names[i], Box::new(alloc, made)?);
+        made = Ty::Field(names[i], Rc::new(alloc, made)?);
     }
     Ok(made)
 }
@@ -268,9 +269,9 @@ fn predefined_type(alloc: Global, name: Name) -> Result<Ty, OutOfMemory>
 fn sequence_type(alloc: Global, atom: Atom) -> Result<Ty, OutOfMemory>
     ensures { IfOk result (λ made. plain_type made ≡ sequence_of (PlainType.atom atom)) }
 {
-    let index = Box::new(alloc, Ty::Atom(Atom::Int))?;
-    let item = Box::new(alloc, Ty::Atom(atom))?;
-    let length = Box::new(alloc, Ty::Atom(Atom::Int))?;
+    let index = Rc::new(alloc, Ty::Atom(Atom::Int))?;
+    let item = Rc::new(alloc, Ty::Atom(atom))?;
+    let length = Rc::new(alloc, Ty::Atom(Atom::Int))?;
     both(alloc, Ty::Arrow(index, item), Ty::Field(0, length))
 }
 
@@ -308,5 +309,5 @@ fn declared_field(alloc: Global, decl: &Decl, frame: &Frame) -> Result<Ty, OutOf
         ≡ PlainType.field decl.now.name (type_of (scope_of frame.now).types (type_tree decl.now.ty))) }
 {
     let part = build_type(alloc, &decl.ty, frame)?;
-    Ok(Ty::Field(decl.name, Box::new(alloc, part)?))
+    Ok(Ty::Field(decl.name, Rc::new(alloc, part)?))
 }

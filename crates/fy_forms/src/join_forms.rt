@@ -18,9 +18,11 @@ use crate::index::{Groups, candidates, groups_of, key_of};
 use crate::kept::{Places, keep};
 use crate::meet_forms::meet_form;
 use crate::sized::{MOST_NODES, Sized};
+use fy_base::OutOfMemory;
 use fy_types::{Atom, ElemList, Path, PathElem, Paths, is_end_below};
 use std::alloc::Global;
 use std::collections::BTreeMap;
+use std::rc::Rc;
 
 // Of fewer paths each is taken, since rows of them cost more.
 const FEW: usize = 8;
@@ -231,7 +233,7 @@ fn merged_elem(alloc: Global, x: &PathElem, y: &PathElem) -> Result<Merged, Type
                 let domain = meet_form(alloc, d, e)?;
                 Ok(Merged {
                     nodes: domain.nodes + 1,
-                    elem: PathElem::Call(domain.paths),
+                    elem: PathElem::Call(shared(alloc, domain.paths)?),
                 })
             }
             PathElem::Field(_) => unreachable!(),
@@ -241,4 +243,12 @@ fn merged_elem(alloc: Global, x: &PathElem, y: &PathElem) -> Result<Merged, Type
             nodes: 1,
         }),
     }
+}
+
+// The form, which copies of a path share.
+fn shared(alloc: Global, paths: Paths) -> Result<Rc<Paths>, OutOfMemory>
+    ensures { IfOk result (λ rc. rc.value ≡ paths) }
+{
+    let rc = Rc::new(alloc, paths)?;
+    Ok(rc)
 }

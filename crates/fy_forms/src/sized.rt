@@ -11,8 +11,9 @@ ghost use Rattle.fy_types.specs.Once.{contains};
 use crate::error::TypeError;
 use crate::size::{size_of_path, size_of_paths};
 use fy_base::OutOfMemory;
-use fy_types::{Atom, ElemList, Name, Path, PathElem, Paths, copy_paths};
+use fy_types::{Atom, ElemList, Name, Path, PathElem, Paths};
 use std::alloc::Global;
+use std::rc::Rc;
 
 /// The most nodes of a path form.
 pub(crate) const MOST_NODES: u64 = 4096;
@@ -88,7 +89,7 @@ impl Sized {
         if nodes > MOST_NODES || nesting > MOST_NESTING {
             return Err(TypeError::TypeTooLarge);
         }
-        let paths = called_paths(alloc, &domain.paths, self.paths)?;
+        let paths = called_paths(alloc, domain.paths, self.paths)?;
         Ok(Sized {
             paths,
             nodes,
@@ -165,13 +166,14 @@ impl Sized {
     }
 }
 
-fn called_paths(alloc: Global, domain: &Paths, list: Paths) -> Result<Paths, OutOfMemory>
+fn called_paths(alloc: Global, domain: Paths, list: Paths) -> Result<Paths, OutOfMemory>
     ensures { IfOk result
-        (λ made. plain_paths made ≡ called (plain_paths domain.now) (plain_paths list)) }
+        (λ made. plain_paths made ≡ called (plain_paths domain) (plain_paths list)) }
 {
+    let shared = Rc::new(alloc, domain)?;
     let mut made = Paths::with_capacity(alloc, list.len())?;
     for path in list.into_vec() {
-        let call = PathElem::Call(copy_paths(alloc, domain)?);
+        let call = PathElem::Call(shared.clone()?);
         made.push(path.after(call)?)?;
     }
     Ok(made)

@@ -25,6 +25,7 @@ use fy_lexer::{Token, lex};
 use fy_phrase::Phrase;
 use fy_types::{Atom, Name, Names, Ty, TyList, copy_ty};
 use std::alloc::Global;
+use std::rc::Rc;
 
 // The prelude has that many names.
 const PROVIDED: u32 = 4;
@@ -189,8 +190,8 @@ fn front(tokens: &[Token]) -> Place
 fn put_procedure(alloc: Global, context: &mut TyList, atom: Atom) -> Result<(), OutOfMemory>
     ensures { OnOk result (map plain_type (types_in context.new) ≡ map plain_type (types_in context.old) ++ arrow (of_atom atom) (of_atom Comm) ∷ []) }
 {
-    let domain = Box::new(alloc, Ty::Atom(atom))?;
-    let command = Box::new(alloc, Ty::Atom(Atom::Comm))?;
+    let domain = Rc::new(alloc, Ty::Atom(atom))?;
+    let command = Rc::new(alloc, Ty::Atom(Atom::Comm))?;
     context.push(Ty::Arrow(domain, command))
 }
 

@@ -9,6 +9,7 @@ ghost use Rattle.fy_types.specs.Reading.{plain_type, types_in};
 use crate::stop::Stop;
 use fy_types::{Name, Ty, TyList};
 use std::alloc::Global;
+use std::rc::Rc;
 
 /// What stands between a parenthesis, or a bracket, and its end, as far as it is read.
 #[derive(Debug, Drop)]
@@ -147,7 +148,7 @@ fn with_fields(alloc: Global, fields: Vec<Name>, part: Ty) -> Result<Ty, Stop>
     let mut whole = part;
     let mut left = fields;
     while let Some(name) = left.pop() {
-        whole = Ty::Field(name, Box::new(alloc, whole)?);
+        whole = Ty::Field(name, Rc::new(alloc, whole)?);
     }
     Ok(whole)
 }
@@ -160,7 +161,7 @@ fn with_domains(alloc: Global, domains: Vec<Ty>, last: Ty) -> Result<Ty, Stop>
     let mut whole = last;
     let mut left = domains;
     while let Some(domain) = left.pop() {
-        whole = Ty::Arrow(Box::new(alloc, domain)?, Box::new(alloc, whole)?);
+        whole = Ty::Arrow(Rc::new(alloc, domain)?, Rc::new(alloc, whole)?);
     }
     Ok(whole)
 }

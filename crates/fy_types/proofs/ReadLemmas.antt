@@ -1,4 +1,6 @@
 -- What the readings give at one level.
+use Rattle.std.specs.declared.alloc.Global.{Global}
+use Rattle.std.specs.declared.rc.Rc.{Rc}
 use Rattle.std.proofs.Common.{ℕ, ◌<◌, ◌≡◌, List, [], ◌∷◌, suc, map, length, get_or, refl, ap, sym, ◌∙◌, arith, rules}
 use Rattle.fy_types.specs.declared.paths.PathElem.{PathElem, Call, Field, size-PathElem, the_lemmas}
 use Rattle.fy_types.specs.declared.paths.PathElem.TheVariants.{rolls-Call, rolls-Field}
@@ -12,7 +14,7 @@ use Rattle.fy_types.specs.Types.{PlainType, PlainTypes, no_types, and_type}
 use Rattle.fy_types.specs.Paths.{PlainPath, PlainPaths, end}
 use Rattle.fy_types.specs.Reading.{PlainElem, elem_step, elems_step, path_step, paths_step, types_in, elems_in, paths_in, plain_type, plain_types, types_from, a_call, a_field, fronted, paths_from, plain_elem, plain_elems, plain_path, plain_paths}
 
-pub plain_elem-Call : (d : Paths) → plain_elem (Call d) ≡ a_call (plain_paths d)
+pub plain_elem-Call : (d : Rc Paths Global) → plain_elem (Call d) ≡ a_call (plain_paths d.value)
 plain_elem-Call d = ap plain_elem (sym (rolls-Call d)) ∙ search (rules, the_lemmas)
 
 pub plain_elem-Field : (i : ℕ) → plain_elem (Field i) ≡ a_field i

@@ -75,7 +75,7 @@ paths_from [] = no_paths
 paths_from (p ∷ ps) = and_path p (paths_from ps)
 
 abbrev pub elem_step : PathElem-F (List PlainElem) PlainElem PlainPath PlainPaths → PlainElem
-elem_step (PathElem-F.Call D) = a_call D
+elem_step (PathElem-F.Call D) = a_call D.value
 elem_step (PathElem-F.Field i) = a_field i
 
 abbrev pub elems_step : ElemList-F (List PlainElem) PlainElem PlainPath PlainPaths → List PlainElem

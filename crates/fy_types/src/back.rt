@@ -21,6 +21,7 @@ use crate::paths::{Path, PathElem, Paths};
 use crate::types::{Ty, TyList};
 use fy_base::OutOfMemory;
 use std::alloc::Global;
+use std::rc::Rc;
 
 /// A type with these paths, in this order. It has a meet only where there are two members or more,
 /// and exactly the fields of the paths, in their order.
@@ -84,9 +85,9 @@ fn ty_behind(alloc: Global, elem: &PathElem, rest: Ty) -> Result<Ty, OutOfMemory
 {
     match elem {
         PathElem::Call(domain) => Ok(Ty::Arrow(
-            Box::new(alloc, ty_of(alloc, domain)?)?,
-            Box::new(alloc, rest)?,
+            Rc::new(alloc, ty_of(alloc, domain)?)?,
+            Rc::new(alloc, rest)?,
         )),
-        PathElem::Field(name) => Ok(Ty::Field(*name, Box::new(alloc, rest)?)),
+        PathElem::Field(name) => Ok(Ty::Field(*name, Rc::new(alloc, rest)?)),
     }
 }

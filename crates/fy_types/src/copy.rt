@@ -16,11 +16,8 @@ pub fn copy_ty(alloc: Global, ty: &Ty) -> Result<Ty, OutOfMemory>
     match ty {
         Ty::Ns => Ok(Ty::Ns),
         Ty::Atom(atom) => Ok(Ty::Atom(*atom)),
-        Ty::Arrow(domain, rest) => Ok(Ty::Arrow(
-            Box::new(alloc, copy_ty(alloc, domain)?)?,
-            Box::new(alloc, copy_ty(alloc, rest)?)?,
-        )),
-        Ty::Field(name, part) => Ok(Ty::Field(*name, Box::new(alloc, copy_ty(alloc, part)?)?)),
+        Ty::Arrow(domain, rest) => Ok(Ty::Arrow(domain.clone()?, rest.clone()?)),
+        Ty::Field(name, part) => Ok(Ty::Field(*name, part.clone()?)),
         Ty::Meet(all) => Ok(Ty::Meet(copy_list(alloc, all)?)),
     }
 }
@@ -37,7 +34,6 @@ fn copy_list(alloc: Global, all: &TyList) -> Result<TyList, OutOfMemory>
 }
 
 /// A path form equal to the given one.
-#[cycle(copy_paths)]
 pub fn copy_paths(alloc: Global, paths: &Paths) -> Result<Paths, OutOfMemory>
     ensures { IfOk result (λ made. plain_paths made ≡ plain_paths paths.now) }
 {
@@ -49,7 +45,6 @@ pub fn copy_paths(alloc: Global, paths: &Paths) -> Result<Paths, OutOfMemory>
 }
 
 /// A path equal to the given one.
-#[cycle(copy_paths)]
 pub fn copy_path(alloc: Global, path: &Path) -> Result<Path, OutOfMemory>
     ensures { IfOk result (λ made. plain_path made ≡ plain_path path.now) }
 {
@@ -60,7 +55,6 @@ pub fn copy_path(alloc: Global, path: &Path) -> Result<Path, OutOfMemory>
     })
 }
 
-#[cycle(copy_paths)]
 #[tactic(auto, using(crate::proofs::ReadLemmas::elements))]
 fn copy_elems(alloc: Global, elems: &ElemList) -> Result<ElemList, OutOfMemory>
     ensures { IfOk result (λ made. plain_elems made ≡ plain_elems elems.now) }
@@ -72,12 +66,11 @@ fn copy_elems(alloc: Global, elems: &ElemList) -> Result<ElemList, OutOfMemory>
     Ok(made)
 }
 
-#[cycle(copy_paths)]
 fn copy_elem(alloc: Global, elem: &PathElem) -> Result<PathElem, OutOfMemory>
     ensures { IfOk result (λ made. plain_elem made ≡ plain_elem elem.now) }
 {
     match elem {
-        PathElem::Call(domain) => Ok(PathElem::Call(copy_paths(alloc, domain)?)),
+        PathElem::Call(domain) => Ok(PathElem::Call(domain.clone()?)),
         PathElem::Field(name) => Ok(PathElem::Field(*name)),
     }
 }

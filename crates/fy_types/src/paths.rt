@@ -7,13 +7,14 @@ use crate::Name;
 use crate::types::Atom;
 use fy_base::OutOfMemory;
 use std::alloc::{AllocFailed, Global};
+use std::rc::Rc;
 use std::{mem, slice};
 
 /// One demand of a path: a call with an argument that has these paths, or a field.
 #[derive(Debug, Drop)]
 #[cycle(path)]
 pub enum PathElem {
-    Call(Paths),
+    Call(Rc<Paths>),
     Field(Name),
 }
 

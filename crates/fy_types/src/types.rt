@@ -6,6 +6,7 @@ ghost use Rattle.fy_types.specs.Reading.{types_in, plain_type, plain_types, type
 use crate::Name;
 use fy_base::OutOfMemory;
 use std::alloc::Global;
+use std::rc::Rc;
 
 /// The types that have no parts.
 #[derive(Clone, Copy, PartialEq, Eq, Hash, Debug)]
@@ -31,9 +32,9 @@ pub enum Ty {
     Ns,
     Atom(Atom),
     /// The procedures from the first type to the second.
-    Arrow(Box<Ty>, Box<Ty>),
+    Arrow(Rc<Ty>, Rc<Ty>),
     /// What has a field of that name and type.
-    Field(Name, Box<Ty>),
+    Field(Name, Rc<Ty>),
     /// What has each of two or more types.
     Meet(TyList),
 }

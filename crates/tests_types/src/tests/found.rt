@@ -5,11 +5,12 @@ use fy_least::{FindError, find, find_as};
 use fy_phrase::Phrase;
 use fy_types::{Atom, Ty, TyList};
 use std::alloc::Global;
+use std::rc::Rc;
 use std::test::Fail;
 
 fn procedure(alloc: Global, domain: Atom, rest: Atom) -> Result<Ty, OutOfMemory> {
-    let domain = Box::new(alloc, Ty::Atom(domain))?;
-    Ok(Ty::Arrow(domain, Box::new(alloc, Ty::Atom(rest))?))
+    let domain = Rc::new(alloc, Ty::Atom(domain))?;
+    Ok(Ty::Arrow(domain, Rc::new(alloc, Ty::Atom(rest))?))
 }
 
 // The types of `f` and `g`.

@@ -7,6 +7,7 @@ use fy_types::{
     Atom, Names, Ty, TyList, copy_paths, copy_ty, is_below, is_subtype, print_ty, same_ty, ty_of,
 };
 use std::alloc::Global;
+use std::rc::Rc;
 use std::test::Fail;
 
 fn atom(atom: Atom) -> Ty {
@@ -14,7 +15,7 @@ fn atom(atom: Atom) -> Ty {
 }
 
 fn arrow(alloc: Global, domain: Ty, rest: Ty) -> Result<Ty, Fail> {
-    Ok(Ty::Arrow(Box::new(alloc, domain)?, Box::new(alloc, rest)?))
+    Ok(Ty::Arrow(Rc::new(alloc, domain)?, Rc::new(alloc, rest)?))
 }
 
 fn both(alloc: Global, a: Ty, b: Ty) -> Result<Ty, Fail> {
@@ -41,7 +42,7 @@ fn many(alloc: Global, count: usize, first: Atom, last: Atom) -> Result<Ty, Fail
 fn fields(alloc: Global, count: usize) -> Result<Ty, Fail> {
     let mut ty = atom(Atom::Int);
     for _ in 0..count {
-        ty = Ty::Field(7, Box::new(alloc, ty)?);
+        ty = Ty::Field(7, Rc::new(alloc, ty)?);
     }
     Ok(ty)
 }
@@ -94,7 +95,7 @@ fn answers_questions_of_subtyping(rt: HostRuntime) -> Result<(), Fail> {
 
 // A field of the name, or a procedure that takes one.
 fn member(alloc: Global, name: u32, is_taken: bool) -> Result<Ty, Fail> {
-    let field = Ty::Field(name, Box::new(alloc, atom(Atom::Int))?);
+    let field = Ty::Field(name, Rc::new(alloc, atom(Atom::Int))?);
     if is_taken {
         arrow(alloc, field, atom(Atom::Int))
     } else {
@@ -204,10 +205,10 @@ fn prints_a_sequence_type(rt: HostRuntime) -> Result<(), Fail> {
     let alloc = rt.alloc();
     let names = Names::new(alloc)?;
     let ints = arrow(alloc, atom(Atom::Int), atom(Atom::Int))?;
-    let intseq = both(alloc, ints, Ty::Field(0, Box::new(alloc, atom(Atom::Int))?))?;
+    let intseq = both(alloc, ints, Ty::Field(0, Rc::new(alloc, atom(Atom::Int))?))?;
     let text = print_ty(alloc, &names, &copy_ty(alloc, &intseq)?)?;
     assert!(rt; text.as_slice() == b"(int -> int) & (len : int)".as_slice());
-    let nameless = Ty::Field(13, Box::new(alloc, Ty::Ns)?);
+    let nameless = Ty::Field(13, Rc::new(alloc, Ty::Ns)?);
     assert!(rt; print_ty(alloc, &names, &nameless)?.as_slice() == b" : ns".as_slice());
     Ok(())
 }

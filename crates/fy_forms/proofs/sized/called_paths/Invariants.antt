@@ -5,4 +5,4 @@ use Rattle.fy_forms.proofs.sized.called_paths.Given as goal
 
 abbrev pub invariant-loop-path : goal.invariant-loop-path
 invariant-loop-path l =
-    paths_from (map plain_path (paths_in l.made)) ≡ called (plain_paths l.domain) (paths_from (map plain_path l.yielded))
+    paths_from (map plain_path (paths_in l.made)) ≡ called (plain_paths l.fn.domain) (paths_from (map plain_path l.yielded))

@@ -11,7 +11,7 @@ use Rattle.fy_types.proofs.subtype.+below.Goals.{is_path_below-then-xs-ys-via-th
 
 pub is_elem_below-returns-in-Call-y : goal.is_elem_below-returns-in-Call-y
 is_elem_below-returns-in-Call-y t c =
-    let both = c.are_paths_below.ensures in
+    let both = rw (c.deref.ensures, c.deref-in-Call-y.ensures) at c.are_paths_below.ensures in
     rw (c.in-Call.is, c.in-Call-y.is, plain_elem-Call c.in-Call.d, plain_elem-Call c.in-Call-y.e)
     (λ r. elem-call.1 (both.0 r), λ below. both.1 (elem-call.0 below))
 
