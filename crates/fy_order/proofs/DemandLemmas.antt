@@ -1,7 +1,9 @@
 -- First demands of paths, and lists of what is behind them.
-use Rattle.std.proofs.Common.{ℕ, zero, suc, ◌<◌, ◌≤◌, ◌≡◌, ◌≢◌, ◌↔◌, nat_eq, Bool, true, false, IsTrue, List, [], ◌∷◌, ◌++◌, length, map, drop, get_or, append_assoc, refl, sym, ap, ◌∙◌, if◌then◌else◌}
+use Rattle.std.proofs.Common.{ℕ, zero, suc, ◌<◌, ◌≤◌, ◌≡◌, ◌≢◌, ◌↔◌, nat_eq, Bool, true, false, IsTrue, List, [], ◌∷◌, ◌++◌, length, map, drop, get_or, append_assoc, refl, sym, ap, ◌∙◌, if◌then◌else◌, arith}
 use Rattle.std.proofs.lemmas.Bool.{ne_eqb}
 use Rattle.std.proofs.lemmas.List.{append-nil, drop-map, map-append}
+use Rattle.std.specs.declared.alloc.Global.{Global}
+use Rattle.std.specs.declared.rc.Rc.{Rc}
 use Rattle.fy_types.specs.declared.types.Atom.{Atom}
 use Rattle.fy_types.specs.declared.paths.ElemList.{ElemList}
 use Rattle.fy_types.specs.declared.paths.Path.{Path, out-Path, roll-Path}
@@ -9,20 +11,21 @@ use Rattle.fy_types.specs.declared.paths.PathElem.{PathElem, Call, Field}
 use Rattle.fy_types.specs.declared.paths.Paths.{Paths}
 use Rattle.fy_types.specs.Subtyping.{IsSubtype}
 use Rattle.fy_types.specs.Paths.{PlainPath, PlainPaths, end, call, pick, no_paths, and_path, append, type_of_paths}
-use Rattle.fy_types.specs.PathOrder.{IsEndBelow}
+use Rattle.fy_types.specs.PathOrder.{IsEndBelow, HasBelow, and_above, none_left}
 use Rattle.fy_types.specs.Reading.{PlainElem, a_call, a_field, front, fronted, plain_elem, plain_elems, plain_path, plain_paths, elems_in, paths_from}
 use Rattle.fy_types.specs.Bounds.{is_end_low}
 use Rattle.fy_types.proofs.Laws.{append_assoc as appended_assoc}
 use Rattle.fy_types.proofs.Central.{forms-iff}
 use Rattle.fy_types.proofs.ReadLemmas.{plain_path-at, plain_path-made, plain_elems-at, plain_elem-Call, plain_elem-Field}
 use Rattle.fy_types.proofs.Making.{made-push}
+use Rattle.fy_types.proofs.OnceLemmas.{both_true}
 use Rattle.fy_types.proofs.Steps.{drop_item, drop_end}
 use Rattle.fy_types.proofs.BoundLemmas.{is_end_low-sound, is_end_low-complete}
 use Rattle.fy_derive.specs.Kinds.{Kind, of_field, begins}
 use Rattle.fy_derive.specs.Least.{if_passed, rest_of_call, rest_of_field, others}
-use Rattle.fy_derive.specs.Subsumption.{path_below, paths_below}
-use Rattle.fy_derive.proofs.SubsumptionLemmas.{paths_below-iff}
-use Rattle.fy_order.specs.Demands.{takes_argument, behind}
+use Rattle.fy_derive.specs.Subsumption.{path_below, paths_below, some_below}
+use Rattle.fy_derive.proofs.SubsumptionLemmas.{some_below-sound, ArePathsBelow-le, paths_below-iff}
+use Rattle.fy_order.specs.Demands.{takes, takes_argument, behind}
 
 pub behind-fronted : (n : ℕ) (xs : List PlainElem) (a : Atom) → behind n (fronted xs (end a)) ≡ fronted (drop n xs) (end a)
 behind-fronted zero xs a = refl
@@ -61,6 +64,13 @@ same_truth false false f g = refl
 pub end-test : (r : Bool) (a b : Atom) → (IsTrue r ↔ IsEndBelow a b) → r ≡ is_end_low a b
 end-test r a b h = same_truth r (is_end_low a b) (λ t. is_end_low-complete (h.0 t)) (λ t. h.1 (is_end_low-sound a b t))
 
+-- the test that a path has one below it
+pub some-test : (r : Bool) (P : PlainPaths) (q : PlainPath) → (IsTrue r ↔ HasBelow P q) → r ≡ some_below P q
+some-test r P q h =
+    same_truth r (some_below P q)
+    (λ t. (both_true (some_below P q) true (ArePathsBelow-le (and_above (h.0 t) none_left))).0)
+    (λ t. h.1 (some_below-sound P q t))
+
 pub below-test : (r : Bool) (P Q : PlainPaths) → (IsTrue r ↔ IsSubtype (type_of_paths P) (type_of_paths Q)) → r ≡ paths_below P Q
 below-test r P Q h =
     same_truth r (paths_below P Q)
@@ -68,8 +78,8 @@ below-test r P Q h =
     (λ t. h.1 ((forms-iff P Q).1 ((paths_below-iff P Q).0 t)))
 
 -- what a path takes whose first element is a call, or a field
-pub takes-call : (Q : PlainPaths) (p : Path) (xs : List PathElem) (x : PathElem) (d : Paths) → plain_elems (out-Path p).elems ≡ map plain_elem xs →
-    0 < length xs → x ≡ get_or xs 0 x → x ≡ Call d → takes_argument Q (plain_path p) ≡ paths_below Q (plain_paths d)
+pub takes-call : (Q : PlainPaths) (p : Path) (xs : List PathElem) (x : PathElem) (d : Rc Paths Global) → plain_elems (out-Path p).elems ≡ map plain_elem xs →
+    0 < length xs → x ≡ get_or xs 0 x → x ≡ Call d → takes_argument Q (plain_path p) ≡ paths_below Q (plain_paths d.value)
 takes-call Q p xs x d e l is f =
     ap (takes_argument Q) (path-front p xs x e l is)
     ∙ ap (λ y. takes_argument Q (front y (fronted (map plain_elem (drop 1 xs)) (end (out-Path p).end)))) (ap plain_elem f ∙ plain_elem-Call d)
@@ -105,6 +115,21 @@ pub moved-one : (xs : List PathElem) (x : PathElem) (y : PlainElem) (ys zs : Lis
 moved-one xs x y ys zs e d =
     ap (λ l. l ++ zs) (map-append plain_elem xs (x ∷ []))
     ∙ (append_assoc (map plain_elem xs) (plain_elem x ∷ []) zs ∙ ap (λ l. map plain_elem xs ++ l) (ap (λ z. z ∷ zs) e ∙ sym d))
+
+-- a list of flags with one more, before what is left
+pub flagged-one : (ts : List Bool) (a b : Bool) (R S : List Bool) → a ≡ b → S ≡ b ∷ R → (ts ++ a ∷ []) ++ R ≡ ts ++ S
+flagged-one ts a b R S e d = append_assoc ts (a ∷ []) R ∙ ap (λ l. ts ++ l) (ap (λ z. z ∷ R) e ∙ sym d)
+
+-- a flag for each path
+pub takes-length : (Q : PlainPaths) (xs : List Path) → length (takes Q (paths_from (map plain_path xs))) ≡ length xs
+takes-length Q [] = refl
+takes-length Q (x ∷ xs) = ap suc (takes-length Q xs)
+
+pub takes-at : (Q : PlainPaths) (xs : List Path) (k : ℕ) (x : Path) (b : Bool) → k < length xs → x ≡ get_or xs k x →
+    get_or (takes Q (paths_from (map plain_path xs))) k b ≡ takes_argument Q (plain_path x)
+takes-at Q [] k x b within is = absurd (omega (arith, within))
+takes-at Q (y ∷ xs) zero x b within is = ap (λ z. takes_argument Q (plain_path z)) (sym is)
+takes-at Q (y ∷ xs) (suc k) x b within is = takes-at Q xs k x b (omega (arith, within)) is
 
 pub rest-taken : (Q : PlainPaths) (p : PlainPath) → true ≡ takes_argument Q p → rest_of_call Q p ≡ and_path (behind 1 p) no_paths
 rest-taken Q (end a) e = absurd (cc)

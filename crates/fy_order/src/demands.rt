@@ -2,7 +2,8 @@
 
 ghost use Rattle.std.specs.Prelude.{◌≡◌, IfOk};
 ghost use Rattle.fy_order.specs.Indexed.{indexed, IsWhole};
-ghost use Rattle.fy_types.specs.Paths.{PlainPath, end};
+ghost use Rattle.fy_forms.specs.Keys.{lent};
+ghost use Rattle.fy_types.specs.Paths.{PlainPath, PlainPaths, end};
 ghost use Rattle.fy_types.specs.Reading.{front, plain_elem, plain_path, plain_paths};
 ghost use Rattle.fy_derive.specs.Kinds.{begins as begins_of};
 ghost use Rattle.fy_derive.specs.Least.{
@@ -13,10 +14,10 @@ ghost use Rattle.fy_derive.specs.Least.{
   rests_of_field as rests_of_field_of,
 };
 ghost use Rattle.fy_derive.specs.Standing.{plain_kind};
-ghost use Rattle.fy_derive.specs.Subsumption.{path_below, paths_below};
-ghost use Rattle.fy_order.specs.Demands.{behind, takes_argument as takes_argument_of};
+ghost use Rattle.fy_derive.specs.Subsumption.{path_below, paths_below, some_below, some_passes};
+ghost use Rattle.fy_order.specs.Demands.{behind, takes as takes_of, takes_argument as takes_argument_of};
 
-use crate::keyed::{PathIndex, is_form_below};
+use crate::keyed::{PathIndex, is_form_below, is_some_below};
 use fy_base::OutOfMemory;
 use fy_derive::{Demand, is_acceptor};
 use fy_types::{Atom, ElemList, Name, Path, PathElem, Paths, copy_paths, is_end_below};
@@ -53,6 +54,18 @@ pub fn are_paths_below(alloc: Global, a: &Paths, b: &Paths) -> Result<bool, OutO
     is_form_below(alloc, a, b)
 }
 
+/// Whether one of the paths is below one of the form's.
+pub fn is_one_below(alloc: Global, list: &[&Path], form: &Paths) -> Result<bool, OutOfMemory>
+    ensures { IfOk result (λ r. r ≡ some_passes (some_below (lent list.now)) (plain_paths form.now)) }
+{
+    for above in form.as_slice() {
+        if is_some_below(alloc, list, above)? {
+            return Ok(true);
+        }
+    }
+    Ok(false)
+}
+
 fn ends_in(path: &Path, atom: Atom) -> bool
     ensures { result ≡ path_below (plain_path path.now) (end atom) }
 {
@@ -60,36 +73,53 @@ fn ends_in(path: &Path, atom: Atom) -> bool
     elems.len() == 0 && is_end_below(path.end, atom)
 }
 
-/// The rests of the paths that begin with a call that takes such an argument.
-pub fn rests_of_call(alloc: Global, argument: &Paths, paths: &Paths) -> Result<Paths, OutOfMemory>
-    ensures { IfOk result
-        (λ made. plain_paths made ≡ rests_of_call_of (plain_paths argument.now) (plain_paths paths.now)) }
+/// Whether each of the paths begins with a call that takes such an argument.
+pub fn takers(alloc: Global, argument: &Paths, paths: &Paths) -> Result<Vec<bool>, OutOfMemory>
+    ensures { IfOk result (λ taken. taken.items ≡ takes_of (plain_paths argument.now) (plain_paths paths.now)) }
 {
     if paths.len() > 1 {
-        return rests_by_index(alloc, argument, paths);
+        return takers_by_index(alloc, argument, paths);
     }
-    let mut rests = Paths::new(alloc);
+    let mut taken = Vec::new(alloc);
     for path in paths.as_slice() {
-        if takes_argument(alloc, path, argument)? {
+        taken.push(takes_argument(alloc, path, argument)?)?;
+    }
+    Ok(taken)
+}
+
+// The same, where an index of the argument is made once for all the paths.
+fn takers_by_index(alloc: Global, argument: &Paths, paths: &Paths) -> Result<Vec<bool>, OutOfMemory>
+    ensures { IfOk result (λ taken. taken.items ≡ takes_of (plain_paths argument.now) (plain_paths paths.now)) }
+{
+    let index = PathIndex::of(alloc, argument)?;
+    let mut taken = Vec::with_capacity(alloc, paths.len())?;
+    for path in paths.as_slice() {
+        taken.push(takes_indexed(alloc, path, &index)?)?;
+    }
+    Ok(taken)
+}
+
+/// The rests of the paths whose flags are set, which are those that begin with a call that takes an argument.
+pub fn rests_of_takers(alloc: Global, taken: &[bool], paths: &Paths) -> Result<Paths, OutOfMemory>
+    ensures { IfOk result (λ made. (Q : PlainPaths) → taken.now ≡ takes_of Q (plain_paths paths.now)
+        → plain_paths made ≡ rests_of_call_of Q (plain_paths paths.now)) }
+{
+    let mut rests = Paths::new(alloc);
+    for (place, path) in paths.as_slice().iter().enumerate() {
+        if place < taken.len() && taken[place] {
             rests.push(copy_from(alloc, path, 1)?)?;
         }
     }
     Ok(rests)
 }
 
-// The same, where an index of the argument is made once for all the paths.
-fn rests_by_index(alloc: Global, argument: &Paths, paths: &Paths) -> Result<Paths, OutOfMemory>
+/// The rests of the paths that begin with a call that takes such an argument.
+pub fn rests_of_call(alloc: Global, argument: &Paths, paths: &Paths) -> Result<Paths, OutOfMemory>
     ensures { IfOk result
         (λ made. plain_paths made ≡ rests_of_call_of (plain_paths argument.now) (plain_paths paths.now)) }
 {
-    let index = PathIndex::of(alloc, argument)?;
-    let mut rests = Paths::new(alloc);
-    for path in paths.as_slice() {
-        if takes_indexed(alloc, path, &index)? {
-            rests.push(copy_from(alloc, path, 1)?)?;
-        }
-    }
-    Ok(rests)
+    let taken = takers(alloc, argument, paths)?;
+    rests_of_takers(alloc, taken.as_slice(), paths)
 }
 
 /// The rests of the paths that begin with the field.
@@ -200,7 +230,7 @@ fn copy_elem(alloc: Global, elem: &PathElem) -> Result<PathElem, OutOfMemory>
     ensures { IfOk result (λ made. plain_elem made ≡ plain_elem elem.now) }
 {
     match elem {
-        PathElem::Call(domain) => Ok(PathElem::Call(copy_paths(alloc, domain)?)),
+        PathElem::Call(domain) => Ok(PathElem::Call(domain.clone()?)),
         PathElem::Field(name) => Ok(PathElem::Field(*name)),
     }
 }

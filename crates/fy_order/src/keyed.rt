@@ -169,8 +169,8 @@ fn is_at_below(
     }
 }
 
-// How many paths stand in the path's domains, itself counted.
-fn weight(path: &Path) -> usize {
+/// How many paths stand in the path's domains, itself counted.
+pub fn weight(path: &Path) -> usize {
     let mut sum: usize = 1;
     for elem in path.elems.as_slice() {
         if let PathElem::Call(domain) = elem {
@@ -253,8 +253,13 @@ fn is_found_below(
     Ok(false)
 }
 
+/// Whether one of the paths is below the path.
 #[cycle(keyed)]
-fn is_some_below(alloc: Global, list: &[&Path], above: &Path) -> Result<bool, OutOfMemory>
+pub(crate) fn is_some_below(
+    alloc: Global,
+    list: &[&Path],
+    above: &Path,
+) -> Result<bool, OutOfMemory>
     ensures { IfOk result (λ r. IsTrue r ↔ HasBelow (lent list.now) (plain_path above.now)) }
 {
     for path in list {

@@ -7,13 +7,15 @@ use Rattle.fy_order.proofs.alike.is_alike.Goals as goal
 
 pub returns-then-is_subtype-clause-low : goal.returns-then-is_subtype-clause-low
 returns-then-is_subtype-clause-low c =
+    let both = rw (c.deref-then-is_subtype.ensures, c.deref-then-is_subtype-2.ensures) at c.is_subtype-then-is_subtype.ensures in
     rw (c.in-Call.is, c.in-Call-y.is, plain_elem-Call c.in-Call.d, plain_elem-Call c.in-Call-y.e)
-    (λ r. elem-call.1 ((forms-iff (plain_paths c.in-Call-y.e) (plain_paths c.in-Call.d)).0 (c.is_subtype-then-is_subtype.ensures.0 r)))
+    (λ r. elem-call.1 ((forms-iff (plain_paths c.in-Call-y.e.value) (plain_paths c.in-Call.d.value)).0 (both.0 r)))
 
 pub returns-then-is_subtype-clause-high : goal.returns-then-is_subtype-clause-high
 returns-then-is_subtype-clause-high c =
+    let both = rw (c.deref.ensures, c.deref-in-Call-y.ensures) at c.is_subtype.ensures in
     rw (c.in-Call.is, c.in-Call-y.is, plain_elem-Call c.in-Call.d, plain_elem-Call c.in-Call-y.e)
-    (λ r. elem-call.1 ((forms-iff (plain_paths c.in-Call.d) (plain_paths c.in-Call-y.e)).0 (c.is_subtype.ensures.0 c.if-is_subtype.true)))
+    (λ r. elem-call.1 ((forms-iff (plain_paths c.in-Call.d.value) (plain_paths c.in-Call-y.e.value)).0 (both.0 c.if-is_subtype.true)))
 
 pub returns-in-Field-y-2-clause-low : goal.returns-in-Field-y-2-clause-low
 returns-in-Field-y-2-clause-low c =

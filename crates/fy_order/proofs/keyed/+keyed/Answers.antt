@@ -21,7 +21,8 @@ use Rattle.fy_order.proofs.keyed.+keyed.Goals.{is_found_below-else-place-members
 pub is_elem_below-returns-in-Call-y : goal.is_elem_below-returns-in-Call-y
 is_elem_below-returns-in-Call-y t c =
     IfOk-weaker c.are_paths_below.result _ _
-    (λ r both. rw (c.in-Call.is, c.in-Call-y.is, plain_elem-Call c.in-Call.d, plain_elem-Call c.in-Call-y.e)
+    (λ r test. let both = rw (c.deref.ensures, c.deref-in-Call-y.ensures) at test in
+    rw (c.in-Call.is, c.in-Call-y.is, plain_elem-Call c.in-Call.d, plain_elem-Call c.in-Call-y.e)
     (λ s. elem-call.1 (both.0 s), λ below. both.1 (elem-call.0 below))) c.are_paths_below.ensures
 
 pub is_elem_below-returns-in-Field-y-2 : goal.is_elem_below-returns-in-Field-y-2

@@ -1,4 +1,4 @@
-use Rattle.std.proofs.Common.{◌+◌, ◌++◌, ◌≡◌, [], map, drop, sym, subst, add-one}
+use Rattle.std.proofs.Common.{◌+◌, ◌++◌, ◌≡◌, [], map, drop, sym, ap, ◌∙◌, subst, add-one}
 use Rattle.fy_types.specs.Paths.{end}
 use Rattle.fy_types.specs.Reading.{plain_elem, plain_path, plain_paths, paths_from, front, fronted, a_call, a_field}
 use Rattle.fy_types.proofs.ReadLemmas.{plain_path-at, plain_elem-Call, plain_elem-Field}
@@ -25,9 +25,9 @@ loop-tag-preserved c =
     elim c.match-elem.branch [
       | in-Call+in_ok-reserve_exact+in_ok-add_places w ↦
           let V = met_in w.add_places.new.met in
-          let D = plain_paths w.in-Call.domain in
+          let D = plain_paths w.in-Call.domain.value in
           let is : plain_elem c.elem-item.result ≡ a_call D = rw w.in-Call.is (plain_elem-Call w.in-Call.domain) in
-          let reads : paths_from (map plain_path w.as_slice.result.now) ≡ D = sym w.as_slice.ensures.reading in
+          let reads : paths_from (map plain_path w.as_slice.result.now) ≡ D = sym w.as_slice.ensures.reading ∙ ap plain_paths w.deref-in-Call.ensures in
           let left = subst (λ k. ArePlaced T U [] c.loop-tag.places.items (all_tagged n D ++ inner_from k more) all) (sym (add-one n)) (rw is at now) in
           let grown = subst (λ P. IsGrown U V (all_tagged n P)) reads w.in_ok-add_places.ensures.grown in
           rw (w.met-is, w.places-is)
