@@ -1,5 +1,6 @@
 -- Path forms of written types, each path once.
-use Rattle.std.proofs.Common.{Box, Global, ℕ, ◌+◌, ◌<◌, ◌≤◌, ◌≡◌, Bool, true, false, ◌&&◌, List, length, map, take, drop, get_or, eq-eqb, inl, inr, refl, sym, ap, ◌∙◌, subst, arith, if◌then◌else◌}
+use Rattle.std.specs.declared.rc.Rc.{Rc}
+use Rattle.std.proofs.Common.{Global, ℕ, ◌+◌, ◌<◌, ◌≤◌, ◌≡◌, Bool, true, false, ◌&&◌, List, length, map, take, drop, get_or, eq-eqb, inl, inr, refl, sym, ap, ◌∙◌, subst, arith, if◌then◌else◌}
 use Rattle.std.proofs.lemmas.List.{take-append-drop, map-append}
 use Rattle.fy_types.specs.declared.types.Ty as tree
 use Rattle.fy_types.specs.declared.types.Ty.{Ty}
@@ -79,26 +80,26 @@ large-picked i P large = subst IsTooLarge (sym (once-picked i P)) (by_limit larg
     by_limit (inr deep) = inr (omega (arith, picked-nesting i (once P)))
 
 -- types by their forms
-pub arrow-once : (t : Ty) (a b : Box Ty Global) (x y : Ty) (P : PlainPaths) → t ≡ tree.Arrow a b → x ≡ a.value → y ≡ b.value →
+pub arrow-once : (t : Ty) (a b : Rc Ty Global) (x y : Ty) (P : PlainPaths) → t ≡ tree.Arrow a b → x ≡ a.value → y ≡ b.value →
     P ≡ once (paths (plain_type y)) → called (paths (plain_type x)) P ≡ once (paths (plain_type t))
 arrow-once t a b x y P is from to made =
     ap (λ z. called (paths (plain_type z)) P) from
     ∙ (ap (called (paths (plain_type a.value))) (made ∙ ap (λ z. once (paths (plain_type z))) to)
     ∙ (sym (once-called (paths (plain_type a.value)) (paths (plain_type b.value))) ∙ ap (λ A. once (paths A)) (sym (reads_arrow t a b is))))
 
-pub arrow-large : (t : Ty) (a b : Box Ty Global) (y : Ty) → t ≡ tree.Arrow a b → y ≡ b.value →
+pub arrow-large : (t : Ty) (a b : Rc Ty Global) (y : Ty) → t ≡ tree.Arrow a b → y ≡ b.value →
     IsTooLarge (once (paths (plain_type y))) → IsTooLarge (once (paths (plain_type t)))
 arrow-large t a b y is to large =
     subst (λ A. IsTooLarge (once (paths A))) (sym (reads_arrow t a b is))
     (large-called (paths (plain_type a.value)) (paths (plain_type b.value)) (subst (λ z. IsTooLarge (once (paths (plain_type z)))) to large))
 
-pub field-once : (t : Ty) (i : ℕ) (a : Box Ty Global) (x : Ty) (P : PlainPaths) → t ≡ tree.Field i a → x ≡ a.value →
+pub field-once : (t : Ty) (i : ℕ) (a : Rc Ty Global) (x : Ty) (P : PlainPaths) → t ≡ tree.Field i a → x ≡ a.value →
     P ≡ once (paths (plain_type x)) → picked i P ≡ once (paths (plain_type t))
 field-once t i a x P is part made =
     ap (picked i) (made ∙ ap (λ z. once (paths (plain_type z))) part)
     ∙ (sym (once-picked i (paths (plain_type a.value))) ∙ ap (λ A. once (paths A)) (sym (reads_field t i a is)))
 
-pub field-large : (t : Ty) (i : ℕ) (a : Box Ty Global) (x : Ty) → t ≡ tree.Field i a → x ≡ a.value →
+pub field-large : (t : Ty) (i : ℕ) (a : Rc Ty Global) (x : Ty) → t ≡ tree.Field i a → x ≡ a.value →
     IsTooLarge (once (paths (plain_type x))) → IsTooLarge (once (paths (plain_type t)))
 field-large t i a x is part large =
     subst (λ A. IsTooLarge (once (paths A))) (sym (reads_field t i a is))

@@ -31,7 +31,7 @@ use fy_derive::{Demand, Derivation, DerivationList};
 use fy_forms::{meet_with, paths_of};
 use fy_memo::Memo;
 use fy_order::{are_paths_below, has, others, rests_of_field};
-use fy_types::{Atom, Name, Paths, Ty, copy_paths, copy_ty, ty_of};
+use fy_types::{Atom, Name, Paths, Ty, copy_paths, copy_ty};
 use fy_written::Form;
 use std::alloc::Global;
 
@@ -81,7 +81,7 @@ pub(crate) fn application(
         derivation: second,
         ..
     } = argument;
-    let derivation = call(alloc, &domain, &paths, procedure.derivation, second)?;
+    let derivation = call(alloc, &domain, &paths, procedure.derivation, second, memo)?;
     Found::new(paths, derivation, blame, total)
 }
 
@@ -93,12 +93,13 @@ fn call(
     paths: &Paths,
     procedure: Derivation,
     argument: Derivation,
+    memo: &mut Memo,
 ) -> Result<Derivation, OutOfMemory>
     ensures { IfOk result
         (λ d. IsCall (plain_paths domain.now) (plain_paths paths.now)
         (plain_derivation procedure) (plain_derivation argument) (plain_derivation d)) }
 {
-    let given = ty_of(alloc, domain)?;
+    let given = memo.ty_of(alloc, domain)?;
     let arrow = arrow_to(alloc, &given, paths)?;
     let first = to_type(alloc, arrow, procedure)?;
     let second = to_type(alloc, given, argument)?;
@@ -163,6 +164,7 @@ pub(crate) fn merge(
     right: Found,
     demand: Option<Demand>,
     at: Place,
+    memo: &mut Memo,
 ) -> Result<Found, LeastError>
     requires { once_of (plain_paths left.paths) ≡ plain_paths left.paths }
     ensures made { IfOk result
@@ -180,7 +182,7 @@ pub(crate) fn merge(
         return Ok(Found::none(alloc, blame, total));
     };
     let kept = others(alloc, demand, &left.paths)?;
-    let derivation = both_operands(alloc, &kept, left.derivation, right.derivation)?;
+    let derivation = both_operands(alloc, &kept, left.derivation, right.derivation, memo)?;
     let paths = meet_with(alloc, kept, &right.paths)?;
     Found::new(paths, derivation, blame, total)
 }
@@ -191,11 +193,13 @@ fn both_operands(
     paths: &Paths,
     left: Derivation,
     right: Derivation,
+    memo: &mut Memo,
 ) -> Result<Derivation, OutOfMemory>
     ensures { IfOk result
         (λ d. IsMerge (plain_paths paths.now) (plain_derivation left) (plain_derivation right) (plain_derivation d)) }
 {
-    let first = to_paths(alloc, paths, left)?;
+    let ty = memo.ty_of(alloc, paths)?;
+    let first = to_type(alloc, ty, left)?;
     let mut members = DerivationList::new(alloc);
     members.push(Derivation::Left(Box::new(alloc, first)?))?;
     members.push(Derivation::Right(Box::new(alloc, right)?))?;
@@ -281,7 +285,7 @@ pub(crate) fn conditional(
     }
     let paths = memo.join(alloc, &first.paths, &second.paths)?;
     let parts = (test.derivation, first.derivation, second.derivation);
-    let derivation = choice(alloc, &paths, parts)?;
+    let derivation = choice(alloc, &paths, parts, memo)?;
     Found::new(paths, derivation, blame, total)
 }
 
@@ -290,13 +294,14 @@ fn choice(
     alloc: Global,
     paths: &Paths,
     parts: (Derivation, Derivation, Derivation),
+    memo: &mut Memo,
 ) -> Result<Derivation, OutOfMemory>
     ensures { IfOk result
         (λ d. IsChoice (plain_paths paths.now) (plain_derivation parts.0) (plain_derivation parts.1)
         (plain_derivation parts.2) (plain_derivation d)) }
 {
     let (test, first, second) = parts;
-    let ty = ty_of(alloc, paths)?;
+    let ty = memo.ty_of(alloc, paths)?;
     let other = copy_ty(alloc, &ty)?;
     let mut premises = DerivationList::new(alloc);
     premises.push(to_atom(alloc, Atom::Bool, test)?)?;

@@ -17,6 +17,7 @@ use fy_base::{OutOfMemory, Place};
 use fy_derive::Derivation;
 use fy_types::{Atom, Name, Paths, Ty, copy_ty, ty_of};
 use std::alloc::Global;
+use std::rc::Rc;
 
 const MOST_NODES: u64 = 4096;
 
@@ -141,7 +142,7 @@ pub(crate) fn arrow_to(alloc: Global, domain: &Ty, paths: &Paths) -> Result<Ty, 
 {
     let from = copy_ty(alloc, domain)?;
     let back = ty_of(alloc, paths)?;
-    Ok(Ty::Arrow(Box::new(alloc, from)?, Box::new(alloc, back)?))
+    Ok(Ty::Arrow(Rc::new(alloc, from)?, Rc::new(alloc, back)?))
 }
 
 /// A type of what has a field of the name with the paths.
@@ -149,5 +150,5 @@ pub(crate) fn field_of(alloc: Global, name: Name, paths: &Paths) -> Result<Ty, O
     ensures { IfOk result (λ ty. IsFieldOf name (plain_paths paths.now) (plain_type ty)) }
 {
     let part = ty_of(alloc, paths)?;
-    Ok(Ty::Field(name, Box::new(alloc, part)?))
+    Ok(Ty::Field(name, Rc::new(alloc, part)?))
 }

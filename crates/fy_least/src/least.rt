@@ -266,7 +266,7 @@ fn found_in_merge(
     let demand = demand_of(right);
     let left = found_in(alloc, left, &*scope, &mut *memo)?;
     let right = found_in(alloc, right, &*scope, &mut *memo)?;
-    merge(alloc, left, right, demand, at)
+    merge(alloc, left, right, demand, at, &mut *memo)
 }
 
 #[cycle(least)]

@@ -1,1 +1,2 @@
 pub mod MemoLemmas
+pub mod BaseLemmas

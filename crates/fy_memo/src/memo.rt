@@ -1,27 +1,24 @@
-//! Rests of calls and joins, each made once.
+//! Rests of calls and joins, kept for calls and pairs that are much the same.
 
 ghost use Rattle.std.specs.Prelude.{◌≡◌, true, IfOk, IfSome, IsErrOf};
 ghost use Rattle.fy_types.specs.Bounds.{join_of};
 ghost use Rattle.fy_types.specs.Limits.{IsTooLarge};
 ghost use Rattle.fy_types.specs.Once.{are_same, once as once_of};
-ghost use Rattle.fy_types.specs.Reading.{plain_paths};
+ghost use Rattle.fy_types.specs.Nested.{IsTypeOf};
+ghost use Rattle.fy_types.specs.Reading.{plain_paths, plain_type};
 ghost use Rattle.fy_derive.specs.Least.{rests_of_call as rests_of_call_of};
+ghost use Rattle.fy_order.specs.Demands.{takes};
+ghost use Rattle.fy_types.specs.Paths.{PlainPaths};
 
+use crate::known::Known;
+use crate::places::{Places, place_of, was_asked};
+use crate::types::Types;
 use fy_base::OutOfMemory;
-use fy_forms::{TypeError, are_same_paths, join, meet, mixed, number_of_form};
-use fy_order::rests_of_call;
-use fy_types::{Paths, copy_paths};
+use fy_forms::{TypeError, are_same_paths, join, meet, mixed, number_of, number_of_form};
+use fy_order::{rests_of_takers, takers, weight};
+use fy_types::{Paths, Ty, copy_paths};
 use std::alloc::Global;
 use std::collections::BTreeMap;
-
-/// The rests of a procedure's paths that take an argument, each once.
-#[derive(Drop)]
-struct Call {
-    argument: Paths,
-    procedure: Paths,
-    rests: Paths,
-    ghost right: { are_same (plain_paths rests) (once_of (rests_of_call_of (plain_paths argument) (plain_paths procedure))) ≡ true },
-}
 
 /// The join of two forms.
 #[derive(Drop)]
@@ -32,27 +29,25 @@ struct Join {
     ghost right: { are_same (plain_paths joined) (join_of (plain_paths first) (plain_paths second)) ≡ true },
 }
 
-/// Where the last pair of each number stands that was asked for twice, and none for one that was asked
-/// for once.
-type Places = BTreeMap<u64, Option<usize>>;
-
-/// What was answered. An answer is kept from the second time on that a pair is asked for.
+/// What was answered. It is kept from the second time on that a call of a number, or a pair, is asked for.
 #[derive(Drop)]
 pub struct Memo {
-    calls: Vec<Call>,
+    knowns: Vec<Known>,
     joins: Vec<Join>,
     call_places: Places,
     join_places: Places,
+    types: Types,
 }
 
 impl Memo {
     /// No answers. It takes no memory.
     pub fn new(alloc: Global) -> Memo {
         Memo {
-            calls: Vec::new(alloc),
+            knowns: Vec::new(alloc),
             joins: Vec::new(alloc),
             call_places: BTreeMap::new(alloc),
             join_places: BTreeMap::new(alloc),
+            types: Types::new(alloc),
         }
     }
 
@@ -72,53 +67,95 @@ impl Memo {
         ensures large { IsErrOf result TypeError.TypeTooLarge →
             IsTooLarge (once_of (rests_of_call_of (plain_paths argument.now) (plain_paths procedure.now))) }
     {
-        let number = number_of_pair(argument, procedure);
-        if let Some(rests) = self.find_call(number, argument, procedure) {
+        let number = number_of_call(argument, procedure);
+        if let Some(rests) = self.find_rests(alloc, number, argument, procedure)? {
             let copied = copy_paths(alloc, rests)?;
             return Ok(copied);
         }
-        let rests = rests_once(alloc, argument, procedure)?;
+        let taken = takers(alloc, argument, procedure)?;
+        let rests = rests_once(alloc, taken.as_slice(), procedure)?;
         if was_asked(&mut self.call_places, number)? {
-            self.keep_call(alloc, number, (argument, procedure), &rests)?;
+            self.keep_rests(alloc, number, (argument, procedure), taken, &rests)?;
         }
         Ok(rests)
     }
 
-    fn find_call(&self, number: u64, argument: &Paths, procedure: &Paths) -> Option<&Paths>
-        ensures { IfSome result
-            (λ rests. plain_paths rests.now ≡ once_of (rests_of_call_of (plain_paths argument.now) (plain_paths procedure.now))) }
+    /// A type that has the paths of the form.
+    pub fn ty_of(&mut self, alloc: Global, form: &Paths) -> Result<Ty, OutOfMemory>
+        ensures { IfOk result (λ ty. IsTypeOf (plain_paths form.now) (plain_type ty)) }
     {
+        self.types.ty_of(alloc, form)
+    }
+
+    fn known_at(&self, number: u64) -> Option<&Known> {
         let place = place_of(&self.call_places, number)?;
-        if place >= self.calls.len() {
-            return None;
-        }
-        let call = &self.calls[place];
-        if are_same_paths(&call.argument, argument) && are_same_paths(&call.procedure, procedure) {
-            Some(&call.rests)
+        if place < self.knowns.len() {
+            Some(&self.knowns[place])
         } else {
             None
         }
     }
 
-    fn keep_call(
+    fn find_rests(
+        &self,
+        alloc: Global,
+        number: u64,
+        argument: &Paths,
+        procedure: &Paths,
+    ) -> Result<Option<&Paths>, OutOfMemory>
+        ensures { IfOk result (λ found. IfSome found
+            (λ rests. plain_paths rests.now ≡ once_of (rests_of_call_of (plain_paths argument.now) (plain_paths procedure.now)))) }
+    {
+        match self.known_at(number) {
+            Some(known) => known.rests_for(alloc, argument, procedure),
+            None => Ok(None),
+        }
+    }
+
+    // Keeps what is known of the call, in place of what was known at the number.
+    fn keep_rests(
         &mut self,
         alloc: Global,
         number: u64,
         pair: (&Paths, &Paths),
+        taken: Vec<bool>,
         rests: &Paths,
     ) -> Result<(), OutOfMemory>
-        requires { plain_paths rests.now ≡ once_of (rests_of_call_of (plain_paths pair.0.now) (plain_paths pair.1.now)) }
+        requires taken { taken.items ≡ takes (plain_paths pair.0.now) (plain_paths pair.1.now) }
+        requires rests { plain_paths rests.now ≡ once_of (rests_of_call_of (plain_paths pair.0.now) (plain_paths pair.1.now)) }
     {
-        let argument = copy_paths(alloc, pair.0)?;
+        let base = self.base_for(alloc, number, pair, taken.as_slice())?;
         let procedure = copy_paths(alloc, pair.1)?;
         let rests = copy_paths(alloc, rests)?;
-        self.call_places.insert(number, Some(self.calls.len()))?;
-        self.calls.push(Call {
-            argument,
-            procedure,
-            rests,
-        })?;
+        let known = Known::new(procedure, base, taken, rests);
+        match place_of(&self.call_places, number) {
+            Some(place) if place < self.knowns.len() => self.knowns[place] = known,
+            _ => {
+                self.call_places.insert(number, Some(self.knowns.len()))?;
+                self.knowns.push(known)?;
+            }
+        }
         Ok(())
+    }
+
+    // What the argument has in common with the base that is known at the number, if the procedure takes it by the same paths. Else the
+    // argument.
+    fn base_for(
+        &self,
+        alloc: Global,
+        number: u64,
+        pair: (&Paths, &Paths),
+        taken: &[bool],
+    ) -> Result<Paths, OutOfMemory>
+        requires { taken.now ≡ takes (plain_paths pair.0.now) (plain_paths pair.1.now) }
+        ensures { IfOk result (λ base. taken.now ≡ takes (plain_paths base) (plain_paths pair.entry.1.now)) }
+    {
+        if let Some(known) = self.known_at(number) {
+            if let Some(base) = known.base_with(alloc, pair.0, pair.1, taken)? {
+                return Ok(base);
+            }
+        }
+        copy_paths(alloc, pair.0)
     }
 
     /// The join of the two forms.
@@ -180,30 +217,39 @@ impl Memo {
     }
 }
 
-fn rests_once(alloc: Global, argument: &Paths, procedure: &Paths) -> Result<Paths, TypeError>
-    ensures ok { IfOk result
-        (λ made. plain_paths made ≡ once_of (rests_of_call_of (plain_paths argument.now) (plain_paths procedure.now))) }
-    ensures large { IsErrOf result TypeError.TypeTooLarge →
-        IsTooLarge (once_of (rests_of_call_of (plain_paths argument.now) (plain_paths procedure.now))) }
+// The rests of the paths whose flags are set, each once.
+fn rests_once(alloc: Global, taken: &[bool], procedure: &Paths) -> Result<Paths, TypeError>
+    ensures ok { IfOk result (λ made. (Q : PlainPaths) → taken.now ≡ takes Q (plain_paths procedure.now)
+        → plain_paths made ≡ once_of (rests_of_call_of Q (plain_paths procedure.now))) }
+    ensures large { IsErrOf result TypeError.TypeTooLarge → (Q : PlainPaths) → taken.now ≡ takes Q (plain_paths procedure.now)
+        → IsTooLarge (once_of (rests_of_call_of Q (plain_paths procedure.now))) }
 {
-    let rests = rests_of_call(alloc, argument, procedure)?;
+    let rests = rests_of_takers(alloc, taken, procedure)?;
     meet(alloc, &Paths::new(alloc), &rests)
+}
+
+// Few calls have one number, if their procedures aren't the same, or the heaviest paths of their arguments.
+fn number_of_call(argument: &Paths, procedure: &Paths) -> u64 {
+    mixed(number_of_form(procedure), number_of_heaviest(argument))
+}
+
+// The number of the heaviest path, and the greatest number of those that are as heavy.
+fn number_of_heaviest(form: &Paths) -> u64 {
+    let mut heaviest: usize = 0;
+    let mut number: u64 = 0;
+    for path in form.as_slice() {
+        let weight = weight(path);
+        if weight > heaviest {
+            heaviest = weight;
+            number = number_of(path);
+        } else if weight == heaviest {
+            number = number.max(number_of(path));
+        }
+    }
+    number
 }
 
 // Few pairs have one number, if they are not the same.
 fn number_of_pair(a: &Paths, b: &Paths) -> u64 {
     mixed(number_of_form(a), number_of_form(b))
-}
-
-fn place_of(places: &Places, number: u64) -> Option<usize> {
-    *places.get(&number)?
-}
-
-// Whether a pair of the number was asked for before. It is from now on.
-fn was_asked(places: &mut Places, number: u64) -> Result<bool, OutOfMemory> {
-    if places.get(&number).is_some() {
-        return Ok(true);
-    }
-    places.insert(number, None)?;
-    Ok(false)
 }

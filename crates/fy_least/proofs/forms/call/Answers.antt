@@ -10,5 +10,5 @@ returns c =
     (λ d e. call-made (plain_paths c.args.domain.now) (plain_paths c.args.paths.now) (plain_type c.in_ok-given.given) (plain_type c.in_ok-arrow.arrow)
     (plain_derivation c.args.procedure) (plain_derivation c.args.argument)
     (plain_derivation c.in_ok-first.first) (plain_derivation c.in_ok-second.second) (plain_derivation d)
-    (c.in_ok-given.ensures.made, c.in_ok-given.ensures.nesting, c.in_ok-given.ensures.full, c.in_ok-given.ensures.fields) c.in_ok-arrow.ensures c.in_ok-first.ensures c.in_ok-second.ensures e)
+    c.in_ok-given.ensures c.in_ok-arrow.ensures c.in_ok-first.ensures c.in_ok-second.ensures e)
     c.rule_of_two.ensures
