@@ -145,6 +145,38 @@ merges "$procedures" "$procedures" 400 | measure '400 calls on 240 orders in pro
 deep="$(repeated '(' 12)(a%s: int)$(repeated ' -> int)' 12)"
 merges "$(each "$deep" 1 1 153)" "$(each "$deep" 153 -1 1)" 400 | measure '400 calls on 153 paths twelve deep, so'
 { printf 'lettype t == '; sorts; printf ' in lettype d == '; each '(a%s: int)' 1 1 7; printf ' & '; each '(b%s: int)' 1 1 7; printf ' in let p == \\f: '; each '(((d & (z%s: int)) -> int) -> comm)' 1 1 77; printf ' & (ns -> comm). \\x: t. (f (x, c1 == 1)'; for i in $(seq 2 1000); do printf '; f (x, c%s == 1)' "$i"; done; printf ') in skip'; } | measure '1,000 calls of 78 alternatives, so'
+# So many paths `(P & Q) -> int`, where P and Q are procedures that take procedures, drawn by numbers that follow from a first one; the last first, if the third word is -1.
+drawn() {
+    awk -v count="$1" -v state="$2" -v step="$3" '
+        function draw(n) { state = (state * 16807) % 2147483647; return state % n }
+        function member(level, k, i, s) {
+            if (level == 0) return "(a" draw(12) ": int)"
+            k = draw(3) + 1
+            for (i = 0; i < k; i++) s = s (i ? " & " : "") member(level - 1)
+            return "((" s ") -> int)"
+        }
+        BEGIN {
+            for (j = 0; j < count; j++) list[j] = "((" member(2) " & " member(2) ") -> int)"
+            for (j = 0; j < count; j++) printf "%s%s", (j ? " & " : ""), list[step < 0 ? count - 1 - j : j]
+        }'
+}
+merges "$(drawn 80 7 1)" "$(drawn 80 7 -1)" 1000 | measure '1,000 calls on procedures of procedures, so'
+# The same where the argument is a field of the record.
+{
+    printf 'lettype t == %s in lettype s == %s in let p == \\f: (g: s) -> comm. \\x: t. (skip' "$(drawn 80 7 1)" "$(drawn 80 7 -1)"
+    for i in $(seq 700); do printf '; f (g == (x, c%s == 1))' "$i"; done
+    printf ') in skip'
+} | measure '700 calls on a field of such procedures, so'
+# Calls whose arguments have no path in common, since each path stands behind a call of its own: with fields of ten, which the domain's calls all have.
+{
+    printf 'lettype t == %s in lettype d == ' "$(drawn 60 7 1)"
+    each '(c%s: int)' 1 1 10
+    printf ' in lettype s == %s in let p == \\f: (d -> s) -> comm. \\x: t. (skip' "$(drawn 60 7 -1)"
+    for i in $(seq 10); do for j in $(seq $((i + 1)) 10); do for k in $(seq $((j + 1)) 10); do for l in $(seq "$k" 10); do
+        printf '; f (\\z: (c%s: int) & (c%s: int) & (c%s: int) & (c%s: int). x)' "$i" "$j" "$k" "$l"
+    done; done; done; done
+    printf ') in skip'
+} | measure '330 calls on 60 such behind calls, none before'
 # Conditionals whose branches all differ, by a field more.
 joins() {
     printf 'lettype t == %s in lettype s == %s in let p == \\x: t. \\y: s. (' "$1" "$2"
