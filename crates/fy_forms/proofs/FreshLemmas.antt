@@ -19,7 +19,8 @@ use Rattle.fy_forms.specs.declared.rows.Table.{Table}
 use Rattle.fy_forms.specs.declared.rows.Row.{Row}
 use Rattle.fy_forms.specs.declared.fresh.Found.{Found}
 use Rattle.fy_forms.specs.declared.fresh.Known.{Known}
-use Rattle.fy_forms.specs.Keys.{Groups, group_at, lent}
+use Rattle.fy_forms.specs.declared.index.Groups.{Groups}
+use Rattle.fy_forms.specs.Keys.{group_at, lent}
 use Rattle.fy_forms.specs.Rows.{members, is_new, last, stands_for, IsRow, flag_at, lacks_flag, IsFlagged, IsEnough, IsFound, IsMet, IsKnown, KnownKeys, AreKnown}
 use Rattle.fy_forms.proofs.KeepLemmas.{commons_with-append, all_added-append}
 use Rattle.fy_forms.proofs.KeyLemmas.{lent-append, is_equal, group-alike}

@@ -1,7 +1,8 @@
 -- Common paths with those of a key alone, and with a list of lent paths.
-use Rattle.std.proofs.Common.{ℕ, ◌+◌, ◌<◌, ◌≡◌, Bool, true, false, cond, List, [], ◌∷◌, ◌++◌, length, map, filter, take, drop, get_or, eqb, eqb-true, if◌then◌else◌, refl, ap, sym, ◌∙◌, subst}
+use Rattle.std.proofs.Common.{ℕ, ◌+◌, ◌<◌, ◌%◌, ◌≡◌, eq-eqb, Bool, true, false, cond, List, [], ◌∷◌, ◌++◌, length, map, filter, take, drop, get_or, eqb, eqb-true, if◌then◌else◌, refl, ap, sym, ◌∙◌, subst}
 use Rattle.std.proofs.lemmas.List.{take-append-drop, take_more}
 use Rattle.std.proofs.lemmas.Cmp.{tied_itself, nat_cmp_total}
+use Rattle.std.proofs.lemmas.Map.Lookups.{exact_unsigned}
 use Rattle.std.specs.Borrow.{Bor}
 use Rattle.std.specs.Ordering.{is_eq, nat_cmp}
 use Rattle.fy_types.specs.declared.paths.Path.{Path}
@@ -12,11 +13,12 @@ use Rattle.fy_types.specs.Limits.{IsTooLarge}
 use Rattle.fy_types.specs.Bounds.{meet_of, is_end_low, common, commons_with}
 use Rattle.fy_types.specs.Keeping.{all_added}
 use Rattle.fy_forms.specs.Numbers.{mixed, class, key_from, key_of}
-use Rattle.fy_forms.specs.Keys.{has_key, Groups, group_at, IsIndex, lent}
+use Rattle.fy_forms.specs.declared.index.Groups.{Groups}
+use Rattle.fy_forms.specs.Keys.{IsIndex, group_at, has_slot, lent}
 use Rattle.fy_types.proofs.BoundLemmas.{is_end_low-sound}
 use Rattle.fy_types.proofs.Laws.{append-none}
 use Rattle.fy_forms.proofs.KeepLemmas.{commons_with-append, all_added-append, large-all_added}
-use Rattle.fy_forms.proofs.KeyLemmas.{class-below, lent-now, lent-append}
+use Rattle.fy_forms.proofs.KeyLemmas.{class-below, is_equal, lent-now, lent-append}
 
 -- paths whose keys differ have no common path
 common-apart : (n : ℕ) (p q : PlainPath) → is_eq (nat_cmp (key_from n q) (key_from n p)) ≡ false → common p q ≡ no_paths
@@ -51,17 +53,29 @@ common-apart n (pick i p) (pick j q) apart = cases (eqb i j) refl (common-apart 
     cases true e rest =
         ap (picked i) (rest (subst (λ k. is_eq (nat_cmp (key_from (mixed n (k + 1)) q) (key_from (mixed n (i + 1)) p)) ≡ false) (sym (eqb-true i j e)) apart))
 
-commons-key : (p : PlainPath) (ps : List Path) →
-    commons_with p (paths_from (map plain_path (filter (has_key (key_of p)) ps))) ≡ commons_with p (paths_from (map plain_path ps))
-commons-key p [] = refl
-commons-key p (q ∷ ps) = step (has_key (key_of p) q) refl (commons-key p ps)
+-- paths whose slots differ have no one key
+slots-apart : (n : ℕ) (p : PlainPath) (q : Path) → has_slot n (key_of p) q ≡ false → is_eq (nat_cmp (key_of (plain_path q)) (key_of p)) ≡ false
+slots-apart n p q apart = step (is_eq (nat_cmp (key_of (plain_path q)) (key_of p))) refl
   where
-    step : (b : Bool) → has_key (key_of p) q ≡ b →
-        commons_with p (paths_from (map plain_path (filter (has_key (key_of p)) ps))) ≡ commons_with p (paths_from (map plain_path ps)) →
-        commons_with p (paths_from (map plain_path (cond b (q ∷ filter (has_key (key_of p)) ps) (filter (has_key (key_of p)) ps))))
+    step : (b : Bool) → is_eq (nat_cmp (key_of (plain_path q)) (key_of p)) ≡ b → b ≡ false
+    step false e = refl
+    step true e =
+        let same : key_of (plain_path q) ≡ key_of p =
+        exact_unsigned (key_of (plain_path q)) (key_of p) (is_equal (nat_cmp (key_of (plain_path q)) (key_of p)) e) in
+        let near = eq-eqb (key_of (plain_path q) % n) (key_of p % n) (ap (λ k. k % n) same) in
+        absurd (cc)
+
+commons-slot : (n : ℕ) (p : PlainPath) (ps : List Path) →
+    commons_with p (paths_from (map plain_path (filter (has_slot n (key_of p)) ps))) ≡ commons_with p (paths_from (map plain_path ps))
+commons-slot n p [] = refl
+commons-slot n p (q ∷ ps) = step (has_slot n (key_of p) q) refl (commons-slot n p ps)
+  where
+    step : (b : Bool) → has_slot n (key_of p) q ≡ b →
+        commons_with p (paths_from (map plain_path (filter (has_slot n (key_of p)) ps))) ≡ commons_with p (paths_from (map plain_path ps)) →
+        commons_with p (paths_from (map plain_path (cond b (q ∷ filter (has_slot n (key_of p)) ps) (filter (has_slot n (key_of p)) ps))))
         ≡ append (common p (plain_path q)) (commons_with p (paths_from (map plain_path ps)))
     step true e rest = ap (append (common p (plain_path q))) rest
-    step false e rest = rw (common-apart 0 p (plain_path q) e) rest
+    step false e rest = rw (common-apart 0 p (plain_path q) (slots-apart n p q e)) rest
 
 -- the common paths with the candidates are those with the whole list
 pub commons-by_index : (m : Groups) (l : Paths) (p : PlainPath) (ps : List Path) (list : List (Bor Path)) →
@@ -70,7 +84,7 @@ pub commons-by_index : (m : Groups) (l : Paths) (p : PlainPath) (ps : List Path)
 commons-by_index m l p ps list index at form =
     ap (commons_with p) (lent-now list ∙ ap (λ xs. paths_from (map plain_path (map (λ (x : Bor Path). x.now) xs))) at
     ∙ ap (λ xs. paths_from (map plain_path xs)) (index (key_of p)))
-    ∙ (commons-key p ps ∙ ap (commons_with p) (sym form))
+    ∙ (commons-slot (length m.lists.items) p ps ∙ ap (commons_with p) (sym form))
 
 lents-more : (xs : List (Bor Path)) (i : ℕ) (x : Bor Path) → i < length xs → x ≡ get_or xs i x →
     lent (take (i + 1) xs) ≡ append (lent (take i xs)) (and_path (plain_path x.now) no_paths)

@@ -1,36 +1,46 @@
--- The paths of a list by their keys, and what is known of the numbers of those that are kept.
-use Rattle.std.specs.Prelude.{◌≡◌, ℕ, Bool, false, None, List, [], ◌∷◌, ◌++◌, map, max, if◌then◌else◌}
+-- The paths of a list by their keys, and where kept paths stand by their numbers: both in slots, of which a number has the one at its remainder.
+use Rattle.std.specs.Prelude.{◌≡◌, ◌<◌, ℕ, zero, suc, ◌%◌, ◌==◌, Bool, true, List, [], ◌∷◌, ◌++◌, length, map, max, Contains, if◌then◌else◌}
 use Rattle.std.specs.Borrow.{Bor}
-use Rattle.std.specs.BTreeMap.{BTreeMap, get}
 use Rattle.std.specs.List.{filter}
-use Rattle.std.specs.Option.{option_map_or}
-use Rattle.std.specs.Ordering.{is_eq, nat_cmp}
 use Rattle.std.specs.declared.alloc.Global.{Global}
 use Rattle.std.specs.declared.vec.Vec.{Vec}
 use Rattle.fy_types.specs.declared.paths.Path.{Path, size-Path}
-use Rattle.fy_forms.specs.Numbers.{key_of, number_of}
 use Rattle.fy_types.specs.Once.{contains}
-use Rattle.fy_types.specs.Paths.{PlainPath, PlainPaths}
+use Rattle.fy_types.specs.Paths.{PlainPath, PlainPaths, no_paths, and_path}
 use Rattle.fy_types.specs.Reading.{plain_path, paths_from}
+use Rattle.fy_forms.specs.declared.index.Groups.{Groups}
+use Rattle.fy_forms.specs.declared.kept.Places.{Places}
+use Rattle.fy_forms.specs.Numbers.{key_of, number_of}
 
--- the path has the key
-abbrev pub has_key : ℕ → Path → Bool
-has_key k p = is_eq (nat_cmp (key_of (plain_path p)) k)
+-- the list at the place, or nothing where there is none
+abbrev pub list_at : {X : Type 0} → List (Vec X Global) → ℕ → List X
+list_at [] k = []
+list_at (v ∷ vs) zero = v.items
+list_at (v ∷ vs) (suc k) = list_at vs k
 
-abbrev pub Groups : Type 0
-Groups = BTreeMap ℕ (Vec (Bor Path) Global)
+-- the list at the number's slot
+abbrev pub slot_at : {X : Type 0} → List (Vec X Global) → ℕ → List X
+slot_at lists n = list_at lists (n % length lists)
 
--- the paths that the map has at the key
+-- of so many slots the path's key has the number's
+abbrev pub has_slot : ℕ → ℕ → Path → Bool
+has_slot count n p = (key_of (plain_path p) % count) == (n % count)
+
+-- the paths at the key's slot
 abbrev pub group_at : Groups → ℕ → List (Bor Path)
-group_at m k = option_map_or (λ g. g.items) (get nat_cmp m k) []
+group_at g k = slot_at g.lists.items k
 
--- the map has the paths of the list by their keys, those of one key in the list's order
+-- at each slot are the paths of the list whose keys have it, in the list's order
+abbrev pub AreGrouped : List (Vec (Bor Path) Global) → List Path → Type 0
+AreGrouped lists ps = (k : ℕ) → map (λ p. p.now) (slot_at lists k) ≡ filter (has_slot (length lists) k) ps
+
 abbrev pub IsIndex : Groups → List Path → Type 0
-IsIndex m ps = (k : ℕ) → map (λ p. p.now) (group_at m k) ≡ filter (has_key k) ps
+IsIndex g ps = AreGrouped g.lists.items ps
 
--- the second map has the path besides, after those of its key
-abbrev pub IsGrown : Groups → Groups → Bor Path → Type 0
-IsGrown m n p = (k : ℕ) → group_at n k ≡ group_at m k ++ (if has_key k p.now then p ∷ [] else [])
+-- the second lists have the path besides, after those of its slot
+pub record IsGrown (before after : List (Vec (Bor Path) Global)) (p : Bor Path) : Type 0 where
+  pub long : length after ≡ length before
+  pub grown : (k : ℕ) → slot_at after k ≡ slot_at before k ++ (if has_slot (length before) k p.now then p ∷ [] else [])
 
 -- the paths that are lent
 abbrev pub lent : List (Bor Path) → PlainPaths
@@ -41,14 +51,22 @@ abbrev pub deepest : List (Bor Path) → ℕ
 deepest [] = 0
 deepest (p ∷ ps) = max (size-Path p.now) (deepest ps)
 
--- places of kept paths by their numbers
-abbrev pub Places : Type 0
-Places = BTreeMap ℕ ℕ
+-- the second lists have the place besides, at the number's slot
+pub record IsNoted (before after : List (Vec ℕ Global)) (number place : ℕ) : Type 0 where
+  pub long : length after ≡ length before
+  pub kept : (n k : ℕ) → Contains (slot_at before n) k → Contains (slot_at after n) k
+  pub noted : Contains (slot_at after number) place
 
--- a path whose number the map lacks isn't kept
-abbrev pub IsSeen : Places → PlainPaths → Type 0
-IsSeen m P = (p : PlainPath) → get nat_cmp m (number_of p) ≡ None → contains P p ≡ false
+-- the path stands at the place of the list
+abbrev pub StandsAt : PlainPaths → ℕ → PlainPath → Type 0
+StandsAt no_paths k p = ⊥
+StandsAt (and_path q P) zero p = q ≡ p
+StandsAt (and_path q P) (suc k) p = StandsAt P k p
 
--- what the second map lacks isn't the number, and the first lacks it
-abbrev pub IsMarked : Places → Places → ℕ → Type 0
-IsMarked m n k = (q : ℕ) → get nat_cmp n q ≡ None → (get nat_cmp m q ≡ None) × (is_eq (nat_cmp k q) ≡ false)
+abbrev pub StandsAtSome : PlainPaths → List ℕ → PlainPath → Type 0
+StandsAtSome P ks p = (k : ℕ) × Contains ks k × StandsAt P k p
+
+-- there are slots, and each kept path stands at a place of its number's
+pub record IsSeen (m : Places) (P : PlainPaths) : Type 0 where
+  pub some : 0 < length m.lists.items
+  pub seen : (p : PlainPath) → contains P p ≡ true → StandsAtSome P (slot_at m.lists.items (number_of p)) p

@@ -18,7 +18,8 @@ use Rattle.fy_forms.specs.declared.rows.Row.{Row}
 use Rattle.fy_forms.specs.declared.rows.Rows.{Rows}
 use Rattle.fy_forms.specs.declared.fresh.Known.{Known}
 use Rattle.fy_forms.specs.declared.fresh.Found.{Found}
-use Rattle.fy_forms.specs.Keys.{Groups, group_at, lent}
+use Rattle.fy_forms.specs.declared.index.Groups.{Groups}
+use Rattle.fy_forms.specs.Keys.{group_at, lent}
 
 -- a member of a domain, with the number of elements before the call
 abbrev pub PlainMember : Type 0

@@ -1,7 +1,7 @@
 //! The paths of a list by their keys.
 
-ghost use Rattle.std.specs.Prelude.{◌≡◌, [], IfOk, OnOk};
-ghost use Rattle.fy_forms.specs.Keys.{group_at, IsGrown, IsIndex};
+ghost use Rattle.std.specs.Prelude.{◌≡◌, ◌<◌, ◌%◌, [], length, IfOk, OnOk};
+ghost use Rattle.fy_forms.specs.Keys.{AreGrouped, IsGrown, IsIndex, group_at};
 ghost use Rattle.fy_forms.specs.Numbers.{class as class_of, key_of as key_of_path, mark as mark_of};
 ghost use Rattle.fy_types.specs.Reading.{plain_elem, plain_path};
 
@@ -9,10 +9,13 @@ use crate::number::mixed;
 use fy_base::OutOfMemory;
 use fy_types::{Atom, Path, PathElem};
 use std::alloc::Global;
-use std::collections::BTreeMap;
 
-/// The paths of a list by their keys, those of one key in the list's order.
-pub type Groups<'a> = BTreeMap<u64, Vec<&'a Path>>;
+/// The paths of a list, each in a slot by its key, those of one slot in the list's order.
+#[derive(Drop)]
+pub struct Groups<'a> {
+    /// The slots, one more than the list has paths.
+    pub lists: Vec<Vec<&'a Path>>,
+}
 
 /// The key of a path, which it has in common with the paths below it and above it, and with those
 /// that it has a common path with.
@@ -54,32 +57,50 @@ fn class(end: Atom) -> u64
 pub fn groups_of<'a>(alloc: Global, list: &'a [Path]) -> Result<Groups<'a>, OutOfMemory>
     ensures { IfOk result (λ groups. IsIndex groups list.now) }
 {
-    let mut groups = BTreeMap::new(alloc);
+    let mut lists = empty_lists(alloc, list.len().saturating_add(1))?;
     for path in list {
-        add(alloc, &mut groups, path)?;
+        add(&mut lists, path)?;
     }
-    Ok(groups)
+    Ok(Groups { lists })
 }
 
-// The path after those of its key.
-fn add<'a>(alloc: Global, groups: &mut Groups<'a>, path: &'a Path) -> Result<(), OutOfMemory>
-    ensures { OnOk result (IsGrown groups.old groups.new path.entry) }
+// So many empty lists.
+fn empty_lists<'a>(alloc: Global, count: usize) -> Result<Vec<Vec<&'a Path>>, OutOfMemory>
+    ensures length { IfOk result (λ lists. length lists.items ≡ count) }
+    ensures empty { IfOk result (λ lists. AreGrouped lists.items []) }
 {
-    let key = key_of(path);
-    let mut group = groups.remove(&key).unwrap_or(Vec::new(alloc));
-    group.push(path)?;
-    groups.insert(key, group)?;
+    let mut all = Vec::with_capacity(alloc, count)?;
+    for _ in 0..count {
+        all.push(Vec::new(alloc))?;
+    }
+    Ok(all)
+}
+
+// The path after those of its slot.
+fn add<'a>(lists: &mut Vec<Vec<&'a Path>>, path: &'a Path) -> Result<(), OutOfMemory>
+    requires { 0 < length lists.old.items }
+    ensures { OnOk result (IsGrown lists.old.items lists.new.items path.entry) }
+{
+    let slot = slot_of(key_of(path), lists.len());
+    lists[slot].push(path)?;
     Ok(())
 }
 
-/// The paths of the key, which are none where the map has nothing at it.
-pub fn candidates<'i, 'a>(
-    groups: &'i Groups<'a>,
-    key: u64,
-    none: &'i Vec<&'a Path>,
-) -> &'i [&'a Path]
-    requires { none.now.items ≡ [] }
+/// The slot of a number, of so many.
+pub(crate) fn slot_of(number: u64, count: usize) -> usize
+    requires { 0 < count }
+    ensures { result ≡ number % count }
+{
+    (number % count as u64) as usize
+}
+
+/// The paths of the key's slot, among which are those of the key.
+pub fn candidates<'i, 'a>(groups: &'i Groups<'a>, key: u64) -> &'i [&'a Path]
     ensures { result.now ≡ group_at groups.now key }
 {
-    groups.get(&key).unwrap_or(none).as_slice()
+    let lists = groups.lists.as_slice();
+    if lists.len() == 0 {
+        return &[];
+    }
+    lists[slot_of(key, lists.len())].as_slice()
 }

@@ -57,7 +57,7 @@ fn join_form(alloc: Global, a: &Paths, b: &Paths) -> Result<Sized, TypeError>
         IsTooLarge (join_of (plain_paths a.now) (plain_paths b.now)) }
 {
     let groups = groups_of(alloc, b.as_slice())?;
-    let mut places = BTreeMap::new(alloc);
+    let mut places = Places::new(alloc, a.len().saturating_add(b.len()))?;
     let mut known = BTreeMap::new(alloc);
     let mut form = Sized::none(alloc);
     for path in a.as_slice() {
@@ -89,9 +89,8 @@ fn keep_fresh<'a>(
         (commons_with (plain_path path.now)
         (lent (group_at groups.now (key_of_path (plain_path path.now)))))) }
 {
-    let none = Vec::new(alloc);
     let key = key_of(path);
-    let list = candidates(groups, key, &none);
+    let list = candidates(groups, key);
     if list.len() < FEW {
         return keep_commons(alloc, kept, places, path, list);
     }

@@ -1,24 +1,60 @@
 //! Paths that are kept once, and looked up by their numbers.
 
-ghost use Rattle.std.specs.Prelude.{◌≡◌, true, IfOk, IsErrOf, IsTrue, OnOk};
+ghost use Rattle.std.specs.Prelude.{◌≡◌, ◌↔◌, ◌<◌, IfOk, IsErrOf, IsTrue, OnOk, length};
+ghost use Rattle.fy_types.specs.Paths.{no_paths};
 ghost use Rattle.fy_types.specs.Reading.{plain_path, plain_paths};
 ghost use Rattle.fy_types.specs.Limits.{IsTooLarge};
 ghost use Rattle.fy_forms.specs.Sized.{IsSized};
 ghost use Rattle.fy_types.specs.Keeping.{added, all_added};
-ghost use Rattle.fy_forms.specs.Keys.{IsSeen};
+ghost use Rattle.fy_forms.specs.Keys.{slot_at, IsNoted, IsSeen, StandsAt, StandsAtSome};
 ghost use Rattle.fy_types.specs.Once.{contains};
 
 use crate::error::TypeError;
+use crate::index::slot_of;
 use crate::number::number_of;
 use crate::same::{has_path, is_same_path};
 use crate::sized::Sized;
 use fy_base::OutOfMemory;
 use fy_types::{Path, Paths, copy_path};
 use std::alloc::Global;
-use std::collections::BTreeMap;
 
-/// Where the last kept path of each number stands.
-pub(crate) type Places = BTreeMap<u64, usize>;
+/// Where the kept paths stand, each in a slot by its number.
+#[derive(Drop)]
+pub(crate) struct Places {
+    lists: Vec<Vec<usize>>,
+}
+
+impl Places {
+    /// No places, with slots for so many paths.
+    pub(crate) fn new(alloc: Global, count: usize) -> Result<Places, OutOfMemory>
+        ensures { IfOk result (λ places. IsSeen places no_paths) }
+    {
+        let slots = count.saturating_add(1);
+        let mut lists = Vec::with_capacity(alloc, slots)?;
+        for _ in 0..slots {
+            lists.push(Vec::new(alloc))?;
+        }
+        Ok(Places { lists })
+    }
+
+    // The places of the number's slot.
+    fn at(&self, number: u64) -> &[usize]
+        requires { 0 < length self.now.lists.items }
+        ensures { result.now ≡ slot_at self.now.lists.items number }
+    {
+        self.lists[slot_of(number, self.lists.len())].as_slice()
+    }
+
+    // The place besides, after those of its slot.
+    fn note(&mut self, number: u64, place: usize) -> Result<(), OutOfMemory>
+        requires { 0 < length self.old.lists.items }
+        ensures { OnOk result (IsNoted self.old.lists.items self.new.lists.items number place) }
+    {
+        let slot = slot_of(number, self.lists.len());
+        self.lists[slot].push(place)?;
+        Ok(())
+    }
+}
 
 /// The kept paths, and then those of the list that aren't among them, each once. Each path is
 /// looked for among all that are kept.
@@ -108,8 +144,7 @@ pub(crate) fn keep(kept: Sized, places: &mut Places, path: Path) -> Result<Sized
     kept.keep_new(path)
 }
 
-// Whether the path is among the kept ones. Where it isn't, it is noted at the place after them. Those of
-// its number are few, so all are compared only where the one that was noted is another.
+// Whether the path is among the kept ones. Where it isn't, it is noted at the place after them.
 fn find_or_note(places: &mut Places, list: &Paths, path: &Path) -> Result<bool, OutOfMemory>
     requires { IsSeen places.old (plain_paths list.now) }
     ensures kept { IfOk result
@@ -118,18 +153,27 @@ fn find_or_note(places: &mut Places, list: &Paths, path: &Path) -> Result<bool, 
         (IsSeen places.new (added (plain_paths list.now) (plain_path path.now))) }
 {
     let number = number_of(path);
-    let Some(place) = places.insert(number, list.len())? else {
-        return Ok(false);
-    };
-    if !stands_at(list, place, path) && !has_path(list, path) {
-        return Ok(false);
+    if is_at_some(list, places.at(number), path) {
+        return Ok(true);
     }
-    places.insert(number, place)?;
-    Ok(true)
+    places.note(number, list.len())?;
+    Ok(false)
+}
+
+// Whether the path stands at one of the places.
+fn is_at_some(list: &Paths, places: &[usize], path: &Path) -> bool
+    ensures { IsTrue result ↔ StandsAtSome (plain_paths list.now) places.now (plain_path path.now) }
+{
+    for place in places {
+        if stands_at(list, *place, path) {
+            return true;
+        }
+    }
+    false
 }
 
 fn stands_at(list: &Paths, place: usize, path: &Path) -> bool
-    ensures { IsTrue result → contains (plain_paths list.now) (plain_path path.now) ≡ true }
+    ensures { IsTrue result ↔ StandsAt (plain_paths list.now) place (plain_path path.now) }
 {
     let members = list.as_slice();
     place < members.len() && is_same_path(&members[place], path)

@@ -4,6 +4,7 @@
 mod error;
 mod form;
 mod fresh;
+mod fronted;
 mod index;
 mod join_forms;
 mod kept;
@@ -16,6 +17,7 @@ mod sized;
 
 pub use error::TypeError;
 pub use form::paths_of;
+pub use fronted::{call_form, field_form};
 pub use index::{Groups, candidates, groups_of, key_of, mark};
 pub use join_forms::join;
 pub use meet_forms::{meet, meet_with};

@@ -8,11 +8,10 @@ ghost use Rattle.fy_types.specs.Bounds.{meet_of, IsGreatestLowerBound};
 ghost use Rattle.fy_types.specs.Once.{once};
 
 use crate::error::TypeError;
-use crate::kept::{keep_all, keep_each};
+use crate::kept::{Places, keep_all, keep_each};
 use crate::sized::Sized;
 use fy_types::Paths;
 use std::alloc::Global;
-use std::collections::BTreeMap;
 
 // Among so few paths a look through those that are kept costs less than a map of their numbers.
 const FEW: usize = 16;
@@ -68,11 +67,12 @@ pub(crate) fn meet_form(alloc: Global, a: &Paths, b: &Paths) -> Result<Sized, Ty
     ensures large { IsErrOf result TypeError.TypeTooLarge →
         IsTooLarge (meet_of (plain_paths a.now) (plain_paths b.now)) }
 {
-    if a.len().saturating_add(b.len()) <= FEW {
+    let count = a.len().saturating_add(b.len());
+    if count <= FEW {
         let few = keep_each(alloc, Sized::none(alloc), a)?;
         return keep_each(alloc, few, b);
     }
-    let mut places = BTreeMap::new(alloc);
+    let mut places = Places::new(alloc, count)?;
     let first = keep_all(alloc, Sized::none(alloc), &mut places, a)?;
     keep_all(alloc, first, &mut places, b)
 }

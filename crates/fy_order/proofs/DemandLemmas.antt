@@ -151,8 +151,19 @@ field-left i (end a) e = refl
 field-left i (call D p) e = refl
 field-left i (pick j p) e = ap (λ b. if_passed b (and_path p no_paths)) (sym e)
 
-pub other-kept : (k : Kind) (p : PlainPath) (P : PlainPaths) → begins k p ≡ false → others k (and_path p P) ≡ and_path (behind 0 p) (others k P)
+pub other-kept : (k : Kind) (p : PlainPath) (P : PlainPaths) → begins k p ≡ false → others k (and_path p P) ≡ and_path p (others k P)
 other-kept k p P e = ap (λ b. if b then others k P else and_path p (others k P)) e
 
 pub other-left : (k : Kind) (p : PlainPath) (P : PlainPaths) → begins k p ≡ true → others k (and_path p P) ≡ others k P
 other-left k p P e = ap (λ b. if b then others k P else and_path p (others k P)) e
+
+-- the others of a list, and then those of another one
+pub others-append : (k : Kind) (P Q : PlainPaths) → others k (append P Q) ≡ append (others k P) (others k Q)
+others-append k no_paths Q = refl
+others-append k (and_path p P) Q = step (begins k p) (others-append k P Q)
+  where
+    step : (b : Bool) → others k (append P Q) ≡ append (others k P) (others k Q) →
+        (if b then others k (append P Q) else and_path p (others k (append P Q)))
+        ≡ append (if b then others k P else and_path p (others k P)) (others k Q)
+    step true e = e
+    step false e = ap (and_path p) e

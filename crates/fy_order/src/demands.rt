@@ -3,7 +3,7 @@
 ghost use Rattle.std.specs.Prelude.{◌≡◌, IfOk};
 ghost use Rattle.fy_order.specs.Indexed.{indexed, IsWhole};
 ghost use Rattle.fy_forms.specs.Keys.{lent};
-ghost use Rattle.fy_types.specs.Paths.{PlainPath, PlainPaths, end};
+ghost use Rattle.fy_types.specs.Paths.{PlainPath, PlainPaths, and_path, append, end, no_paths};
 ghost use Rattle.fy_types.specs.Reading.{front, plain_elem, plain_path, plain_paths};
 ghost use Rattle.fy_derive.specs.Kinds.{begins as begins_of};
 ghost use Rattle.fy_derive.specs.Least.{
@@ -136,16 +136,27 @@ pub fn rests_of_field(alloc: Global, name: Name, paths: &Paths) -> Result<Paths,
 }
 
 /// The paths that don't begin with the demand.
-pub fn others(alloc: Global, demand: Demand, paths: &Paths) -> Result<Paths, OutOfMemory>
-    ensures { IfOk result (λ made. plain_paths made ≡ others_of (plain_kind demand) (plain_paths paths.now)) }
+pub fn others(alloc: Global, demand: Demand, paths: Paths) -> Result<Paths, OutOfMemory>
+    ensures { IfOk result (λ made. plain_paths made ≡ others_of (plain_kind demand) (plain_paths paths)) }
 {
-    let mut kept = Paths::new(alloc);
-    for path in paths.as_slice() {
-        if !begins(path, demand) {
-            kept.push(copy_from(alloc, path, 0)?)?;
-        }
+    let mut kept = Paths::with_capacity(alloc, paths.len())?;
+    for path in paths.into_vec() {
+        kept = with_other(kept, demand, path)?;
     }
     Ok(kept)
+}
+
+// The paths and then the path, unless it begins with the demand.
+fn with_other(paths: Paths, demand: Demand, path: Path) -> Result<Paths, OutOfMemory>
+    ensures { IfOk result (λ made. plain_paths made
+        ≡ append (plain_paths paths) (others_of (plain_kind demand) (and_path (plain_path path) no_paths))) }
+{
+    if begins(&path, demand) {
+        return Ok(paths);
+    }
+    let mut made = paths;
+    made.push(path)?;
+    Ok(made)
 }
 
 fn takes_argument(alloc: Global, path: &Path, argument: &Paths) -> Result<bool, OutOfMemory>

@@ -116,9 +116,8 @@ fn are_keyed_below(
     requires { IsIndex groups.now (paths_in a.now) }
     ensures { IfOk result (λ r. IsTrue r ↔ ArePathsBelow (plain_paths a.now) (plain_paths b.now)) }
 {
-    let none = Vec::new(alloc);
     for path in b.as_slice() {
-        let list = candidates(&*groups, key_of(path), &none);
+        let list = candidates(&*groups, key_of(path));
         if !is_some_below(alloc, list, path)? {
             return Ok(false);
         }
@@ -193,9 +192,9 @@ fn is_light(form: &Paths) -> bool {
     true
 }
 
-// Whether many paths have one key, with those in their domains.
+// Whether many paths have one slot, with those in their domains.
 fn has_many(groups: &Groups<'_>) -> bool {
-    for list in groups.values() {
+    for list in &groups.lists {
         if are_many(list.as_slice()) {
             return true;
         }

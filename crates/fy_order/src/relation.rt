@@ -1,6 +1,6 @@
 //! Which paths of a form can be below those of another one, and which above them.
 
-ghost use Rattle.std.specs.Prelude.{◌≡◌, ◌<◌, ℕ, Contains, false, true, IfOk, IfSome, OnOk, IsTrue, get_or, length};
+ghost use Rattle.std.specs.Prelude.{◌≡◌, ◌<◌, ◌↔◌, ℕ, Contains, false, true, IfOk, IfSome, OnOk, IsTrue, get_or, length};
 ghost use Rattle.fy_order.specs.Levels.{AreAbove, AreBelow, AreCovers, AreIndexed, AreLevels, HaveBelow, IsAt, IsBelow, IsByAll, IsByOne, PlainTagged, indexed_nodes, list_at as list_of, nodes as nodes_of, own_sign, plain_tagged};
 ghost use Rattle.fy_order.specs.Searching.{AreCovered, AreMet, IsFlagged, IsWanted};
 
@@ -10,6 +10,9 @@ use crate::levels::{Level, width};
 use crate::sign::{Tagged, Wanted, places_at};
 use fy_base::OutOfMemory;
 use std::alloc::Global;
+
+// So many places are sooner looked through than flagged.
+const FEW: usize = 8;
 
 /// For each path in the domains of the second form's paths, where those in the domains of the first form's stand that are above it,
 /// among other places.
@@ -348,6 +351,9 @@ fn are_met(
 ) -> Result<bool, OutOfMemory>
     ensures { IfOk result (λ r. AreMet lists.now places.now first.now → IsTrue r) }
 {
+    if first.len() <= FEW {
+        return Ok(are_few_met(first, places, lists));
+    }
     let all = Covered::of(alloc, first, bound(first))?;
     for place in places {
         if !all.has_any(list_at(lists, *place)) {
@@ -355,6 +361,36 @@ fn are_met(
         }
     }
     Ok(true)
+}
+
+// The same, where the first ones are looked through.
+fn are_few_met(first: &[usize], places: &[usize], lists: &[Vec<usize>]) -> bool
+    ensures { AreMet lists.now places.now first.now → IsTrue result }
+{
+    for place in places {
+        if !have_common(first, list_at(lists, *place)) {
+            return false;
+        }
+    }
+    true
+}
+
+// Whether one number is in both lists.
+fn have_common(first: &[usize], second: &[usize]) -> bool
+    ensures { (k : ℕ) → Contains first.now k → Contains second.now k → IsTrue result }
+{
+    for number in second {
+        if is_in(first, *number) {
+            return true;
+        }
+    }
+    false
+}
+
+fn is_in(list: &[usize], number: usize) -> bool
+    ensures { IsTrue result ↔ Contains list.now number }
+{
+    list.contains(&number)
 }
 
 // A number past all of the list.

@@ -152,7 +152,7 @@ fn rests_stand_behind_demands(rt: HostRuntime) -> Result<(), Fail> {
     let record = paths_of(alloc, &fields(alloc, 1)?)?;
     assert!(rt; rests_of_field(alloc, 7, &record)?.len() == 1);
     assert!(rt; rests_of_field(alloc, 8, &record)?.len() == 0);
-    assert!(rt; others(alloc, Demand::Call, &record)?.len() == 1);
+    assert!(rt; others(alloc, Demand::Call, record)?.len() == 1);
     Ok(())
 }
 

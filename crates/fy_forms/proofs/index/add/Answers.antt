@@ -1,13 +1,14 @@
-use Rattle.std.proofs.Common.{◌∙◌, ap, ◌++◌, ◌∷◌, []}
-use Rattle.std.specs.Option.{option_map_or}
-use Rattle.fy_forms.proofs.KeyLemmas.{grown-by, taken-items}
+use Rattle.std.proofs.Common.{◌≡◌, ◌%◌, length, get_or, set, sym, ap, ◌∙◌, subst, rules}
+use Rattle.fy_forms.specs.Keys.{IsGrown}
+use Rattle.fy_forms.proofs.KeyLemmas.{grown-slot}
 use Rattle.fy_forms.proofs.index.add.Goals as goal
 
 pub returns : goal.returns
 returns c =
-    let group = ap (λ v. v.items) c.unwrap_or-group.ensures
-    ∙ (taken-items c.remove.result c.new.result c.new.ensures.items
-    ∙ ap (λ o. option_map_or (λ g. g.items) o []) c.remove.ensures.value) in
-    grown-by c.args.groups.now c.remove.new.self c.insert.new.self c.key_of-key.result c.args.path c.push.new.self
-    c.key_of-key.ensures c.remove.ensures.updates.0 c.in_ok-insert.ensures.updates.0
-    (c.in_ok-push.ensures.items ∙ ap (λ xs. xs ++ (c.args.path ∷ [])) group)
+    let lists = c.args.lists.now.items in
+    let v = c.index_mut.result.now in
+    let long : c.len.result ≡ length lists = search rules in
+    let is : c.slot_of-slot.result ≡ c.key_of.result % length lists = c.slot_of-slot.ensures ∙ ap (λ n. c.key_of.result % n) long in
+    subst (λ i. IsGrown lists (set lists i c.push.new.self) c.args.path) (sym is)
+    (grown-slot lists c.key_of.result c.args.path v c.push.new.self c.requires c.key_of.ensures
+    (subst (λ i. v ≡ get_or lists i v) is c.index_mut.ensures.value) c.in_ok-push.ensures.items)

@@ -27,15 +27,15 @@ returns-in_err-first-clause-large c =
     let p = err_from_is_err_and c.from_residual-in_err-first.result c.from_residual-in_err-first.ensures.1 in
     rw (p.1, p.2) (λ e. large-first _ (plain_paths c.args.a.now) (plain_paths c.args.b.now) c.none-2.ensures.paths (c.in_err-first.ensures.large e))
 
-pub returns-then-saturating_add-le-FEW-clause-ok : goal.returns-then-saturating_add-le-FEW-clause-ok
-returns-then-saturating_add-le-FEW-clause-ok c =
+pub returns-then-count-le-FEW-clause-ok : goal.returns-then-count-le-FEW-clause-ok
+returns-then-count-le-FEW-clause-ok c =
     let same = both-met _ _ (plain_paths c.args.a.now) (plain_paths c.args.b.now) c.none.ensures.paths c.in_ok-few.ensures.ok.paths in
-    IfOk-weaker c.keep_each-then-saturating_add-le-FEW.result _ _ (λ s made. subst (λ P. IsSized s P) same made) c.keep_each-then-saturating_add-le-FEW.ensures.ok
+    IfOk-weaker c.keep_each-then-count-le-FEW.result _ _ (λ s made. subst (λ P. IsSized s P) same made) c.keep_each-then-count-le-FEW.ensures.ok
 
-pub returns-then-saturating_add-le-FEW-clause-large : goal.returns-then-saturating_add-le-FEW-clause-large
-returns-then-saturating_add-le-FEW-clause-large c =
+pub returns-then-count-le-FEW-clause-large : goal.returns-then-count-le-FEW-clause-large
+returns-then-count-le-FEW-clause-large c =
     let same = both-met _ _ (plain_paths c.args.a.now) (plain_paths c.args.b.now) c.none.ensures.paths c.in_ok-few.ensures.ok.paths in
-    λ e. subst IsTooLarge same (c.keep_each-then-saturating_add-le-FEW.ensures.large e)
+    λ e. subst IsTooLarge same (c.keep_each-then-count-le-FEW.ensures.large e)
 
 pub returns-clause-ok : goal.returns-clause-ok
 returns-clause-ok c =
