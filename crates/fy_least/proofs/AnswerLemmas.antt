@@ -5,7 +5,7 @@ use Rattle.fy_base.specs.declared.data.Place.{Place}
 use Rattle.fy_forms.specs.declared.error.TypeError.{TypeError}
 use Rattle.fy_forms.specs.declared.error.TypeError.TheVariants as types
 use Rattle.fy_types.specs.Types.{PlainType, arrow}
-use Rattle.fy_types.specs.Paths.{PlainPaths, paths, picked}
+use Rattle.fy_types.specs.Paths.{PlainPaths}
 use Rattle.fy_types.specs.Nested.{IsTypeOf}
 use Rattle.fy_derive.specs.Derivations.{PlainDerivation, sub}
 use Rattle.fy_derive.specs.Reading.{plain_derivation}
@@ -44,9 +44,6 @@ call-made Q R A T d e x y made p (B, q, t) f g m =
 pub selection-made : (i : ℕ) (R : PlainPaths) (T : PlainType) (d x made : PlainDerivation) → IsFieldOf i R T → x ≡ sub T d → made ≡ rule_of x →
     IsSelection i R d made
 selection-made i R T d x made (A, q, t) f m = (A, q, m ∙ ap rule_of (f ∙ ap (λ S. sub S d) t))
-
-pub field-paths : (i : ℕ) (T : PlainType) (R : PlainPaths) → IsFieldOf i R T → paths T ≡ picked i R
-field-paths i T R (A, q, t) = ap paths t ∙ ap (picked i) q.0
 
 pub definition-made : (P : PlainPaths) (d e x made : PlainDerivation) → IsSubsumed P d x → made ≡ rule_of_both x e → IsDefinition P d e made
 definition-made P d e x made (A, q, t) m = (A, q, m ∙ ap (λ y. rule_of_both y e) t)

@@ -28,7 +28,7 @@ use crate::rules::{rule_of_one, rule_of_two};
 use crate::scope::{Scope, form_at};
 use fy_base::{OutOfMemory, Place};
 use fy_derive::{Demand, Derivation, DerivationList};
-use fy_forms::{meet_with, paths_of};
+use fy_forms::{field_form, meet_with};
 use fy_memo::Memo;
 use fy_order::{are_paths_below, has, others, rests_of_field};
 use fy_types::{Atom, Name, Paths, Ty, copy_paths, copy_ty};
@@ -100,7 +100,7 @@ fn call(
         (plain_derivation procedure) (plain_derivation argument) (plain_derivation d)) }
 {
     let given = memo.ty_of(alloc, domain)?;
-    let arrow = arrow_to(alloc, &given, paths)?;
+    let arrow = arrow_to(alloc, &given, paths, memo)?;
     let first = to_type(alloc, arrow, procedure)?;
     let second = to_type(alloc, given, argument)?;
     rule_of_two(alloc, first, second)
@@ -116,8 +116,7 @@ pub(crate) fn field(alloc: Global, name: Name, part: Found, at: Place) -> Result
         IsRefused (picked name (plain_paths part.paths)) (part.total) }
 {
     let blame = part.blame_or(at);
-    let ty = field_of(alloc, name, &part.paths)?;
-    let paths = paths_of(alloc, &ty)?;
+    let paths = field_form(alloc, name, &part.paths)?;
     let derivation = rule_of_one(alloc, part.derivation)?;
     Found::new(paths, derivation, blame, part.total)
 }
@@ -128,6 +127,7 @@ pub(crate) fn selection(
     part: Found,
     name: Name,
     at: Place,
+    memo: &mut Memo,
 ) -> Result<Found, LeastError>
     ensures made { IfOk result
         (λ f. IsMade (rests_of_field_of name (plain_paths part.paths)) (blame_at part at) (part.total) f) }
@@ -138,7 +138,7 @@ pub(crate) fn selection(
 {
     let blame = part.blame_or(at);
     let paths = rests_of_field(alloc, name, &part.paths)?;
-    let derivation = selected(alloc, name, &paths, part.derivation)?;
+    let derivation = selected(alloc, name, &paths, part.derivation, memo)?;
     Found::new(paths, derivation, blame, part.total)
 }
 
@@ -148,11 +148,12 @@ fn selected(
     name: Name,
     paths: &Paths,
     derivation: Derivation,
+    memo: &mut Memo,
 ) -> Result<Derivation, OutOfMemory>
     ensures { IfOk result
         (λ d. IsSelection name (plain_paths paths.now) (plain_derivation derivation) (plain_derivation d)) }
 {
-    let ty = field_of(alloc, name, paths)?;
+    let ty = field_of(alloc, name, paths, memo)?;
     let premise = to_type(alloc, ty, derivation)?;
     rule_of_one(alloc, premise)
 }
@@ -181,7 +182,7 @@ pub(crate) fn merge(
     let Some(demand) = demand else {
         return Ok(Found::none(alloc, blame, total));
     };
-    let kept = others(alloc, demand, &left.paths)?;
+    let kept = others(alloc, demand, left.paths)?;
     let derivation = both_operands(alloc, &kept, left.derivation, right.derivation, memo)?;
     let paths = meet_with(alloc, kept, &right.paths)?;
     Found::new(paths, derivation, blame, total)
@@ -212,6 +213,7 @@ pub(crate) fn definition(
     defined: Found,
     body: Found,
     at: Place,
+    memo: &mut Memo,
 ) -> Result<Found, LeastError>
     ensures made { IfOk result
         (λ f. IsMade (plain_paths body.paths) (blame_at defined (blame_at body at)) (defined.total + body.total) f) }
@@ -227,7 +229,7 @@ pub(crate) fn definition(
         derivation,
         ..
     } = defined;
-    let premise = to_paths(alloc, &paths, derivation)?;
+    let premise = to_paths(alloc, &paths, derivation, memo)?;
     let derivation = rule_of_two(alloc, premise, body.derivation)?;
     Found::new(body.paths, derivation, blame, total)
 }

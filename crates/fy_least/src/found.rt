@@ -15,7 +15,8 @@ use crate::error::LeastError;
 use crate::size::size_of;
 use fy_base::{OutOfMemory, Place};
 use fy_derive::Derivation;
-use fy_types::{Atom, Name, Paths, Ty, copy_ty, ty_of};
+use fy_memo::Memo;
+use fy_types::{Atom, Name, Paths, Ty, copy_ty};
 use std::alloc::Global;
 use std::rc::Rc;
 
@@ -118,11 +119,12 @@ pub(crate) fn to_paths(
     alloc: Global,
     paths: &Paths,
     derivation: Derivation,
+    memo: &mut Memo,
 ) -> Result<Derivation, OutOfMemory>
     ensures { IfOk result
         (λ d. IsSubsumed (plain_paths paths.now) (plain_derivation derivation) (plain_derivation d)) }
 {
-    to_type(alloc, ty_of(alloc, paths)?, derivation)
+    to_type(alloc, memo.ty_of(alloc, paths)?, derivation)
 }
 
 /// The derivation subsumed to the type.
@@ -137,18 +139,28 @@ pub(crate) fn to_type(
 }
 
 /// A type of the procedures from the type to one with the paths.
-pub(crate) fn arrow_to(alloc: Global, domain: &Ty, paths: &Paths) -> Result<Ty, OutOfMemory>
+pub(crate) fn arrow_to(
+    alloc: Global,
+    domain: &Ty,
+    paths: &Paths,
+    memo: &mut Memo,
+) -> Result<Ty, OutOfMemory>
     ensures { IfOk result (λ ty. IsArrowTo (plain_type domain.now) (plain_paths paths.now) (plain_type ty)) }
 {
     let from = copy_ty(alloc, domain)?;
-    let back = ty_of(alloc, paths)?;
+    let back = memo.ty_of(alloc, paths)?;
     Ok(Ty::Arrow(Rc::new(alloc, from)?, Rc::new(alloc, back)?))
 }
 
 /// A type of what has a field of the name with the paths.
-pub(crate) fn field_of(alloc: Global, name: Name, paths: &Paths) -> Result<Ty, OutOfMemory>
+pub(crate) fn field_of(
+    alloc: Global,
+    name: Name,
+    paths: &Paths,
+    memo: &mut Memo,
+) -> Result<Ty, OutOfMemory>
     ensures { IfOk result (λ ty. IsFieldOf name (plain_paths paths.now) (plain_type ty)) }
 {
-    let part = ty_of(alloc, paths)?;
+    let part = memo.ty_of(alloc, paths)?;
     Ok(Ty::Field(name, Rc::new(alloc, part)?))
 }

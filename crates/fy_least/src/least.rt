@@ -177,7 +177,7 @@ fn found_in_case(
 {
     let index = found_in(alloc, index, &*scope, &mut *memo)?;
     let parts = found_in_each(alloc, parts, &*scope, &mut *memo)?;
-    case(alloc, index, parts, at)
+    case(alloc, index, parts, at, &mut *memo)
 }
 
 #[cycle(least)]
@@ -195,7 +195,7 @@ fn found_in_abstraction(
 {
     let types = types.as_slice();
     let bodies = found_under(alloc, types, body, at, &*scope, &mut *memo)?;
-    abstraction(alloc, types, bodies, at)
+    abstraction(alloc, types, bodies, at, &mut *memo)
 }
 
 #[cycle(least)]
@@ -247,7 +247,7 @@ fn found_in_selection(
         (m : ℕ) → PassLimits (visits m (scope_forms scope.now) (tree.sel (reads part.now) name at)) }
 {
     let part = found_in(alloc, part, &*scope, &mut *memo)?;
-    selection(alloc, part, name, at)
+    selection(alloc, part, name, at, &mut *memo)
 }
 
 #[cycle(least)]
@@ -285,7 +285,7 @@ fn found_in_definition(
     let defined = found_in(alloc, defined, &*scope, &mut *memo)?;
     let bound = Bound::of_distinct(&defined.paths);
     let body = found_in(alloc, body, &Scope::Under(&bound, &*scope), &mut *memo)?;
-    definition(alloc, defined, body, at)
+    definition(alloc, defined, body, at, &mut *memo)
 }
 
 #[cycle(least)]

@@ -30,13 +30,14 @@ ghost use Rattle.fy_least.specs.Many.{
 ghost use Rattle.fy_least.specs.Visited.{IsMade, IsRefused};
 
 use crate::error::LeastError;
-use crate::found::{Found, arrow_to, both, to_atom, to_paths, to_type};
+use crate::found::{Found, both, to_atom, to_paths, to_type};
 use crate::size::size_of;
 use fy_base::{OutOfMemory, Place};
 use fy_derive::{Derivation, DerivationList};
-use fy_forms::{TypeError, join, meet, paths_of};
+use fy_forms::{TypeError, call_form, join, meet, paths_of};
+use fy_memo::Memo;
 use fy_order::has;
-use fy_types::{Atom, Paths, Ty, copy_paths, copy_ty, ty_of};
+use fy_types::{Atom, Paths, Ty, copy_paths, copy_ty};
 use std::alloc::Global;
 
 /// An abstraction, from what is found of its body under each alternative.
@@ -45,6 +46,7 @@ pub(crate) fn abstraction(
     alternatives: &[Ty],
     bodies: Vec<Found>,
     at: Place,
+    memo: &mut Memo,
 ) -> Result<Found, LeastError>
     requires same { length alternatives.now ≡ length bodies.items }
     requires once { AreOnce bodies.items }
@@ -60,7 +62,7 @@ pub(crate) fn abstraction(
     let blame = blame_at_head(list, at);
     let total = total_of(0, list)?;
     let paths = paths_of_calls(alloc, alternatives, list)?;
-    let members = taken(alloc, bodies)?;
+    let members = taken(alloc, bodies, memo)?;
     let derivation = meet_of(alloc, members)?;
     Found::new(paths, derivation, blame, total)
 }
@@ -107,26 +109,31 @@ pub(crate) fn paths_of_call(
     if paths.len() == 0 {
         return Ok(Paths::new(alloc));
     }
-    let arrow = arrow_to(alloc, alternative, paths)?;
-    paths_of(alloc, &arrow)
+    let domain = paths_of(alloc, alternative)?;
+    call_form(alloc, &domain, paths)
 }
 
 // The alternatives, each body taken at a type with its paths. There are no more of them than a
 // number of 32 bits tells: as many more would not fit into memory.
-fn taken(alloc: Global, bodies: Vec<Found>) -> Result<Vec<Derivation>, OutOfMemory>
+fn taken(alloc: Global, bodies: Vec<Found>, memo: &mut Memo) -> Result<Vec<Derivation>, OutOfMemory>
     ensures { IfOk result (λ v. AreAlternatives 0 bodies.items (derivations_from (map plain_derivation v.items))) }
 {
     let mut members = Vec::new(alloc);
     let mut index = 0u32;
     for body in bodies {
-        members.push(alternative(alloc, index, body)?)?;
+        members.push(alternative(alloc, index, body, &mut *memo)?)?;
         index = next_index(index)?;
     }
     Ok(members)
 }
 
 // The alternative with the index, the body taken at a type with its paths.
-fn alternative(alloc: Global, index: u32, body: Found) -> Result<Derivation, OutOfMemory>
+fn alternative(
+    alloc: Global,
+    index: u32,
+    body: Found,
+    memo: &mut Memo,
+) -> Result<Derivation, OutOfMemory>
     ensures { IfOk result (λ d. IsAlternative index body (plain_derivation d)) }
 {
     let Found {
@@ -134,7 +141,7 @@ fn alternative(alloc: Global, index: u32, body: Found) -> Result<Derivation, Out
         derivation,
         ..
     } = body;
-    let inner = to_paths(alloc, &paths, derivation)?;
+    let inner = to_paths(alloc, &paths, derivation, memo)?;
     Ok(Derivation::Alt(index, Box::new(alloc, inner)?))
 }
 
@@ -168,6 +175,7 @@ pub(crate) fn case(
     index: Found,
     parts: Vec<Found>,
     at: Place,
+    memo: &mut Memo,
 ) -> Result<Found, LeastError>
     requires { index.total ≤ most_together }
     ensures made { IfOk result (λ f. IsCase index parts.items at f) }
@@ -186,7 +194,7 @@ pub(crate) fn case(
     }
     let (paths, earlier) = joined(alloc, list)?;
     let counted = both(total, earlier)?;
-    let ty = ty_of(alloc, &paths)?;
+    let ty = memo.ty_of(alloc, &paths)?;
     let derivation = all_taken(alloc, &ty, index.derivation, parts)?;
     Found::new(paths, derivation, blame, counted)
 }

@@ -3,15 +3,14 @@
 ghost use Rattle.std.specs.Prelude.{◌≡◌, IfOk, IsErrOf};
 ghost use Rattle.fy_types.specs.Limits.{IsTooLarge};
 ghost use Rattle.fy_types.specs.Once.{once as once_of};
-ghost use Rattle.fy_types.specs.Paths.{all_paths, paths as paths_in_type, picked};
+ghost use Rattle.fy_types.specs.Paths.{all_paths, paths as paths_in_type};
 ghost use Rattle.fy_types.specs.Reading.{plain_paths, plain_type, plain_types};
 
 use crate::error::LeastError;
-use crate::found::field_of;
 use crate::many::paths_of_call;
-use fy_forms::{TypeError, meet_with, paths_of};
+use fy_forms::{field_form, meet_with};
 use fy_order::one_end;
-use fy_types::{Name, Paths, Ty, TyList};
+use fy_types::{Paths, Ty, TyList};
 use std::alloc::Global;
 
 /// The paths of the type, each once. Repeats are left out part by part, so that a form that keeps the
@@ -34,7 +33,7 @@ pub(crate) fn once_in(alloc: Global, ty: &Ty) -> Result<Paths, LeastError>
         }
         Ty::Field(name, part) => {
             let rests = once_in(alloc, part)?;
-            let made = paths_of_field(alloc, *name, &rests)?;
+            let made = field_form(alloc, *name, &rests)?;
             Ok(made)
         }
         Ty::Meet(list) => once_in_all(alloc, list),
@@ -53,13 +52,4 @@ fn once_in_all(alloc: Global, list: &TyList) -> Result<Paths, LeastError>
         paths = meet_with(alloc, paths, &member)?;
     }
     Ok(paths)
-}
-
-// The paths, each with the field in front.
-fn paths_of_field(alloc: Global, name: Name, paths: &Paths) -> Result<Paths, TypeError>
-    ensures ok { IfOk result (λ made. plain_paths made ≡ picked name (plain_paths paths.now)) }
-    ensures large { IsErrOf result TypeError.TypeTooLarge → IsTooLarge (picked name (plain_paths paths.now)) }
-{
-    let ty = field_of(alloc, name, paths)?;
-    paths_of(alloc, &ty)
 }

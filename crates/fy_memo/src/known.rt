@@ -10,13 +10,17 @@ ghost use Rattle.fy_types.specs.Paths.{PlainPaths};
 ghost use Rattle.fy_types.specs.Reading.{plain_path, plain_paths};
 
 use fy_base::OutOfMemory;
-use fy_forms::{are_same_paths, is_same_path};
-use fy_order::{is_one_below, takers};
+use fy_forms::{are_same_paths, is_same_path, key_of};
+use fy_order::{is_one_below, takers, weight};
 use fy_types::{Path, PathElem, Paths, copy_path};
 use std::alloc::Global;
+use std::collections::BTreeMap;
 
-// Of an argument with more paths besides the base's it isn't found out whether they matter.
-const FEW: usize = 16;
+// After so many bases none is looked for any more.
+const MOST_BASES: usize = 8;
+
+// More pairs of such a path and one of a procedure's domains aren't compared.
+const MANY: usize = 32768;
 
 // Among so many paths a path of the base is looked for.
 const NEAR: usize = 16;
@@ -30,13 +34,22 @@ pub(crate) struct Known {
     taken: Vec<bool>,
     // The rests of those that do, each once.
     rests: Paths,
+    /// How many bases of the procedure were known before.
+    pub before: usize,
     ghost flagged: { are_takers taken.items (plain_paths base) (plain_paths procedure) ≡ true },
     ghost right: { are_same (plain_paths rests) (once (rests_of_call (plain_paths base) (plain_paths procedure))) ≡ true },
 }
 
 impl Known {
-    /// What is known of a procedure and a base: which of its paths take the base, and the rests of these, each once.
-    pub(crate) fn new(procedure: Paths, base: Paths, taken: Vec<bool>, rests: Paths) -> Known
+    /// What is known of a procedure and a base: which of its paths take the base, and the rests of these, each once; and how many
+    /// bases were known before.
+    pub(crate) fn new(
+        procedure: Paths,
+        base: Paths,
+        taken: Vec<bool>,
+        rests: Paths,
+        before: usize,
+    ) -> Known
         requires taken { taken.items ≡ takes (plain_paths base) (plain_paths procedure) }
         requires rests { plain_paths rests ≡ once (rests_of_call (plain_paths base) (plain_paths procedure)) }
     {
@@ -45,6 +58,7 @@ impl Known {
             base,
             taken,
             rests,
+            before,
         }
     }
 
@@ -65,10 +79,24 @@ impl Known {
         let Some(others) = others_in(alloc, &self.base, argument)? else {
             return Ok(None);
         };
+        if self.is_much(others.len()) {
+            return Ok(None);
+        }
         if self.may_take(alloc, others.as_slice())? {
             return Ok(None);
         }
         Ok(Some(&self.rests))
+    }
+
+    // Whether so many other paths are too many to compare them with the domains of the paths that don't take the base.
+    fn is_much(&self, others: usize) -> bool {
+        let mut sum: usize = 0;
+        for (place, path) in self.procedure.as_slice().iter().enumerate() {
+            if !is_set(self.taken.as_slice(), place) {
+                sum = sum.saturating_add(weight(path));
+            }
+        }
+        sum.saturating_mul(others) > MANY
     }
 
     // Whether the paths, beside those of the base, may make a path of the procedure take an argument that doesn't take the base.
@@ -99,7 +127,11 @@ impl Known {
         if !are_same_paths(&self.procedure, procedure) {
             return Ok(None);
         }
-        let common = common_of(alloc, &self.base, argument)?;
+        if self.before >= MOST_BASES {
+            return Ok(None);
+        }
+        let keys = keys_in(alloc, procedure)?;
+        let common = common_of(alloc, &self.base, argument, &keys)?;
         if common.len() == 0 || common.len() == argument.len() {
             return Ok(None);
         }
@@ -133,7 +165,7 @@ fn may_be_taken(alloc: Global, path: &Path, others: &[&Path]) -> Result<bool, Ou
     }
 }
 
-// The paths of the form besides those of the base. None, if the base's don't stand there in their order, or there are many others.
+// The paths of the form besides those of the base. None, if the base's don't stand there in their order.
 fn others_in<'a>(
     alloc: Global,
     base: &Paths,
@@ -148,10 +180,8 @@ fn others_in<'a>(
     for path in form.as_slice() {
         if next < wanted.len() && is_same_path(&wanted[next], path) {
             next += 1;
-        } else if others.len() < FEW {
-            others.push(path)?;
         } else {
-            return Ok(None);
+            others.push(path)?;
         }
     }
     if next < wanted.len() {
@@ -161,18 +191,38 @@ fn others_in<'a>(
     }
 }
 
-// Paths of the first form that stand in the second one too, in the same order.
-fn common_of(alloc: Global, first: &Paths, second: &Paths) -> Result<Paths, OutOfMemory> {
+// Paths of the first form that have one of the keys, and stand in the second one too, in the same order.
+fn common_of(
+    alloc: Global,
+    first: &Paths,
+    second: &Paths,
+    keys: &BTreeMap<u64, ()>,
+) -> Result<Paths, OutOfMemory> {
     let members = second.as_slice();
     let mut next: usize = 0;
     let mut common = Paths::new(alloc);
     for path in first.as_slice() {
-        if let Some(place) = place_near(members, next, path) {
-            common.push(copy_path(alloc, path)?)?;
-            next = place.saturating_add(1);
+        if keys.get(&key_of(path)).is_some() {
+            if let Some(place) = place_near(members, next, path) {
+                common.push(copy_path(alloc, path)?)?;
+                next = place.saturating_add(1);
+            }
         }
     }
     Ok(common)
+}
+
+// The keys of the paths in the domains of the first calls. No other path is below one of them.
+fn keys_in(alloc: Global, procedure: &Paths) -> Result<BTreeMap<u64, ()>, OutOfMemory> {
+    let mut keys = BTreeMap::new(alloc);
+    for path in procedure.as_slice() {
+        if let Some(PathElem::Call(domain)) = path.elems.as_slice().first() {
+            for member in domain.as_slice() {
+                keys.insert(key_of(member), ())?;
+            }
+        }
+    }
+    Ok(keys)
 }
 
 // Where the path stands among the next ones.

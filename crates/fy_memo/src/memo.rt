@@ -87,6 +87,14 @@ impl Memo {
         self.types.ty_of(alloc, form)
     }
 
+    // How many bases were known at the number.
+    fn bases_before(&self, number: u64) -> usize {
+        match self.known_at(number) {
+            Some(known) => known.before.saturating_add(1),
+            None => 0,
+        }
+    }
+
     fn known_at(&self, number: u64) -> Option<&Known> {
         let place = place_of(&self.call_places, number)?;
         if place < self.knowns.len() {
@@ -127,7 +135,7 @@ impl Memo {
         let base = self.base_for(alloc, number, pair, taken.as_slice())?;
         let procedure = copy_paths(alloc, pair.1)?;
         let rests = copy_paths(alloc, rests)?;
-        let known = Known::new(procedure, base, taken, rests);
+        let known = Known::new(procedure, base, taken, rests, self.bases_before(number));
         match place_of(&self.call_places, number) {
             Some(place) if place < self.knowns.len() => self.knowns[place] = known,
             _ => {

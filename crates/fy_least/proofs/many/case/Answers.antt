@@ -84,8 +84,7 @@ returns-clause-derived c =
     let made = plain_derivation c.in_ok-derivation.derivation in
     derived-same c.new.result (IsCased c.args.index c.args.parts.items) made
     (cased-parts c.args.index c.args.parts.items made (plain_type c.in_ok-ty.ty) (λ e. c.if-list-eq0.false (ap length fs ∙ e)) there
-    (subst (λ P. IsTypeOf P (plain_type c.in_ok-ty.ty)) (c.in_ok-paths.ensures.paths ∙ ap joined fs)
-    (c.in_ok-ty.ensures.made, c.in_ok-ty.ensures.nesting, c.in_ok-ty.ensures.full, c.in_ok-ty.ensures.fields))
+    (subst (λ P. IsTypeOf P (plain_type c.in_ok-ty.ty)) (c.in_ok-paths.ensures.paths ∙ ap joined fs) c.in_ok-ty.ensures)
     c.in_ok-derivation.ensures)
     c.new.ensures.derived
 
