@@ -145,18 +145,23 @@ merges "$procedures" "$procedures" 400 | measure '400 calls on 240 orders in pro
 deep="$(repeated '(' 12)(a%s: int)$(repeated ' -> int)' 12)"
 merges "$(each "$deep" 1 1 153)" "$(each "$deep" 153 -1 1)" 400 | measure '400 calls on 153 paths twelve deep, so'
 { printf 'lettype t == '; sorts; printf ' in lettype d == '; each '(a%s: int)' 1 1 7; printf ' & '; each '(b%s: int)' 1 1 7; printf ' in let p == \\f: '; each '(((d & (z%s: int)) -> int) -> comm)' 1 1 77; printf ' & (ns -> comm). \\x: t. (f (x, c1 == 1)'; for i in $(seq 2 1000); do printf '; f (x, c%s == 1)' "$i"; done; printf ') in skip'; } | measure '1,000 calls of 78 alternatives, so'
-# So many paths `(P & Q) -> int`, where P and Q are procedures that take procedures, drawn by numbers that follow from a first one; the last first, if the third word is -1.
+# So many paths `(P & Q) -> int`, where P and Q are procedures that take procedures, drawn by numbers that follow from a first one; the last first, if the third word is -1. Further
+# words say of how deep procedures, of how many fields and of how many members a domain is drawn, if not of two that take procedures, and twelve fields.
 drawn() {
-    awk -v count="$1" -v state="$2" -v step="$3" '
+    awk -v count="$1" -v state="$2" -v step="$3" -v depth="${4:-2}" -v fields="${5:-12}" -v members="${6:-2}" '
         function draw(n) { state = (state * 16807) % 2147483647; return state % n }
         function member(level, k, i, s) {
-            if (level == 0) return "(a" draw(12) ": int)"
+            if (level == 0) return "(a" draw(fields) ": int)"
             k = draw(3) + 1
             for (i = 0; i < k; i++) s = s (i ? " & " : "") member(level - 1)
             return "((" s ") -> int)"
         }
+        function path(i, s) {
+            for (i = 0; i < members; i++) s = s (i ? " & " : "") member(depth)
+            return "((" s ") -> int)"
+        }
         BEGIN {
-            for (j = 0; j < count; j++) list[j] = "((" member(2) " & " member(2) ") -> int)"
+            for (j = 0; j < count; j++) list[j] = path()
             for (j = 0; j < count; j++) printf "%s%s", (j ? " & " : ""), list[step < 0 ? count - 1 - j : j]
         }'
 }
@@ -177,6 +182,24 @@ merges "$(drawn 80 7 1)" "$(drawn 80 7 -1)" 1000 | measure '1,000 calls on proce
     done; done; done; done
     printf ') in skip'
 } | measure '330 calls on 60 such behind calls, none before'
+# The same with six paths, each of whose domains has 34 such procedures.
+{
+    printf 'lettype t == %s in lettype d == ' "$(drawn 6 7 1 2 1000 34)"
+    each '(c%s: int)' 1 1 10
+    printf ' in lettype s == %s in let p == \\f: (d -> s) -> comm. \\x: t. (skip' "$(drawn 6 7 -1 2 1000 34)"
+    for i in $(seq 10); do for j in $(seq $((i + 1)) 10); do for k in $(seq $((j + 1)) 10); do for l in $(seq "$k" 10); do
+        printf '; f (\\z: (c%s: int) & (c%s: int) & (c%s: int) & (c%s: int). x)' "$i" "$j" "$k" "$l"
+    done; done; done; done
+    printf ') in skip'
+} | measure '330 calls on six paths of 34 procedures behind calls'
+# Calls whose arguments all differ: the record has 600 fields besides, and each call gives another one of these anew.
+anew() {
+    printf 'lettype c == %s in lettype t == (%s) & c in lettype s == %s in let p == \\f: s -> comm. \\x: t. (skip' "$(each '(c%s: int)' 1 1 600)" "$1" "$2"
+    for i in $(seq "$3"); do printf '; f (x, c%s == 1)' "$(((i - 1) % 600 + 1))"; done
+    printf ') in skip'
+}
+anew "$(drawn 250 7 1 1 300 1)" "$(drawn 250 7 -1 1 300 1)" 1200 | measure '1,200 calls on 250 paths, each with another of 600 fields anew'
+anew "$(drawn 195 7 1 0 5000 1)" "($(drawn 195 7 -1 0 5000 1)) & c" 1200 | measure '1,200 calls on 195 paths, the domain with the 600 fields too'
 # Conditionals whose branches all differ, by a field more.
 joins() {
     printf 'lettype t == %s in lettype s == %s in let p == \\x: t. \\y: s. (' "$1" "$2"
