@@ -34,6 +34,7 @@ group_at g k = slot_at g.lists.items k
 abbrev pub AreGrouped : List (Vec (Bor Path) Global) → List Path → Type 0
 AreGrouped lists ps = (k : ℕ) → map (λ p. p.now) (slot_at lists k) ≡ filter (has_slot (length lists) k) ps
 
+-- the slots have the paths of the list
 abbrev pub IsIndex : Groups → List Path → Type 0
 IsIndex g ps = AreGrouped g.lists.items ps
 
@@ -63,6 +64,7 @@ StandsAt no_paths k p = ⊥
 StandsAt (and_path q P) zero p = q ≡ p
 StandsAt (and_path q P) (suc k) p = StandsAt P k p
 
+-- the path stands at one of the places
 abbrev pub StandsAtSome : PlainPaths → List ℕ → PlainPath → Type 0
 StandsAtSome P ks p = (k : ℕ) × Contains ks k × StandsAt P k p
 

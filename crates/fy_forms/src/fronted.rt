@@ -1,9 +1,9 @@
 //! Path forms with a call or a field in front of each path.
 
-ghost use Rattle.std.specs.Prelude.{◌≡◌, IfOk, IsErrOf};
+ghost use Rattle.std.specs.Prelude.{◌≡◌, IfOk, OnOk, IsErrOf};
 ghost use Rattle.fy_types.specs.Paths.{called, picked};
 ghost use Rattle.fy_types.specs.Reading.{plain_paths};
-ghost use Rattle.fy_types.specs.Limits.{IsTooLarge};
+ghost use Rattle.fy_types.specs.Limits.{IsTooLarge, IsWithinLimits};
 
 use crate::error::TypeError;
 use crate::sized::Sized;
@@ -17,6 +17,7 @@ use std::alloc::Global;
 /// `TypeTooLarge` comes exactly where these paths have over 4,096 nodes or nest more than 480.
 pub fn field_form(alloc: Global, name: Name, paths: &Paths) -> Result<Paths, TypeError>
     ensures ok { IfOk result (λ made. plain_paths made ≡ picked name (plain_paths paths.now)) }
+    ensures within { OnOk result (IsWithinLimits (picked name (plain_paths paths.now))) }
     ensures large { IsErrOf result TypeError.TypeTooLarge → IsTooLarge (picked name (plain_paths paths.now)) }
 {
     let copy = copy_paths(alloc, paths)?;
@@ -35,6 +36,7 @@ pub fn field_form(alloc: Global, name: Name, paths: &Paths) -> Result<Paths, Typ
 pub fn call_form(alloc: Global, domain: &Paths, paths: &Paths) -> Result<Paths, TypeError>
     ensures ok { IfOk result
         (λ made. plain_paths made ≡ called (plain_paths domain.now) (plain_paths paths.now)) }
+    ensures within { OnOk result (IsWithinLimits (called (plain_paths domain.now) (plain_paths paths.now))) }
     ensures large { IsErrOf result TypeError.TypeTooLarge →
         IsTooLarge (called (plain_paths domain.now) (plain_paths paths.now)) }
 {

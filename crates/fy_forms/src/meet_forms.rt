@@ -13,7 +13,7 @@ use crate::sized::Sized;
 use fy_types::Paths;
 use std::alloc::Global;
 
-// Among so few paths a look through those that are kept costs less than a map of their numbers.
+// Among so few paths a look through those that are kept costs less than slots for their numbers.
 const FEW: usize = 16;
 
 /// The paths of the first form and then those of the second, each once, at its first place. This

@@ -1,7 +1,7 @@
 -- How a procedure takes arguments that have the paths of a base.
-use Rattle.std.proofs.Common.{ℕ, ◌+◌, ◌<◌, ◌≤◌, ◌≡◌, Bool, true, false, ◌&&◌, ◌||◌, List, [], ◌∷◌, ◌++◌, length, map, take, drop, get_or, sym, ap, ◌∙◌, refl}
-use Rattle.std.proofs.lemmas.Bool.{and_from, and_parts, or_left, or_parts}
-use Rattle.std.proofs.lemmas.List.{map-append, take_more, take_all}
+use Rattle.std.proofs.Common.{ℕ, zero, suc, ◌+◌, ◌<◌, ◌≤◌, ◌≡◌, ◌⊎◌, inl, inr, Bool, true, false, ◌&&◌, ◌||◌, List, [], ◌∷◌, ◌++◌, length, map, take, drop, get_or, sym, ap, ◌∙◌, refl, subst, arith}
+use Rattle.std.proofs.lemmas.Bool.{and_from, and_parts, or_cases, or_left, or_parts, or_right}
+use Rattle.std.proofs.lemmas.List.{get_or_default, map-append, take_more, take_all}
 use Rattle.std.specs.Borrow.{Bor}
 use Rattle.std.specs.declared.alloc.Global.{Global}
 use Rattle.std.specs.declared.rc.Rc.{Rc}
@@ -18,7 +18,7 @@ use Rattle.fy_derive.specs.Subsumption.{path_below, some_below, paths_below, all
 use Rattle.fy_order.specs.Demands.{takes_argument, takes}
 use Rattle.fy_order.proofs.DemandLemmas.{takes-call, takes-field, takes-at}
 use Rattle.fy_written.proofs.EachLemmas.{same-lists}
-use Rattle.fy_memo.specs.Bases.{IsMadeOf, is_same_flag, are_takers}
+use Rattle.fy_memo.specs.Bases.{IsMadeOf, Sees, IsIn, IsParted, IsRest, IsSkipped, IsFound, first_of, is_same_flag, are_takers}
 
 -- Arguments that the same paths of a procedure take have the same rests.
 
@@ -70,13 +70,6 @@ or-none false = refl
 or-assoc : (a b c : Bool) → ((a || b) || c) ≡ (a || (b || c))
 or-assoc true b c = refl
 or-assoc false b c = refl
-
-or-swap : (a b c : Bool) → ((a || b) || c) ≡ ((a || c) || b)
-or-swap true b c = refl
-or-swap false true true = refl
-or-swap false true false = refl
-or-swap false false true = refl
-or-swap false false false = refl
 
 all-more : (f g : PlainPath → Bool) → ((q : PlainPath) → f q ≡ true → g q ≡ true) → (D : PlainPaths) → all_pass f D ≡ true → all_pass g D ≡ true
 all-more f g more no_paths e = refl
@@ -149,50 +142,197 @@ some-pushed [] x q = or-none (path_below x q)
 some-pushed (y ∷ xs) x q =
     ap (λ b. path_below y q || b) (some-pushed xs x q) ∙ sym (or-assoc (path_below y q) (some_below (paths_from xs) q) (path_below x q))
 
--- the paths before the place
-abbrev pub first_of : ℕ → List Path → PlainPaths
-first_of k xs = paths_from (map plain_path (take k xs))
-
-pub first-more : (xs : List Path) (k : ℕ) (x : Path) (q : PlainPath) → k < length xs → x ≡ get_or xs k x →
+first-more : (xs : List Path) (k : ℕ) (x : Path) (q : PlainPath) → k < length xs → x ≡ get_or xs k x →
     some_below (first_of (k + 1) xs) q ≡ (some_below (first_of k xs) q || path_below (plain_path x) q)
 first-more xs k x q few is =
     ap (λ ys. some_below (paths_from (map plain_path ys)) q) (take_more xs k x few ∙ ap (λ y. take k xs ++ y ∷ []) (sym is))
     ∙ (ap (λ ps. some_below (paths_from ps) q) (map-append plain_path (take k xs) (x ∷ []))
     ∙ some-pushed (map plain_path (take k xs)) (plain_path x) q)
 
+first-split : (xs : List Path) (k : ℕ) (x : Path) (q : PlainPath) → k < length xs → x ≡ get_or xs k x →
+    Sees (first_of (k + 1) xs) q → Sees (first_of k xs) q ⊎ (path_below (plain_path x) q ≡ true)
+first-split xs k x q few is low = or_cases (some_below (first_of k xs) q) (path_below (plain_path x) q) (sym (first-more xs k x q few is) ∙ low)
+
+first-last : (xs : List Path) (k : ℕ) (x : Path) (q : PlainPath) → k < length xs → x ≡ get_or xs k x →
+    path_below (plain_path x) q ≡ true → Sees (first_of (k + 1) xs) q
+first-last xs k x q few is low = first-more xs k x q few is ∙ or_right (some_below (first_of k xs) q) (path_below (plain_path x) q) low
+
+-- fewer paths are among more
+first-in : (xs : List Path) (j k : ℕ) → j ≤ k → IsIn (first_of j xs) (first_of k xs)
+first-in xs zero k less q low = absurd (cc)
+first-in [] (suc j) k less q low = absurd (cc)
+first-in (x ∷ xs) (suc j) zero less q low = absurd (omega arith)
+first-in (x ∷ xs) (suc j) (suc k) less q low =
+    let here = path_below (plain_path x) q in
+    elim (or_cases here (some_below (first_of j xs) q) low) [
+      | inl e ↦ or_left here (some_below (first_of k xs) q) e
+      | inr e ↦ or_right here (some_below (first_of k xs) q) (first-in xs j k (omega arith) q e)
+    ]
+
 pub first-all : (xs : List Path) (k : ℕ) → length xs ≤ k → first_of k xs ≡ paths_from (map plain_path xs)
 first-all xs k all = ap (λ ys. paths_from (map plain_path ys)) (take_all k xs all)
 
-pub lent-more : (xs : List (Bor Path)) (x : Bor Path) (q : PlainPath) →
+lent-more : (xs : List (Bor Path)) (x : Bor Path) (q : PlainPath) →
     some_below (lent (xs ++ x ∷ [])) q ≡ (some_below (lent xs) q || path_below (plain_path x.now) q)
 lent-more xs x q =
     ap (λ ps. some_below (paths_from ps) q) (map-append (λ p. plain_path p.now) xs (x ∷ []))
     ∙ some-pushed (map (λ p. plain_path p.now) xs) (plain_path x.now) q
 
--- a path that is the next one of the base
-pub made-wanted : (xs ys : List Path) (os ps : List (Bor Path)) (i k j : ℕ) (x y : Path) → i < length xs → x ≡ get_or xs i x →
-    k < length ys → y ≡ get_or ys k y → plain_path y ≡ plain_path x → j ≡ k + 1 → ps ≡ os →
-    IsMadeOf (first_of i xs) (first_of k ys) (lent os) → IsMadeOf (first_of (i + 1) xs) (first_of j ys) (lent ps)
-made-wanted xs ys os ps i k j x y few is some has same next kept made q =
-    let px = path_below (plain_path x) q in
-    first-more xs i x q few is
-    ∙ (ap (λ b. b || px) (made q)
-    ∙ (or-swap (some_below (first_of k ys) q) (some_below (lent os) q) px
-    ∙ (ap (λ p. (some_below (first_of k ys) q || path_below p q) || some_below (lent os) q) (sym same)
-    ∙ (ap (λ b. b || some_below (lent os) q) (sym (first-more ys k y q some has))
-    ∙ (ap (λ n. some_below (first_of n ys) q || some_below (lent os) q) (sym next)
-    ∙ ap (λ zs. some_below (first_of j ys) q || some_below (lent zs) q) (sym kept))))))
+lent-split : (xs : List (Bor Path)) (x : Bor Path) (q : PlainPath) →
+    Sees (lent (xs ++ x ∷ [])) q → Sees (lent xs) q ⊎ (path_below (plain_path x.now) q ≡ true)
+lent-split xs x q low = or_cases (some_below (lent xs) q) (path_below (plain_path x.now) q) (sym (lent-more xs x q) ∙ low)
 
--- a path that is one of the others
-pub made-other : (xs ys : List Path) (os ps : List (Bor Path)) (i k j : ℕ) (x : Path) (y : Bor Path) → i < length xs → x ≡ get_or xs i x →
-    y.now ≡ x → j ≡ k → ps ≡ os ++ y ∷ [] →
-    IsMadeOf (first_of i xs) (first_of k ys) (lent os) → IsMadeOf (first_of (i + 1) xs) (first_of j ys) (lent ps)
-made-other xs ys os ps i k j x y few is same kept pushed made q =
-    let px = path_below (plain_path x) q in
-    first-more xs i x q few is
-    ∙ (ap (λ b. b || px) (made q)
-    ∙ (or-assoc (some_below (first_of k ys) q) (some_below (lent os) q) px
-    ∙ (ap (λ p. some_below (first_of k ys) q || (some_below (lent os) q || path_below (plain_path p) q)) (sym same)
-    ∙ (ap (λ b. some_below (first_of k ys) q || b) (sym (lent-more os y q))
-    ∙ (ap (λ n. some_below (first_of n ys) q || some_below (lent (os ++ y ∷ [])) q) (sym kept)
-    ∙ ap (λ zs. some_below (first_of j ys) q || some_below (lent zs) q) (sym pushed))))))
+lent-kept : (xs : List (Bor Path)) (x : Bor Path) → IsIn (lent xs) (lent (xs ++ x ∷ []))
+lent-kept xs x q low = lent-more xs x q ∙ or_left (some_below (lent xs) q) (path_below (plain_path x.now) q) low
+
+lent-last : (xs : List (Bor Path)) (x : Bor Path) (q : PlainPath) → path_below (plain_path x.now) q ≡ true → Sees (lent (xs ++ x ∷ [])) q
+lent-last xs x q low = lent-more xs x q ∙ or_right (some_below (lent xs) q) (path_below (plain_path x.now) q) low
+
+-- one of the lent paths is below
+pub lent-one : (xs : List (Bor Path)) (k : ℕ) (x : Bor Path) (q : PlainPath) → k < length xs → x ≡ get_or xs k x →
+    path_below (plain_path x.now) q ≡ true → Sees (lent xs) q
+lent-one [] k x q few is low = absurd (omega arith)
+lent-one (y ∷ xs) zero x q few is low =
+    or_left (path_below (plain_path y.now) q) (some_below (lent xs) q) (ap (λ (z : Bor Path). path_below (plain_path z.now) q) (sym is) ∙ low)
+lent-one (y ∷ xs) (suc k) x q few is low =
+    or_right (path_below (plain_path y.now) q) (some_below (lent xs) q) (lent-one xs k x q (omega arith) is low)
+
+take-next : (xs : List (Bor Path)) (k : ℕ) (x : Bor Path) → k < length xs → x ≡ get_or xs k x → take (k + 1) xs ≡ take k xs ++ x ∷ []
+take-next xs k x few is = take_more xs k x few ∙ ap (λ y. take k xs ++ y ∷ []) (sym is)
+
+-- each of the lent paths so far is among others, and so is the next one
+pub taken-in : (xs : List (Bor Path)) (k : ℕ) (x : Bor Path) (N : PlainPaths) → k < length xs → x ≡ get_or xs k x →
+    ((q : PlainPath) → path_below (plain_path x.now) q ≡ true → Sees N q) → IsIn (lent (take k xs)) N → IsIn (lent (take (k + 1) xs)) N
+taken-in xs k x N few is here all q low =
+    elim (lent-split (take k xs) x q (subst (λ ys. Sees (lent ys) q) (take-next xs k x few is) low)) [
+      | inl e ↦ all q e
+      | inr e ↦ here q e
+    ]
+
+-- the others so far that aren't among the missing, when the next one is
+pub rest-missing : (xs os : List (Bor Path)) (k : ℕ) (x : Bor Path) (M : PlainPaths) → k < length xs → x ≡ get_or xs k x →
+    ((q : PlainPath) → path_below (plain_path x.now) q ≡ true → Sees M q) → IsRest (lent (take k xs)) (lent os) M →
+    IsRest (lent (take (k + 1) xs)) (lent os) M
+rest-missing xs os k x M few is here so = record {
+  own = λ q low. subst (λ ys. Sees (lent ys) q) (sym (take-next xs k x few is)) (lent-kept (take k xs) x q (so.own q low));
+  all = λ q low. elim (lent-split (take k xs) x q (subst (λ ys. Sees (lent ys) q) (take-next xs k x few is) low)) [
+    | inl e ↦ so.all q e
+    | inr e ↦ inr (here q e)
+  ];
+}
+
+-- and when it isn't
+pub rest-other : (xs os : List (Bor Path)) (k : ℕ) (x : Bor Path) (M : PlainPaths) → k < length xs → x ≡ get_or xs k x →
+    IsRest (lent (take k xs)) (lent os) M → IsRest (lent (take (k + 1) xs)) (lent (os ++ x ∷ [])) M
+rest-other xs os k x M few is so = record {
+  own = λ q low. subst (λ ys. Sees (lent ys) q) (sym (take-next xs k x few is))
+      (elim (lent-split os x q low) [
+        | inl e ↦ lent-kept (take k xs) x q (so.own q e)
+        | inr e ↦ lent-last (take k xs) x q e
+      ]);
+  all = λ q low. elim (lent-split (take k xs) x q (subst (λ ys. Sees (lent ys) q) (take-next xs k x few is) low)) [
+    | inl e ↦ elim (so.all q e) [
+      | inl f ↦ inl (lent-kept os x q f)
+      | inr f ↦ inr f
+    ]
+    | inr e ↦ inl (lent-last os x q e)
+  ];
+}
+
+-- A form and a base, parted.
+
+-- the base's paths up to the place are missing
+pub parted-skipped : (P N M R : PlainPaths) (ys : List Path) (n k : ℕ) → n ≤ k → IsSkipped ys n k M R → IsParted P (first_of n ys) N M →
+    IsParted P (first_of k ys) N R
+parted-skipped P N M R ys n k less more parts = record {
+  form = λ q low. elim (parts.form q low) [
+    | inl e ↦ inl (first-in ys n k less q e)
+    | inr e ↦ inr e
+  ];
+  base = λ q low. elim (more.has q low) [
+    | inl e ↦ elim (parts.base q e) [
+      | inl f ↦ inl f
+      | inr f ↦ inr (more.kept q f)
+    ]
+    | inr e ↦ inr e
+  ];
+  others = parts.others;
+  missing = λ q low. elim (more.own q low) [
+    | inl e ↦ first-in ys n k less q (parts.missing q e)
+    | inr e ↦ e
+  ];
+}
+
+-- the next paths of both are the same
+parted-same : (N M : PlainPaths) (xs ys : List Path) (i k : ℕ) (x y : Path) → i < length xs → x ≡ get_or xs i x →
+    k < length ys → y ≡ get_or ys k y → plain_path y ≡ plain_path x → IsParted (first_of i xs) (first_of k ys) N M →
+    IsParted (first_of (i + 1) xs) (first_of (k + 1) ys) N M
+parted-same N M xs ys i k x y few is short has same parts = record {
+  form = λ q low. elim (first-split xs i x q few is low) [
+    | inl e ↦ elim (parts.form q e) [
+      | inl f ↦ inl (first-in ys k (k + 1) (omega arith) q f)
+      | inr f ↦ inr f
+    ]
+    | inr e ↦ inl (first-last ys k y q short has (ap (λ p. path_below p q) same ∙ e))
+  ];
+  base = λ q low. elim (first-split ys k y q short has low) [
+    | inl e ↦ elim (parts.base q e) [
+      | inl f ↦ inl (first-in xs i (i + 1) (omega arith) q f)
+      | inr f ↦ inr f
+    ]
+    | inr e ↦ inl (first-last xs i x q few is (ap (λ p. path_below p q) (sym same) ∙ e))
+  ];
+  others = λ q low. first-in xs i (i + 1) (omega arith) q (parts.others q low);
+  missing = λ q low. first-in ys k (k + 1) (omega arith) q (parts.missing q low);
+}
+
+-- a path of the base is found, past others of it
+pub parted-found : (N M R : PlainPaths) (xs ys : List Path) (i n k : ℕ) (x : Path) → i < length xs → x ≡ get_or xs i x →
+    IsFound ys n (plain_path x) k → IsSkipped ys n k M R → IsParted (first_of i xs) (first_of n ys) N M →
+    IsParted (first_of (i + 1) xs) (first_of (k + 1) ys) N R
+parted-found N M R xs ys i n k x few is found more parts =
+    parted-same N R xs ys i k x (get_or ys k x) few is found.few (get_or_default ys k x (get_or ys k x) found.few) (found.same x)
+    (parted-skipped (first_of i xs) N M R ys n k found.past more parts)
+
+-- the form's next path is one of the others
+pub parted-other : (B M : PlainPaths) (xs : List Path) (os : List (Bor Path)) (i : ℕ) (x : Bor Path) → i < length xs →
+    x.now ≡ get_or xs i x.now → IsParted (first_of i xs) B (lent os) M → IsParted (first_of (i + 1) xs) B (lent (os ++ x ∷ [])) M
+parted-other B M xs os i x few is parts = record {
+  form = λ q low. elim (first-split xs i x.now q few is low) [
+    | inl e ↦ elim (parts.form q e) [
+      | inl f ↦ inl f
+      | inr f ↦ inr (lent-kept os x q f)
+    ]
+    | inr e ↦ inr (lent-last os x q e)
+  ];
+  base = λ q low. elim (parts.base q low) [
+    | inl e ↦ inl (first-in xs i (i + 1) (omega arith) q e)
+    | inr e ↦ inr e
+  ];
+  others = λ q low. elim (lent-split os x q low) [
+    | inl e ↦ first-in xs i (i + 1) (omega arith) q (parts.others q e)
+    | inr e ↦ first-last xs i x.now q few is e
+  ];
+  missing = parts.missing;
+}
+
+-- one path more is skipped
+pub skipped-more : (xs : List Path) (n k : ℕ) (M : PlainPaths) (os : List (Bor Path)) (x : Bor Path) → k < length xs →
+    x.now ≡ get_or xs k x.now → IsSkipped xs n k M (lent os) → IsSkipped xs n (k + 1) M (lent (os ++ x ∷ []))
+skipped-more xs n k M os x few is more = record {
+  kept = λ q low. lent-kept os x q (more.kept q low);
+  has = λ q low. elim (first-split xs k x.now q few is low) [
+    | inl e ↦ elim (more.has q e) [
+      | inl f ↦ inl f
+      | inr f ↦ inr (lent-kept os x q f)
+    ]
+    | inr e ↦ inr (lent-last os x q e)
+  ];
+  own = λ q low. elim (lent-split os x q low) [
+    | inl e ↦ elim (more.own q e) [
+      | inl f ↦ inl f
+      | inr f ↦ inr (first-in xs k (k + 1) (omega arith) q f)
+    ]
+    | inr e ↦ inr (first-last xs k x.now q few is e)
+  ];
+}

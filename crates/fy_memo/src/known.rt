@@ -1,17 +1,18 @@
 //! How a procedure takes arguments that have most of their paths in common.
 
-ghost use Rattle.std.specs.Prelude.{◌≡◌, false, true, IfOk, IfSome, IsTrue, get_or};
+ghost use Rattle.std.specs.Prelude.{◌≡◌, ◌≤◌, false, true, IfOk, IfSome, IsTrue, OnOk, get_or, length};
 ghost use Rattle.fy_derive.specs.Least.{rests_of_call};
+ghost use Rattle.fy_derive.specs.Subsumption.{path_below};
 ghost use Rattle.fy_forms.specs.Keys.{lent};
-ghost use Rattle.fy_memo.specs.Bases.{IsMadeOf, are_takers};
+ghost use Rattle.fy_memo.specs.Bases.{IsFound, IsIn, IsMadeOf, IsParted, IsRest, IsSkipped, Sees, are_takers};
 ghost use Rattle.fy_order.specs.Demands.{takes, takes_argument};
 ghost use Rattle.fy_types.specs.Once.{are_same, once};
-ghost use Rattle.fy_types.specs.Paths.{PlainPaths};
+ghost use Rattle.fy_types.specs.Paths.{PlainPath, PlainPaths};
 ghost use Rattle.fy_types.specs.Reading.{plain_path, plain_paths};
 
 use fy_base::OutOfMemory;
 use fy_forms::{are_same_paths, is_same_path, key_of};
-use fy_order::{is_one_below, takers, weight};
+use fy_order::{is_one_below, takers};
 use fy_types::{Path, PathElem, Paths, copy_path};
 use std::alloc::Global;
 use std::collections::BTreeMap;
@@ -19,11 +20,14 @@ use std::collections::BTreeMap;
 // After so many bases none is looked for any more.
 const MOST_BASES: usize = 8;
 
-// More pairs of such a path and one of a procedure's domains aren't compared.
-const MANY: usize = 32768;
+// More pairs of a path in the others of an argument and one in a procedure's domains aren't compared.
+const MANY: u64 = 32768;
 
-// Among so many paths a path of the base is looked for.
+// Among so many of the next paths a path is looked for.
 const NEAR: usize = 16;
+
+// More paths far from their order aren't looked for one by one.
+const MOST_MOVED: usize = 64;
 
 /// How a procedure takes arguments that have the paths of a base.
 #[derive(Drop)]
@@ -34,6 +38,8 @@ pub(crate) struct Known {
     taken: Vec<bool>,
     // The rests of those that do, each once.
     rests: Paths,
+    // How many paths stand in those of the procedure that don't take it.
+    untaken: u64,
     /// How many bases of the procedure were known before.
     pub before: usize,
     ghost flagged: { are_takers taken.items (plain_paths base) (plain_paths procedure) ≡ true },
@@ -53,11 +59,13 @@ impl Known {
         requires taken { taken.items ≡ takes (plain_paths base) (plain_paths procedure) }
         requires rests { plain_paths rests ≡ once (rests_of_call (plain_paths base) (plain_paths procedure)) }
     {
+        let untaken = weight_of_untaken(&procedure, taken.as_slice());
         Known {
             procedure,
             base,
             taken,
             rests,
+            untaken,
             before,
         }
     }
@@ -79,7 +87,7 @@ impl Known {
         let Some(others) = others_in(alloc, &self.base, argument)? else {
             return Ok(None);
         };
-        if self.is_much(others.len()) {
+        if self.is_much(others.as_slice()) {
             return Ok(None);
         }
         if self.may_take(alloc, others.as_slice())? {
@@ -88,15 +96,9 @@ impl Known {
         Ok(Some(&self.rests))
     }
 
-    // Whether so many other paths are too many to compare them with the domains of the paths that don't take the base.
-    fn is_much(&self, others: usize) -> bool {
-        let mut sum: usize = 0;
-        for (place, path) in self.procedure.as_slice().iter().enumerate() {
-            if !is_set(self.taken.as_slice(), place) {
-                sum = sum.saturating_add(weight(path));
-            }
-        }
-        sum.saturating_mul(others) > MANY
+    // Whether to compare the others with the domains of the paths that don't take the base takes too long.
+    fn is_much(&self, others: &[&Path]) -> bool {
+        self.untaken.saturating_mul(weight_of_all(others)) > MANY
     }
 
     // Whether the paths, beside those of the base, may make a path of the procedure take an argument that doesn't take the base.
@@ -144,6 +146,39 @@ impl Known {
     }
 }
 
+// How many paths stand in those of the procedure whose flag isn't set.
+fn weight_of_untaken(procedure: &Paths, taken: &[bool]) -> u64 {
+    let mut sum: u64 = 0;
+    for (place, path) in procedure.as_slice().iter().enumerate() {
+        if !is_set(taken, place) {
+            sum = sum.saturating_add(weight_of(path));
+        }
+    }
+    sum
+}
+
+// How many paths stand in the paths, themselves counted.
+fn weight_of_all(paths: &[&Path]) -> u64 {
+    let mut sum: u64 = 0;
+    for path in paths {
+        sum = sum.saturating_add(weight_of(path));
+    }
+    sum
+}
+
+// How many paths stand in the path, itself counted.
+fn weight_of(path: &Path) -> u64 {
+    let mut sum: u64 = 1;
+    for elem in path.elems.as_slice() {
+        if let PathElem::Call(domain) = elem {
+            for member in domain.as_slice() {
+                sum = sum.saturating_add(weight_of(member));
+            }
+        }
+    }
+    sum
+}
+
 fn is_set(flags: &[bool], place: usize) -> bool
     ensures { IsTrue result → get_or flags.now place false ≡ true }
 {
@@ -165,30 +200,112 @@ fn may_be_taken(alloc: Global, path: &Path, others: &[&Path]) -> Result<bool, Ou
     }
 }
 
-// The paths of the form besides those of the base. None, if the base's don't stand there in their order.
+// The paths of the form besides those of the base. None, if one of the base's isn't found there, or too many are far from their order.
 fn others_in<'a>(
     alloc: Global,
-    base: &Paths,
+    base: &'a Paths,
     form: &'a Paths,
 ) -> Result<Option<Vec<&'a Path>>, OutOfMemory>
     ensures { IfOk result (λ found. IfSome found
         (λ others. IsMadeOf (plain_paths form.now) (plain_paths base.now) (lent others.items))) }
 {
+    let parts = parted(alloc, base, form)?;
+    let others = parts.others.as_slice();
+    let missing = parts.missing.as_slice();
+    if !are_among(missing, others) {
+        return Ok(None);
+    }
+    let rest = rest_of(alloc, others, missing)?;
+    Ok(Some(rest))
+}
+
+// The paths of the form and of the base that didn't meet their like.
+#[derive(Drop)]
+struct Parts<'a> {
+    others: Vec<&'a Path>,
+    missing: Vec<&'a Path>,
+}
+
+// Goes along both at once, past paths of the base to one that is near and the form's next. A path that is far from its order in the base is
+// then missing, and one of the others too.
+fn parted<'a>(alloc: Global, base: &'a Paths, form: &'a Paths) -> Result<Parts<'a>, OutOfMemory>
+    ensures { IfOk result
+        (λ parts. IsParted (plain_paths form.now) (plain_paths base.now) (lent parts.others.items) (lent parts.missing.items)) }
+{
     let wanted = base.as_slice();
     let mut next: usize = 0;
     let mut others = Vec::new(alloc);
+    let mut missing = Vec::new(alloc);
     for path in form.as_slice() {
-        if next < wanted.len() && is_same_path(&wanted[next], path) {
-            next += 1;
+        if let Some(place) = place_near(wanted, next, path) {
+            skip(wanted, next, place, &mut missing)?;
+            next = place + 1;
         } else {
             others.push(path)?;
         }
     }
-    if next < wanted.len() {
-        Ok(None)
-    } else {
-        Ok(Some(others))
+    skip(wanted, next, wanted.len(), &mut missing)?;
+    Ok(Parts { others, missing })
+}
+
+// The paths from the one place up to the other are missing.
+fn skip<'a>(
+    wanted: &'a [Path],
+    from: usize,
+    to: usize,
+    missing: &mut Vec<&'a Path>,
+) -> Result<(), OutOfMemory>
+    requires from { from ≤ to }
+    requires to { to ≤ length wanted.now }
+    ensures { OnOk result (IsSkipped wanted.now from to (lent missing.old.items) (lent missing.new.items)) }
+{
+    for place in from..to {
+        missing.push(&wanted[place])?;
     }
+    Ok(())
+}
+
+// Whether each of the missing paths, which are few, is one of the others.
+fn are_among(missing: &[&Path], others: &[&Path]) -> bool
+    ensures { IsTrue result → IsIn (lent missing.now) (lent others.now) }
+{
+    if missing.len() > MOST_MOVED {
+        return false;
+    }
+    for path in missing {
+        if !is_among(path, others) {
+            return false;
+        }
+    }
+    true
+}
+
+fn is_among(path: &Path, others: &[&Path]) -> bool
+    ensures { IsTrue result → (q : PlainPath) → path_below (plain_path path.now) q ≡ true → Sees (lent others.now) q }
+{
+    for other in others {
+        if is_same_path(path, other) {
+            return true;
+        }
+    }
+    false
+}
+
+// The others that aren't among the missing ones.
+fn rest_of<'a>(
+    alloc: Global,
+    others: &[&'a Path],
+    missing: &[&Path],
+) -> Result<Vec<&'a Path>, OutOfMemory>
+    ensures { IfOk result (λ rest. IsRest (lent others.now) (lent rest.items) (lent missing.now)) }
+{
+    let mut rest = Vec::new(alloc);
+    for path in others {
+        if !is_among(path, missing) {
+            rest.push(*path)?;
+        }
+    }
+    Ok(rest)
 }
 
 // Paths of the first form that have one of the keys, and stand in the second one too, in the same order.
@@ -226,7 +343,9 @@ fn keys_in(alloc: Global, procedure: &Paths) -> Result<BTreeMap<u64, ()>, OutOfM
 }
 
 // Where the path stands among the next ones.
-fn place_near(members: &[Path], from: usize, path: &Path) -> Option<usize> {
+fn place_near(members: &[Path], from: usize, path: &Path) -> Option<usize>
+    ensures { IfSome result (IsFound members.now from (plain_path path.now)) }
+{
     let past = members.len().min(from.saturating_add(NEAR));
     for place in from..past {
         if is_same_path(&members[place], path) {

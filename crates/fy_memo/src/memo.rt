@@ -29,7 +29,8 @@ struct Join {
     ghost right: { are_same (plain_paths joined) (join_of (plain_paths first) (plain_paths second)) ≡ true },
 }
 
-/// What was answered. It is kept from the second time on that a call of a number, or a pair, is asked for.
+/// What was answered: calls and joins from the second time on that the number of a call, or a pair, is asked for, types of domains and
+/// of atoms from the first.
 #[derive(Drop)]
 pub struct Memo {
     knowns: Vec<Known>,

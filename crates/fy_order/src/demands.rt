@@ -113,15 +113,6 @@ pub fn rests_of_takers(alloc: Global, taken: &[bool], paths: &Paths) -> Result<P
     Ok(rests)
 }
 
-/// The rests of the paths that begin with a call that takes such an argument.
-pub fn rests_of_call(alloc: Global, argument: &Paths, paths: &Paths) -> Result<Paths, OutOfMemory>
-    ensures { IfOk result
-        (λ made. plain_paths made ≡ rests_of_call_of (plain_paths argument.now) (plain_paths paths.now)) }
-{
-    let taken = takers(alloc, argument, paths)?;
-    rests_of_takers(alloc, taken.as_slice(), paths)
-}
-
 /// The rests of the paths that begin with the field.
 pub fn rests_of_field(alloc: Global, name: Name, paths: &Paths) -> Result<Paths, OutOfMemory>
     ensures { IfOk result (λ made. plain_paths made ≡ rests_of_field_of name (plain_paths paths.now)) }

@@ -5,12 +5,12 @@ ghost use Rattle.fy_types.specs.Reading.{paths_from, plain_path};
 ghost use Rattle.fy_order.specs.Levels.{AreAt, AreInner, AreLevels, IsGrown, IsLevel, PlainTagged, StandsAlike, all_tagged, inner_from, met_in, next, nodes as nodes_of, own_sign, plain_tagged};
 
 use crate::alike::{are_alike, weigh};
+use crate::keyed::weight;
 use crate::sign::{Tagged, sign};
 use fy_base::OutOfMemory;
 use fy_forms::mixed;
 use fy_types::{Path, PathElem};
 use std::alloc::Global;
-use std::collections::BTreeMap;
 
 /// The paths of a level, and where those in the domains of each stand on the next one.
 #[derive(Drop)]
@@ -32,11 +32,18 @@ pub(crate) fn width(levels: &[Level<'_>]) -> usize
     }
 }
 
-/// Paths that were met, and where the last one of each number stands.
+/// A number, and where the last path that has it stands.
+#[derive(Clone, Copy)]
+struct Noted {
+    number: u64,
+    place: usize,
+}
+
+/// Paths that were met, and where the last one of each number stands, in slots by the numbers.
 #[derive(Drop)]
 struct Met<'a> {
     nodes: Vec<Tagged<'a>>,
-    places: BTreeMap<u64, usize>,
+    slots: Vec<Vec<Noted>>,
 }
 
 impl<'a> Met<'a> {
@@ -46,16 +53,57 @@ impl<'a> Met<'a> {
         ensures grown { OnOk result (IsGrown (met_in self.old) (met_in self.new) (plain_tagged tagged.entry ∷ [])) }
     {
         let number = mixed(weigh(tagged.path).number, tagged.tag);
-        if let Some(place) = self.places.get(&number) {
-            if stands_at(self.nodes.as_slice(), *place, tagged) {
-                return Ok(*place);
+        if let Some(place) = last_of(self.slots.as_slice(), number) {
+            if stands_at(self.nodes.as_slice(), place, tagged) {
+                return Ok(place);
             }
         }
         let place = self.nodes.len();
-        self.places.insert(number, place)?;
+        note_last(&mut self.slots, number, place)?;
         self.nodes.push(tagged)?;
         Ok(place)
     }
+}
+
+// No numbers, in a slot for each of so many and one more.
+fn empty_slots(alloc: Global, count: usize) -> Result<Vec<Vec<Noted>>, OutOfMemory> {
+    let slots = count.saturating_add(1);
+    let mut all = Vec::with_capacity(alloc, slots)?;
+    for _ in 0..slots {
+        all.push(Vec::new(alloc))?;
+    }
+    Ok(all)
+}
+
+fn slot_of(number: u64, count: usize) -> usize {
+    (number % count.max(1) as u64) as usize
+}
+
+// The place that the number has.
+fn last_of(slots: &[Vec<Noted>], number: u64) -> Option<usize> {
+    let list = slots.get(slot_of(number, slots.len()))?;
+    for noted in list.as_slice() {
+        if noted.number == number {
+            return Some(noted.place);
+        }
+    }
+    None
+}
+
+// The number has the place.
+fn note_last(slots: &mut Vec<Vec<Noted>>, number: u64, place: usize) -> Result<(), OutOfMemory> {
+    let slot = slot_of(number, slots.len());
+    if slot < slots.len() {
+        let list = &mut slots[slot];
+        for at in 0..list.len() {
+            if list[at].number == number {
+                list[at].place = place;
+                return Ok(());
+            }
+        }
+        list.push(Noted { number, place })?;
+    }
+    Ok(())
 }
 
 fn stands_at(nodes: &[Tagged<'_>], place: usize, tagged: Tagged<'_>) -> bool
@@ -118,6 +166,15 @@ fn places_of_all<'a>(
     Ok(all)
 }
 
+// How many paths stand in the domains of all, and themselves.
+fn width_in(nodes: &[Tagged<'_>]) -> usize {
+    let mut sum: usize = 0;
+    for tagged in nodes {
+        sum = sum.saturating_add(weight(tagged.path));
+    }
+    sum
+}
+
 fn signs_of(alloc: Global, nodes: &[Tagged<'_>]) -> Result<Vec<u64>, OutOfMemory>
     ensures { IfOk result (λ signs. signs.items ≡ map own_sign (map plain_tagged nodes.now)) }
 {
@@ -142,9 +199,10 @@ pub(crate) fn level_of<'a>(alloc: Global, nodes: Vec<Tagged<'a>>) -> Result<Made
     ensures next { IfOk result (λ made. (t : PlainTagged) → Contains (map plain_tagged made.next.items) t
         → Contains (next (map plain_tagged nodes.entry.items)) t) }
 {
+    let slots = empty_slots(alloc, width_in(nodes.as_slice()))?;
     let mut met = Met {
         nodes: Vec::new(alloc),
-        places: BTreeMap::new(alloc),
+        slots,
     };
     let inner = places_of_all(alloc, &mut met, nodes.as_slice())?;
     let signs = signs_of(alloc, nodes.as_slice())?;

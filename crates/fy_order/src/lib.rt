@@ -11,7 +11,6 @@ mod relation;
 mod sign;
 
 pub use demands::{
-    are_paths_below, has, is_one_below, one_end, others, rests_of_call, rests_of_field,
-    rests_of_takers, takers,
+    are_paths_below, has, is_one_below, one_end, others, rests_of_field, rests_of_takers, takers,
 };
 pub use keyed::{PathIndex, is_form_below, weight};

@@ -1,7 +1,8 @@
 use fy_derive::Demand;
 use fy_forms::{TypeError, join, meet, paths_of};
 use fy_order::{
-    PathIndex, are_paths_below, is_form_below, one_end, others, rests_of_call, rests_of_field,
+    PathIndex, are_paths_below, is_form_below, one_end, others, rests_of_field, rests_of_takers,
+    takers,
 };
 use fy_types::{
     Atom, Names, Ty, TyList, copy_paths, copy_ty, is_below, is_subtype, print_ty, same_ty, ty_of,
@@ -147,7 +148,8 @@ fn rests_stand_behind_demands(rt: HostRuntime) -> Result<(), Fail> {
     let int = one_end(alloc, Atom::Int)?;
     assert!(rt; are_paths_below(alloc, &int, &int)?);
     let procedure = paths_of(alloc, &arrow(alloc, atom(Atom::Int), atom(Atom::Bool))?)?;
-    let rests = rests_of_call(alloc, &int, &procedure)?;
+    let taken = takers(alloc, &int, &procedure)?;
+    let rests = rests_of_takers(alloc, taken.as_slice(), &procedure)?;
     assert!(rt; matches!(rests.as_slice(), [rest] if rest.end == Atom::Bool));
     let record = paths_of(alloc, &fields(alloc, 1)?)?;
     assert!(rt; rests_of_field(alloc, 7, &record)?.len() == 1);

@@ -2,7 +2,7 @@ use Rattle.std.proofs.Common.{◌≡◌, ◌<◌, Err, arith, sym, ap, ◌∙◌
 use Rattle.std.proofs.lemmas.Result.{err_from_is_err_and}
 use Rattle.fy_types.specs.Paths.{called}
 use Rattle.fy_types.specs.Reading.{plain_path, plain_paths, paths_from}
-use Rattle.fy_types.specs.Limits.{all_nodes, IsTooLarge}
+use Rattle.fy_types.specs.Limits.{all_nodes, IsTooLarge, IsWithinLimits}
 use Rattle.fy_forms.specs.declared.error.TypeError.TheVariants.{TypeTooLarge}
 use Rattle.fy_types.proofs.ReadLemmas.{plain_paths-at}
 use Rattle.fy_types.proofs.Sizes.{no_nodes, large-domain, large-rest}
@@ -29,3 +29,8 @@ returns-in_err-call-clause-large c =
     rw (p.1, p.2) (λ e. let is : c.in_err-call.field-0.0 ≡ TypeTooLarge = cc in
     large-domain (plain_paths c.args.domain.now) (plain_paths c.args.paths.now) some
     (subst IsTooLarge c.in_ok-argument.ensures (c.in_err-call.ensures.large (ap Err is))))
+
+pub returns-then-after-eq0-clause-within : goal.returns-then-after-eq0-clause-within
+returns-then-after-eq0-clause-within c =
+    let none = no_nodes (plain_paths c.in_ok-copy.copy) (sym c.in_ok-after.ensures.ok.nodes ∙ c.if-after-eq0.true) in
+    subst (λ P. IsWithinLimits (called (plain_paths c.args.domain.now) P)) (sym (sym c.in_ok-copy.ensures ∙ none)) (record { few = omega arith; shallow = omega arith })

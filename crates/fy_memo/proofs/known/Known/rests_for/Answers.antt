@@ -11,8 +11,8 @@ returns c =
     let known = c.args.self.now in
     let A = plain_paths c.args.argument.now in
     let B = plain_paths known.base in
-    let made : IsMadeOf A B (lent c.as_slice.result.now) =
-    subst (λ xs. IsMadeOf A B (lent xs)) (sym c.as_slice.ensures.value)
+    let made : IsMadeOf A B (lent c.as_slice-2.result.now) =
+    subst (λ xs. IsMadeOf A B (lent xs)) (sym c.as_slice-2.ensures.value)
     (subst (λ (f : Option (Vec (Bor Path) Global)). IfSome f (λ others. IsMadeOf A B (lent others.items))) c.in-Some.is c.in_ok-others.ensures) in
     rests-again A B (plain_paths known.procedure) (plain_paths c.args.procedure.now) (plain_paths known.rests) known.right
     (c.in_ok-may_take.ensures c.if-branch.false A made) (c.are_same_paths.ensures.0 c.if-not-are_same_paths.false)

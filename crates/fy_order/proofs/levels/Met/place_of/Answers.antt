@@ -5,7 +5,7 @@ use Rattle.fy_order.proofs.levels.Met.place_of.Goals as goal
 
 pub returns-clause-at : goal.returns-clause-at
 returns-clause-at c =
-    let xs = c.match-get.self.nodes.items in
+    let xs = c.args.self.now.nodes.items in
     let t = plain_tagged c.args.tagged in
-    let len = c.len-place.ensures ∙ c.match-get.self.nodes.ok.0 in
+    let len = c.len-place.ensures ∙ c.args.self.now.nodes.ok.0 in
     rw (c.in_ok-push.ensures.items, len) (none-alike (map plain_tagged (xs ++ (c.args.tagged ∷ []))) t _ (at-last xs c.args.tagged))
