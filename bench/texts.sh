@@ -145,7 +145,7 @@ merges "$procedures" "$procedures" 400 | measure '400 calls on 240 orders in pro
 deep="$(repeated '(' 12)(a%s: int)$(repeated ' -> int)' 12)"
 merges "$(each "$deep" 1 1 153)" "$(each "$deep" 153 -1 1)" 400 | measure '400 calls on 153 paths twelve deep, so'
 { printf 'lettype t == '; sorts; printf ' in lettype d == '; each '(a%s: int)' 1 1 7; printf ' & '; each '(b%s: int)' 1 1 7; printf ' in let p == \\f: '; each '(((d & (z%s: int)) -> int) -> comm)' 1 1 77; printf ' & (ns -> comm). \\x: t. (f (x, c1 == 1)'; for i in $(seq 2 1000); do printf '; f (x, c%s == 1)' "$i"; done; printf ') in skip'; } | measure '1,000 calls of 78 alternatives, so'
-# So many paths `(P & Q) -> int`, where P and Q are procedures that take procedures, drawn by numbers that follow from a first one; the last first, if the third word is -1. Further
+# So many paths `(P & Q) -> int`, where P and Q are procedures that take procedures, drawn by numbers that follow from a first one; the last first, if the third word is -1, or in steps of that word round them. Further
 # words say of how deep procedures, of how many fields and of how many members a domain is drawn, if not of two that take procedures, and twelve fields.
 drawn() {
     awk -v count="$1" -v state="$2" -v step="$3" -v depth="${4:-2}" -v fields="${5:-12}" -v members="${6:-2}" '
@@ -162,7 +162,7 @@ drawn() {
         }
         BEGIN {
             for (j = 0; j < count; j++) list[j] = path()
-            for (j = 0; j < count; j++) printf "%s%s", (j ? " & " : ""), list[step < 0 ? count - 1 - j : j]
+            for (j = 0; j < count; j++) printf "%s%s", (j ? " & " : ""), list[step < 0 ? count - 1 - j : j * step % count]
         }'
 }
 merges "$(drawn 80 7 1)" "$(drawn 80 7 -1)" 1000 | measure '1,000 calls on procedures of procedures, so'
@@ -200,6 +200,33 @@ anew() {
 }
 anew "$(drawn 250 7 1 1 300 1)" "$(drawn 250 7 -1 1 300 1)" 1200 | measure '1,200 calls on 250 paths, each with another of 600 fields anew'
 anew "$(drawn 195 7 1 0 5000 1)" "($(drawn 195 7 -1 0 5000 1)) & c" 1200 | measure '1,200 calls on 195 paths, the domain with the 600 fields too'
+# Calls on three records in turn, which have the same 59 paths in three orders, each with an argument of its own by one more field. The domains of the paths are orders of the same 32
+# fields, of which those of the procedure's domain lack one, so that it takes none of the records.
+permuted() {
+    awk -v step="$1" -v more="$2" -v count=59 -v size=31 -v state=7 '
+        function draw(n) { state = (state * 16807) % 2147483647; return state % n }
+        function path(i, k, kept, s) {
+            for (i = 1; i <= size; i++) names[i] = i
+            for (i = size; i > 0; i--) {
+                k = draw(i) + 1
+                kept = names[k]; names[k] = names[i]; names[i] = kept
+                s = s (s == "" ? "" : " & ") "(a" kept ": int)"
+            }
+            return "((" s (more == "" ? "" : " & (" more ": int)") ") -> int)"
+        }
+        BEGIN {
+            for (j = 0; j < count; j++) list[j] = path()
+            for (j = 0; j < count; j++) printf "%s%s", (j ? " & " : ""), list[j * step % count]
+        }'
+}
+turns() {
+    printf 'lettype t == %s in lettype u == %s in lettype v == %s in lettype s == %s in let p == \\f: s -> comm. \\x: t. \\y: u. \\z: v. (skip' "$1" "$2" "$3" "$4"
+    for i in $(seq 1 3 "$5"); do printf '; f (x, c%s == 1); f (y, c%s == 1); f (z, c%s == 1)' "$i" "$((i + 1))" "$((i + 2))"; done
+    printf ') in skip'
+}
+turns "$(permuted 1 b)" "$(permuted 7 b)" "$(permuted 11 b)" "$(permuted 1 '')" 400 | measure '400 calls on three orders of 59 paths in turn'
+# The same with 263 procedures that take procedures, all of which the procedure takes.
+turns "$(drawn 263 7 1 1 300 1)" "$(drawn 263 7 7 1 300 1)" "$(drawn 263 7 11 1 300 1)" "$(drawn 263 7 -1 1 300 1)" 600 | measure '600 calls on three orders of 263 paths in turn'
 # Conditionals whose branches all differ, by a field more.
 joins() {
     printf 'lettype t == %s in lettype s == %s in let p == \\x: t. \\y: s. (' "$1" "$2"
