@@ -238,5 +238,5 @@ joins() {
 }
 joins "$(each '(a%s: int)' 1 1 2000)" "$(each '(a%s: int)' 2000 -1 1)" 400 | measure '400 conditionals of 2,000 fields, so'
 joins "$(orders '' out)" "$(orders '' '')" 400 | measure '400 conditionals with a field less, so'
-# Of 1,366 paths, the slots for which many keys share.
+# Of records of 1,366 paths, many of whose keys share a slot.
 joins "$(each '(a%s: int)' 1 1 1365)" "$(each '(a%s: int)' 1365 -1 1)" 600 | measure '600 conditionals of 1,365 fields, so'
