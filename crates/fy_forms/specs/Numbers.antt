@@ -1,6 +1,6 @@
 -- A path's number, which is made of all of it from the front, and its key, which leaves out the domains: of paths that are equal the numbers are equal,
 -- and of paths that are below one another, or have a common path, the keys.
-use Rattle.std.specs.Prelude.{ℕ, ◌+◌, ◌*◌, ◌^◌, ◌%◌}
+use Rattle.std.specs.Prelude.{ℕ, ◌+◌, ◌*◌, ◌^◌, ◌/◌, ◌%◌}
 use Rattle.fy_types.specs.declared.types.Atom.{Atom}
 use Rattle.fy_types.specs.declared.types.Atom.TheVariants.{Int, Char, Comm, Compl, IntAcc, BoolAcc, CharAcc}
 use Rattle.fy_types.specs.declared.types.Atom.TheVariants as atoms
@@ -8,9 +8,13 @@ use Rattle.fy_types.specs.Once.{place}
 use Rattle.fy_types.specs.Paths.{PlainPath, PlainPaths, end, call, pick, no_paths, and_path}
 use Rattle.fy_types.specs.Reading.{PlainElem, a_call, a_field}
 
--- a number and one more mark: a step of Knuth's linear congruential generator, with the mark as its increment
+-- the number and the square of its high half, so that multiples of one number have many remainders (what O'Neill's generators do to a step, in another way)
+abbrev pub spread : ℕ → ℕ
+spread n = (n + ((n / 2 ^ 32) * (n / 2 ^ 32)) % 2 ^ 64) % 2 ^ 64
+
+-- a number and one more mark: a step of Knuth's linear congruential generator, with the mark as its increment, and spread
 abbrev pub mixed : ℕ → ℕ → ℕ
-mixed n mark = ((n * 6364136223846793005) % 2 ^ 64 + mark) % 2 ^ 64
+mixed n mark = spread (((n * 6364136223846793005) % 2 ^ 64 + mark) % 2 ^ 64)
 
 abbrev mutual
   pub path_number : ℕ → PlainPath → ℕ

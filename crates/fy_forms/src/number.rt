@@ -1,7 +1,7 @@
 //! Numbers of paths, by which they are looked up.
 
 ghost use Rattle.std.specs.Prelude.{◌≡◌};
-ghost use Rattle.fy_forms.specs.Numbers.{elem_number, mixed as mixed_of, number_of as number_of_path, path_number, paths_number};
+ghost use Rattle.fy_forms.specs.Numbers.{elem_number, mixed as mixed_of, number_of as number_of_path, path_number, paths_number, spread as spread_of};
 ghost use Rattle.fy_types.specs.Once.{place as place_of};
 ghost use Rattle.fy_types.specs.Reading.{plain_elem, plain_path, plain_paths};
 
@@ -25,9 +25,19 @@ pub fn number_of_form(paths: &Paths) -> u64
 pub fn mixed(number: u64, mark: u64) -> u64
     ensures { result ≡ mixed_of number mark }
 {
-    number
-        .wrapping_mul(6_364_136_223_846_793_005)
-        .wrapping_add(mark)
+    spread(
+        number
+            .wrapping_mul(6_364_136_223_846_793_005)
+            .wrapping_add(mark),
+    )
+}
+
+// The number and the square of its high half.
+fn spread(number: u64) -> u64
+    ensures { result ≡ spread_of number }
+{
+    let high = number >> 32;
+    number.wrapping_add(high.wrapping_mul(high))
 }
 
 #[cycle(number)]
