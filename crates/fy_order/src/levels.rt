@@ -32,18 +32,18 @@ pub(crate) fn width(levels: &[Level<'_>]) -> usize
     }
 }
 
-/// A number, and where the last path that has it stands.
+/// A number, and one more than where the path before it in its slot stands, or zero.
 #[derive(Clone, Copy)]
 struct Noted {
     number: u64,
-    place: usize,
+    before: usize,
 }
 
-/// Paths that were met, and where the last one of each number stands, in slots by the numbers.
+/// Paths that were met, and their numbers in slots.
 #[derive(Drop)]
 struct Met<'a> {
     nodes: Vec<Tagged<'a>>,
-    slots: Vec<Vec<Noted>>,
+    slots: Slots,
 }
 
 impl<'a> Met<'a> {
@@ -53,57 +53,62 @@ impl<'a> Met<'a> {
         ensures grown { OnOk result (IsGrown (met_in self.old) (met_in self.new) (plain_tagged tagged.entry ∷ [])) }
     {
         let number = mixed(weigh(tagged.path).number, tagged.tag);
-        if let Some(place) = last_of(self.slots.as_slice(), number) {
+        if let Some(place) = self.slots.last_of(number) {
             if stands_at(self.nodes.as_slice(), place, tagged) {
                 return Ok(place);
             }
         }
         let place = self.nodes.len();
-        note_last(&mut self.slots, number, place)?;
+        self.slots.add(number)?;
         self.nodes.push(tagged)?;
         Ok(place)
     }
 }
 
-// No numbers, in a slot for each of so many and one more.
-fn empty_slots(alloc: Global, count: usize) -> Result<Vec<Vec<Noted>>, OutOfMemory> {
-    let slots = count.saturating_add(1);
-    let mut all = Vec::with_capacity(alloc, slots)?;
-    for _ in 0..slots {
-        all.push(Vec::new(alloc))?;
+/// The numbers of paths in order, and for each slot one more than where the last path stands whose number has it, or zero.
+#[derive(Drop)]
+struct Slots {
+    noted: Vec<Noted>,
+    last: Vec<usize>,
+}
+
+impl Slots {
+    // No numbers, in a slot for each of so many and one more.
+    fn for_many(alloc: Global, count: usize) -> Result<Slots, OutOfMemory> {
+        Ok(Slots {
+            noted: Vec::with_capacity(alloc, count)?,
+            last: vec![in alloc; 0usize; count.saturating_add(1)]?,
+        })
     }
-    Ok(all)
-}
 
-fn slot_of(number: u64, count: usize) -> usize {
-    (number % count.max(1) as u64) as usize
-}
-
-// The place that the number has.
-fn last_of(slots: &[Vec<Noted>], number: u64) -> Option<usize> {
-    let list = slots.get(slot_of(number, slots.len()))?;
-    for noted in list.as_slice() {
-        if noted.number == number {
-            return Some(noted.place);
-        }
+    fn slot_of(&self, number: u64) -> usize {
+        (number % self.last.len().max(1) as u64) as usize
     }
-    None
-}
 
-// The number has the place.
-fn note_last(slots: &mut Vec<Vec<Noted>>, number: u64, place: usize) -> Result<(), OutOfMemory> {
-    let slot = slot_of(number, slots.len());
-    if slot < slots.len() {
-        let list = &mut slots[slot];
-        for at in 0..list.len() {
-            if list[at].number == number {
-                list[at].place = place;
-                return Ok(());
+    // Where the last path stands that has the number.
+    fn last_of(&self, number: u64) -> Option<usize> {
+        let mut next = *self.last.get(self.slot_of(number))?;
+        for _ in 0..self.noted.len() {
+            let place = next.checked_sub(1)?;
+            let noted = self.noted.get(place)?;
+            if noted.number == number {
+                return Some(place);
             }
+            next = noted.before;
         }
-        list.push(Noted { number, place })?;
+        None
     }
-    Ok(())
+
+    // Adds the number of the next path.
+    fn add(&mut self, number: u64) -> Result<(), OutOfMemory> {
+        let slot = self.slot_of(number);
+        if slot < self.last.len() {
+            let before = self.last[slot];
+            self.noted.push(Noted { number, before })?;
+            self.last[slot] = self.noted.len();
+        }
+        Ok(())
+    }
 }
 
 fn stands_at(nodes: &[Tagged<'_>], place: usize, tagged: Tagged<'_>) -> bool
@@ -199,7 +204,7 @@ pub(crate) fn level_of<'a>(alloc: Global, nodes: Vec<Tagged<'a>>) -> Result<Made
     ensures next { IfOk result (λ made. (t : PlainTagged) → Contains (map plain_tagged made.next.items) t
         → Contains (next (map plain_tagged nodes.entry.items)) t) }
 {
-    let slots = empty_slots(alloc, width_in(nodes.as_slice()))?;
+    let slots = Slots::for_many(alloc, width_in(nodes.as_slice()))?;
     let mut met = Met {
         nodes: Vec::new(alloc),
         slots,
