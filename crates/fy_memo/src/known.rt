@@ -11,7 +11,7 @@ ghost use Rattle.fy_types.specs.Paths.{PlainPath, PlainPaths};
 ghost use Rattle.fy_types.specs.Reading.{plain_path, plain_paths};
 
 use fy_base::OutOfMemory;
-use fy_forms::{are_same_paths, is_same_path, key_of};
+use fy_forms::{are_same_paths, is_same_path, key_of, number_of};
 use fy_order::{is_one_below, takers};
 use fy_types::{Path, PathElem, Paths, copy_path};
 use std::alloc::Global;
@@ -114,8 +114,8 @@ impl Known {
         Ok(false)
     }
 
-    /// The paths that the base and the argument have in common, as far as that is seen at once, if the procedure takes them by just the
-    /// paths by which it takes the argument.
+    /// The paths that the base and the argument have in common, as their numbers tell, if the procedure takes them by just the paths by
+    /// which it takes the argument.
     pub(crate) fn base_with(
         &self,
         alloc: Global,
@@ -133,7 +133,8 @@ impl Known {
             return Ok(None);
         }
         let keys = keys_in(alloc, procedure)?;
-        let common = common_of(alloc, &self.base, argument, &keys)?;
+        let numbers = numbers_in(alloc, argument)?;
+        let common = common_of(alloc, &self.base, &keys, &numbers)?;
         if common.len() == 0 || common.len() == argument.len() {
             return Ok(None);
         }
@@ -308,25 +309,29 @@ fn rest_of<'a>(
     Ok(rest)
 }
 
-// Paths of the first form that have one of the keys, and stand in the second one too, in the same order.
+// The paths of the form that have one of the keys and one of the numbers.
 fn common_of(
     alloc: Global,
-    first: &Paths,
-    second: &Paths,
+    form: &Paths,
     keys: &BTreeMap<u64, ()>,
+    numbers: &BTreeMap<u64, ()>,
 ) -> Result<Paths, OutOfMemory> {
-    let members = second.as_slice();
-    let mut next: usize = 0;
     let mut common = Paths::new(alloc);
-    for path in first.as_slice() {
-        if keys.get(&key_of(path)).is_some() {
-            if let Some(place) = place_near(members, next, path) {
-                common.push(copy_path(alloc, path)?)?;
-                next = place.saturating_add(1);
-            }
+    for path in form.as_slice() {
+        if keys.get(&key_of(path)).is_some() && numbers.get(&number_of(path)).is_some() {
+            common.push(copy_path(alloc, path)?)?;
         }
     }
     Ok(common)
+}
+
+// The numbers of the form's paths.
+fn numbers_in(alloc: Global, form: &Paths) -> Result<BTreeMap<u64, ()>, OutOfMemory> {
+    let mut numbers = BTreeMap::new(alloc);
+    for path in form.as_slice() {
+        numbers.insert(number_of(path), ())?;
+    }
+    Ok(numbers)
 }
 
 // The keys of the paths in the domains of the first calls. No other path is below one of them.

@@ -16,9 +16,13 @@ use crate::types::Types;
 use fy_base::OutOfMemory;
 use fy_forms::{TypeError, are_same_paths, join, meet, mixed, number_of, number_of_form};
 use fy_order::{rests_of_takers, takers, weight};
-use fy_types::{Paths, Ty, copy_paths};
+use fy_types::{Path, Paths, Ty, copy_paths};
 use std::alloc::Global;
 use std::collections::BTreeMap;
+
+// So many paths beside the heaviest one, towards the middle, tell one order of an argument's paths from others. At its ends paths are
+// added and taken away.
+const BESIDE: usize = 3;
 
 /// The join of two forms.
 #[derive(Drop)]
@@ -237,25 +241,55 @@ fn rests_once(alloc: Global, taken: &[bool], procedure: &Paths) -> Result<Paths,
     meet(alloc, &Paths::new(alloc), &rests)
 }
 
-// Few calls have one number, if their procedures aren't the same, or the heaviest paths of their arguments.
+// Few calls have one number, if their procedures aren't the same, or the heaviest paths of their arguments, or heavy ones beside them.
 fn number_of_call(argument: &Paths, procedure: &Paths) -> u64 {
-    mixed(number_of_form(procedure), number_of_heaviest(argument))
-}
-
-// The number of the heaviest path, and the greatest number of those that are as heavy.
-fn number_of_heaviest(form: &Paths) -> u64 {
-    let mut heaviest: usize = 0;
-    let mut number: u64 = 0;
-    for path in form.as_slice() {
-        let weight = weight(path);
-        if weight > heaviest {
-            heaviest = weight;
-            number = number_of(path);
-        } else if weight == heaviest {
-            number = number.max(number_of(path));
+    let members = argument.as_slice();
+    let heaviest = heaviest(members);
+    let mut number = mixed(number_of_form(procedure), heaviest.number);
+    let from = if heaviest.place < members.len() / 2 {
+        heaviest.place.saturating_add(1)
+    } else {
+        heaviest.place.saturating_sub(BESIDE)
+    };
+    for place in from..from.saturating_add(BESIDE) {
+        if let Some(path) = members.get(place) {
+            if weight(path) > heaviest.weight / 2 {
+                number = mixed(number, number_of(path));
+            }
         }
     }
     number
+}
+
+/// Where a path stands, its weight, and its number.
+#[derive(Clone, Copy)]
+struct Weighed {
+    place: usize,
+    weight: usize,
+    number: u64,
+}
+
+// The heaviest path, and of those that are as heavy the one with the greatest number.
+fn heaviest(members: &[Path]) -> Weighed {
+    let mut best = Weighed {
+        place: 0,
+        weight: 0,
+        number: 0,
+    };
+    for (place, path) in members.iter().enumerate() {
+        let weight = weight(path);
+        if weight >= best.weight {
+            let number = number_of(path);
+            if weight > best.weight || number > best.number {
+                best = Weighed {
+                    place,
+                    weight,
+                    number,
+                };
+            }
+        }
+    }
+    best
 }
 
 // Few pairs have one number, if they are not the same.
