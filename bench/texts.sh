@@ -219,14 +219,49 @@ permuted() {
             for (j = 0; j < count; j++) printf "%s%s", (j ? " & " : ""), list[j * step % count]
         }'
 }
+# So many calls on records in turn: what the procedure takes, said with the type s, a call as a format of a record's number and its own, how many of them, s, and the records' types.
 turns() {
-    printf 'lettype t == %s in lettype u == %s in lettype v == %s in lettype s == %s in let p == \\f: s -> comm. \\x: t. \\y: u. \\z: v. (skip' "$1" "$2" "$3" "$4"
-    for i in $(seq 1 3 "$5"); do printf '; f (x, c%s == 1); f (y, c%s == 1); f (z, c%s == 1)' "$i" "$((i + 1))" "$((i + 2))"; done
+    taken=$1 call=$2 calls=$3 domain=$4
+    shift 4
+    for i in $(seq $#); do printf 'lettype t%s == %s in ' "$i" "${!i}"; done
+    printf 'lettype s == %s in let p == \\f: %s -> comm. ' "$domain" "$taken"
+    for i in $(seq $#); do printf '\\x%s: t%s. ' "$i" "$i"; done
+    printf '(skip'
+    for i in $(seq "$calls"); do printf "; $call" $(((i - 1) % $# + 1)) "$i"; done
     printf ') in skip'
 }
-turns "$(permuted 1 b)" "$(permuted 7 b)" "$(permuted 11 b)" "$(permuted 1 '')" 400 | measure '400 calls on three orders of 59 paths in turn'
-# The same with 263 procedures that take procedures, all of which the procedure takes.
-turns "$(drawn 263 7 1 1 300 1)" "$(drawn 263 7 7 1 300 1)" "$(drawn 263 7 11 1 300 1)" "$(drawn 263 7 -1 1 300 1)" 600 | measure '600 calls on three orders of 263 paths in turn'
+turns s 'f (x%s, c%s == 1)' 400 "$(permuted 1 '')" "$(permuted 1 b)" "$(permuted 7 b)" "$(permuted 11 b)" | measure '400 calls on three orders of 59 paths in turn'
+# The same with 263 procedures that take procedures, all of which the procedure takes, in three orders and in nine.
+two_deep() {
+    drawn 263 7 "$1" 1 300 1
+}
+turns s 'f (x%s, c%s == 1)' 600 "$(two_deep -1)" "$(two_deep 1)" "$(two_deep 7)" "$(two_deep 11)" | measure '600 calls on three orders of 263 paths in turn'
+turns s 'f (x%s, c%s == 1)' 1200 "$(two_deep -1)" "$(two_deep 1)" "$(two_deep 7)" "$(two_deep 11)" "$(two_deep 13)" "$(two_deep 17)" "$(two_deep 19)" "$(two_deep 23)" "$(two_deep 29)" "$(two_deep 31)" | measure '1,200 calls on nine orders of 263 paths in turn'
+# Records of procedures a level deeper, behind a field, of which the one with a field more has none at its own place.
+three_deep() {
+    drawn "$1" 7 "$2" 2 1000 1
+}
+turns '(g: s)' 'f (g == (x%s, c%s == 1))' 1200 "$(three_deep 120 -1)" "$(three_deep 120 1)" "$(three_deep 120 7)" "$(three_deep 120 11)" | measure '1,200 calls on a field of three orders of 120 paths'
+# The argument has the same four fields each time, of 55 such procedures each, in an order that is drawn; the domain has the procedures of each the last first.
+{
+    for i in 1 2 3 4; do printf 'lettype t%s == %s in lettype s%s == %s in ' "$i" "$(drawn 55 "$i" 1 2 300 1)" "$i" "$(drawn 55 "$i" -1 2 300 1)"; done
+    printf 'let p == \\f: (c: s3) & (a: s1) & (d: s4) & (b: s2) -> comm. \\x1: t1. \\x2: t2. \\x3: t3. \\x4: t4. (skip'
+    awk -v calls=400 -v state=7 '
+        function draw(n) { state = (state * 16807) % 2147483647; return state % n }
+        BEGIN {
+            split("a b c d", names, " ")
+            for (j = 1; j <= calls; j++) {
+                for (i = 1; i <= 4; i++) order[i] = i
+                for (i = 4; i > 0; i--) {
+                    k = draw(i) + 1
+                    kept = order[k]; order[k] = order[i]; order[i] = kept
+                    s = names[kept] " == x" kept (i < 4 ? ", " s : "")
+                }
+                printf "; f (%s)", s
+            }
+        }'
+    printf ') in skip'
+} | measure '400 calls on four fields in other orders'
 # Conditionals whose branches all differ, by a field more.
 joins() {
     printf 'lettype t == %s in lettype s == %s in let p == \\x: t. \\y: s. (' "$1" "$2"
