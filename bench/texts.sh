@@ -219,7 +219,7 @@ permuted() {
             for (j = 0; j < count; j++) printf "%s%s", (j ? " & " : ""), list[j * step % count]
         }'
 }
-# So many calls on records in turn: what the procedure takes, said with the type s, a call as a format of a record's number and its own, how many of them, s, and the records' types.
+# Calls on records in turn. Its words are what the procedure takes, where the type s may stand; a call, as a format of a record's number and the call's; how many calls; s; and the records' types.
 turns() {
     taken=$1 call=$2 calls=$3 domain=$4
     shift 4
@@ -237,7 +237,7 @@ two_deep() {
 }
 turns s 'f (x%s, c%s == 1)' 600 "$(two_deep -1)" "$(two_deep 1)" "$(two_deep 7)" "$(two_deep 11)" | measure '600 calls on three orders of 263 paths in turn'
 turns s 'f (x%s, c%s == 1)' 1200 "$(two_deep -1)" "$(two_deep 1)" "$(two_deep 7)" "$(two_deep 11)" "$(two_deep 13)" "$(two_deep 17)" "$(two_deep 19)" "$(two_deep 23)" "$(two_deep 29)" "$(two_deep 31)" | measure '1,200 calls on nine orders of 263 paths in turn'
-# Records of procedures a level deeper, behind a field, of which the one with a field more has none at its own place.
+# Records of procedures a level deeper, in three orders, behind a field.
 three_deep() {
     drawn "$1" 7 "$2" 2 1000 1
 }
@@ -273,5 +273,5 @@ joins() {
 }
 joins "$(each '(a%s: int)' 1 1 2000)" "$(each '(a%s: int)' 2000 -1 1)" 400 | measure '400 conditionals of 2,000 fields, so'
 joins "$(orders '' out)" "$(orders '' '')" 400 | measure '400 conditionals with a field less, so'
-# Of records of 1,366 paths, many of whose keys share a slot.
+# Of records of 1,366 paths: plain steps of the generator that keys are made of have few remainders by 1,367.
 joins "$(each '(a%s: int)' 1 1 1365)" "$(each '(a%s: int)' 1365 -1 1)" 600 | measure '600 conditionals of 1,365 fields, so'
