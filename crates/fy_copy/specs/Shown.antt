@@ -12,19 +12,19 @@ use Rattle.fy_copy.specs.declared.context.Core.{Core}
 
 abbrev pub context_of : Context → CopyContext
 context_of (held.Op1 op at) = op_1 op at
-context_of (held.OpL op q at) = op_l op (reads q.value) at
+context_of (held.OpL op q at) = op_l op (reads q) at
 context_of (held.OpR op u at) = op_r op u at
-context_of (held.If p q) = if_c (reads p.value) (reads q.value)
+context_of (held.If p q) = if_c (reads p) (reads q)
 context_of (held.Case parts at) = case_c (reads_parts parts) at
-context_of (held.Arg q) = arg_c (reads q.value)
+context_of (held.Arg q) = arg_c (reads q)
 context_of (held.Pick i) = pick_c i
-context_of (held.Then q) = then_c (reads q.value)
-context_of (held.Assign p) = assign_c (reads p.value)
+context_of (held.Then q) = then_c (reads q)
+context_of (held.Assign p) = assign_c (reads p)
 context_of (held.Store v) = store_c v
 context_of (held.While loop c) = while_c (reads loop) (reads c)
 context_of (held.Body loop) = body_c (reads loop)
 context_of (held.Loop loop) = loop_c (reads loop)
-context_of (held.New d body) = new_c d (reads body.value)
+context_of (held.New d body) = new_c d (reads body)
 context_of (held.Drop n) = drop_c n
 context_of (held.Put kind) = put_c kind
 context_of (held.Escape n) = esc_c n

@@ -13,40 +13,44 @@ use crate::context::{Context, Core};
 use crate::demand::{accept, call, decide, select, use_cell};
 use crate::finish::{finish, jump};
 use crate::progress::Turn;
-use crate::words::{bind, close, close_with_mark, enter, push_context, take_focus};
+use crate::words::{bind, close, close_with_mark, enter, push_context, take};
 use fy_base::OutOfMemory;
-use fy_phrase::{MarkKind, Phrase, copy_phrase};
+use fy_phrase::{MarkKind, Parts, Phrase, copy_phrase};
 use std::alloc::Global;
+use std::mem;
 
-// The context and the part with which a phrase goes on.
-fn split(focus: Phrase) -> (Context, Phrase)
-    requires { Enters (reads focus) }
-    ensures { (s : CopyState) → step_at (reads focus) s ≡ pushed (context_of result.0) (reads result.1) s }
+// The context and the part with which a phrase goes on, taken out of it.
+fn split(alloc: Global, focus: &mut Phrase) -> (Context, Phrase)
+    requires { Enters (reads focus.old) }
+    ensures { (s : CopyState) → step_at (reads focus.old) s ≡ pushed (context_of result.0) (reads result.1) s }
 {
     match focus {
-        Phrase::Unary(op, p, at) => (Context::Op1(op, at), Box::into_inner(p)),
-        Phrase::Binary(op, p, q, at) => (Context::OpL(op, q, at), Box::into_inner(p)),
-        Phrase::Cond(b, p, q, _) => (Context::If(p, q), Box::into_inner(b)),
-        Phrase::Case(e, parts, at) => (Context::Case(parts, at), Box::into_inner(e)),
-        Phrase::App(p, q, _) => (Context::Arg(q), Box::into_inner(p)),
-        Phrase::Sel(p, i, _) => (Context::Pick(i), Box::into_inner(p)),
-        Phrase::Seq(p, q, _) => (Context::Then(q), Box::into_inner(p)),
-        Phrase::Assign(p, q, _) => (Context::Assign(p), Box::into_inner(q)),
-        Phrase::New(d, _, e, body, _) => (Context::New(d, body), Box::into_inner(e)),
-        Phrase::Put(kind, p, _) => (Context::Put(kind), Box::into_inner(p)),
+        Phrase::Unary(op, p, at) => (Context::Op1(*op, *at), take(p)),
+        Phrase::Binary(op, p, q, at) => (Context::OpL(*op, take(q), *at), take(p)),
+        Phrase::Cond(b, p, q, _) => (Context::If(take(p), take(q)), take(b)),
+        Phrase::Case(e, parts, at) => {
+            let parts = mem::replace(parts, Parts::new(alloc));
+            (Context::Case(parts, *at), take(e))
+        }
+        Phrase::App(p, q, _) => (Context::Arg(take(q)), take(p)),
+        Phrase::Sel(p, i, _) => (Context::Pick(*i), take(p)),
+        Phrase::Seq(p, q, _) => (Context::Then(take(q)), take(p)),
+        Phrase::Assign(p, q, _) => (Context::Assign(take(p)), take(q)),
+        Phrase::New(d, _, e, body, _) => (Context::New(*d, take(body)), take(e)),
+        Phrase::Put(kind, p, _) => (Context::Put(*kind), take(p)),
         _ => unreachable!(),
     }
 }
 
 // Goes on with a part of the focus.
-fn go_in(core: &mut Core) -> Result<Turn, OutOfMemory>
+fn go_in(alloc: Global, core: &mut Core) -> Result<Turn, OutOfMemory>
     requires form { Enters (reads core.old.focus) }
     requires low { IsLow (state_of core.old) }
     ensures ok { IfOk result (λ turn. Moved turn (step_at (reads core.old.focus) (state_of core.old)) (state_of core.new)) }
     ensures err { OnErr result (state_of core.new ≡ state_of core.old) }
 {
     core.contexts.reserve(1)?;
-    let (context, part) = split(take_focus(core));
+    let (context, part) = split(alloc, &mut core.focus);
     enter(core, context, part);
     Ok(Turn::Going)
 }
@@ -62,14 +66,14 @@ fn go_in_loop(alloc: Global, core: &mut Core) -> Result<Turn, OutOfMemory>
             let test = copy_phrase(alloc, b)?;
             let body = copy_phrase(alloc, c)?;
             core.contexts.reserve(1)?;
-            let whole = take_focus(core);
+            let whole = take(&mut core.focus);
             enter(core, Context::While(whole, body), test);
             Ok(Turn::Going)
         }
         Phrase::Forever(c, _) => {
             let body = copy_phrase(alloc, c)?;
             core.contexts.reserve(1)?;
-            let whole = take_focus(core);
+            let whole = take(&mut core.focus);
             enter(core, Context::Loop(whole), body);
             Ok(Turn::Going)
         }
@@ -81,9 +85,17 @@ fn go_in_loop(alloc: Global, core: &mut Core) -> Result<Turn, OutOfMemory>
 fn go_in_demanded(core: &mut Core) -> Turn
     ensures { IsChoice (reads core.old.focus) → Moved result (step_at (reads core.old.focus) (state_of core.old)) (state_of core.new) }
 {
-    match take_focus(core) {
-        Phrase::Merge(p, q, _) => decide(Box::into_inner(p), Box::into_inner(q), core),
-        Phrase::Field(i, p, _) => select(i, Box::into_inner(p), core),
+    match &mut core.focus {
+        Phrase::Merge(p, q, _) => {
+            let p = take(p);
+            let q = take(q);
+            decide(p, q, core)
+        }
+        Phrase::Field(i, p, _) => {
+            let i = *i;
+            let p = take(p);
+            select(i, p, core)
+        }
         _ => Turn::Stuck,
     }
 }
@@ -118,16 +130,16 @@ pub fn advance(alloc: Global, core: &mut Core) -> Result<Turn, OutOfMemory>
         Phrase::Var(..) => Ok(Turn::Stuck),
         Phrase::Lit(v, at) => answer(alloc, *v, *at, core),
         Phrase::Skip(at) => Ok(finish(*at, core)),
-        Phrase::Unary(..) => go_in(core),
-        Phrase::Binary(..) => go_in(core),
-        Phrase::Cond(..) => go_in(core),
-        Phrase::Case(..) => go_in(core),
-        Phrase::App(..) => go_in(core),
-        Phrase::Sel(..) => go_in(core),
-        Phrase::Seq(..) => go_in(core),
-        Phrase::Assign(..) => go_in(core),
-        Phrase::New(..) => go_in(core),
-        Phrase::Put(..) => go_in(core),
+        Phrase::Unary(..) => go_in(alloc, core),
+        Phrase::Binary(..) => go_in(alloc, core),
+        Phrase::Cond(..) => go_in(alloc, core),
+        Phrase::Case(..) => go_in(alloc, core),
+        Phrase::App(..) => go_in(alloc, core),
+        Phrase::Sel(..) => go_in(alloc, core),
+        Phrase::Seq(..) => go_in(alloc, core),
+        Phrase::Assign(..) => go_in(alloc, core),
+        Phrase::New(..) => go_in(alloc, core),
+        Phrase::Put(..) => go_in(alloc, core),
         Phrase::WhileDo(..) => go_in_loop(alloc, core),
         Phrase::Forever(..) => go_in_loop(alloc, core),
         Phrase::Merge(..) => Ok(go_in_demanded(core)),

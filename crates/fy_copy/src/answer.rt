@@ -168,12 +168,12 @@ fn meet_at_once(v: Datum, here: Place, context: Context, core: &mut Core) -> Tur
 {
     match context {
         Context::Op1(op, at) => operate(apply_unary(op, v), at, core),
-        Context::OpL(op, q, at) => meet_left(op, v, here, Box::into_inner(q), at, core),
+        Context::OpL(op, q, at) => meet_left(op, v, here, q, at, core),
         Context::OpR(op, u, at) => operate(apply_binary(op, u, v), at, core),
-        Context::If(p, q) => choose(v, Box::into_inner(p), Box::into_inner(q), core),
+        Context::If(p, q) => choose(v, p, q, core),
         Context::While(whole, body) => repeat(v, here, whole, body, core),
         Context::Assign(p) => {
-            enter(core, Context::Store(v), Box::into_inner(p));
+            enter(core, Context::Store(v), p);
             Turn::Going
         }
         _ => Turn::Stuck,

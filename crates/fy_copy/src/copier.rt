@@ -16,7 +16,7 @@ use crate::context::{Context, Core};
 use crate::progress::{Progress, Turn};
 use crate::sizes::is_held;
 use crate::state::{CopyState, Phase};
-use crate::words::{push_context, set_focus, take_focus};
+use crate::words::{push_context, set_focus, take};
 use fy_base::{Datum, OutOfMemory};
 use fy_phrase::{Phrase, copy_phrase};
 use std::alloc::Global;
@@ -51,8 +51,11 @@ fn ask(core: &mut Core) -> Result<bool, OutOfMemory>
     ensures err { OnErr result (state_of core.new ≡ state_of core.old) }
 {
     core.contexts.reserve(1)?;
-    match take_focus(core) {
-        Phrase::Read(p, _) => set_focus(core, Box::into_inner(p)),
+    match &mut core.focus {
+        Phrase::Read(p, _) => {
+            let p = take(p);
+            set_focus(core, p);
+        }
         _ => unreachable!(),
     }
     Ok(is_held(&core.focus))

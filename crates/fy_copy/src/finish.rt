@@ -26,7 +26,7 @@ fn meet(here: Place, frame: Frame, core: &mut Core) -> Turn
 {
     let Frame { base, context } = frame;
     match context {
-        Context::Then(q) => go_on(core, base, Box::into_inner(q)),
+        Context::Then(q) => go_on(core, base, q),
         Context::Body(whole) => go_on(core, base, whole),
         Context::Loop(whole) => go_on(core, base, whole),
         Context::Drop(n) => {

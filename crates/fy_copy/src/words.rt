@@ -25,15 +25,11 @@ pub fn set_focus(core: &mut Core, focus: Phrase)
     core.focus = focus;
 }
 
-/// Takes the focus out.
-pub fn take_focus(core: &mut Core) -> Phrase
-    ensures taken { result ≡ core.old.focus }
-    ensures contexts { core.new.contexts ≡ core.old.contexts }
-    ensures store { core.new.store ≡ core.old.store }
-    ensures next { core.new.next ≡ core.old.next }
-    ensures load { core.new.load ≡ core.old.load }
+/// Takes a phrase out of its place.
+pub fn take(p: &mut Phrase) -> Phrase
+    ensures { result ≡ p.old }
 {
-    mem::replace(&mut core.focus, Phrase::Skip(NOWHERE))
+    mem::replace(p, Phrase::Skip(NOWHERE))
 }
 
 /// Puts a context where there is room for it: a new one, or one that was taken off.

@@ -27,7 +27,7 @@ pub enum MarkKind {
 
 /// A core phrase. The last field of each form is the phrase's place in the source, and a binder's first field is its depth: the
 /// number of binders around it in the source.
-#[derive(Debug, Drop)]
+#[derive(Debug)]
 #[cycle(phrase)]
 pub enum Phrase {
     /// A variable, by the number of binders between it and its own.
@@ -110,6 +110,39 @@ impl Phrase {
             | Phrase::Put(_, _, at)
             | Phrase::Read(_, at)
             | Phrase::Mark(_, at) => *at,
+        }
+    }
+}
+
+// By hand, so that letting a phrase go is a call and no match with all its forms, which would be proved at each exit that owns one.
+impl Drop for Phrase {
+    #[cycle(phrase)]
+    fn drop(self) {
+        match self {
+            Phrase::Var(_, _) => {}
+            Phrase::Lit(_, _) => {}
+            Phrase::Unary(_, _, _) => {}
+            Phrase::Binary(_, _, _, _) => {}
+            Phrase::Cond(_, _, _, _) => {}
+            Phrase::Case(_, _, _) => {}
+            Phrase::Lam(_, _, _, _) => {}
+            Phrase::App(_, _, _) => {}
+            Phrase::Field(_, _, _) => {}
+            Phrase::Sel(_, _, _) => {}
+            Phrase::Merge(_, _, _) => {}
+            Phrase::LetIn(_, _, _, _) => {}
+            Phrase::Rec(_, _, _, _) => {}
+            Phrase::Skip(_) => {}
+            Phrase::Seq(_, _, _) => {}
+            Phrase::Assign(_, _, _) => {}
+            Phrase::WhileDo(_, _, _) => {}
+            Phrase::Forever(_, _) => {}
+            Phrase::New(_, _, _, _, _) => {}
+            Phrase::Escape(_, _, _) => {}
+            Phrase::Accept(_, _, _, _) => {}
+            Phrase::Put(_, _, _) => {}
+            Phrase::Read(_, _) => {}
+            Phrase::Mark(_, _) => {}
         }
     }
 }

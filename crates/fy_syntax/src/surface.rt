@@ -22,7 +22,7 @@ use fy_types::{Atom, Name};
 use std::alloc::Global;
 
 /// A phrase as it is written. The last place of each variant is that of its first token.
-#[derive(Debug, Drop)]
+#[derive(Debug)]
 #[cycle(phrases)]
 pub enum Surface {
     /// `p , q , ..`, of two members or more
@@ -75,6 +75,41 @@ pub enum Surface {
     Group(Box<Surface>, Place),
     /// `seq ( p , q , .. )`, of one part or more
     SeqOf(SurfaceList, Place),
+}
+
+/// Written out, so that letting a phrase go is one call wherever that happens.
+impl Drop for Surface {
+    #[cycle(phrases)]
+    fn drop(self) {
+        match self {
+            Surface::Merge(_, _) => {}
+            Surface::Sequence(_, _) => {}
+            Surface::Lam(_, _, _, _) => {}
+            Surface::Let(_, _, _) => {}
+            Surface::Letrec(_, _, _, _, _) => {}
+            Surface::Lettype(_, _, _, _) => {}
+            Surface::New(_, _, _, _, _) => {}
+            Surface::Escape(_, _, _) => {}
+            Surface::Accept(_, _, _, _) => {}
+            Surface::If(_, _, _, _) => {}
+            Surface::WhileDo(_, _, _) => {}
+            Surface::Loop(_, _) => {}
+            Surface::Field(_, _, _) => {}
+            Surface::Assign(_, _, _, _) => {}
+            Surface::Chain(_, _, _) => {}
+            Surface::Prefix(_, _, _) => {}
+            Surface::Apply(_, _, _) => {}
+            Surface::Select(_, _, _) => {}
+            Surface::Ident(_, _) => {}
+            Surface::Number(_, _) => {}
+            Surface::Letter(_, _) => {}
+            Surface::Str(_, _) => {}
+            Surface::Truth(_, _) => {}
+            Surface::Skip(_) => {}
+            Surface::Group(_, _) => {}
+            Surface::SeqOf(_, _) => {}
+        }
+    }
 }
 
 /// A list of written phrases.

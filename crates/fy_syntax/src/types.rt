@@ -11,7 +11,7 @@ use std::alloc::Global;
 pub type NameList = ListOf<Name>;
 
 /// A type as it is written. The last place of each variant is that of its first token.
-#[derive(Debug, Drop)]
+#[derive(Debug)]
 #[cycle(types)]
 pub enum SurfaceTy {
     /// `A -> B`
@@ -28,6 +28,22 @@ pub enum SurfaceTy {
     Ident(Name, Place),
     /// `( A )`
     Group(Box<SurfaceTy>, Place),
+}
+
+/// Written out, so that letting a type go is one call wherever that happens.
+impl Drop for SurfaceTy {
+    #[cycle(types)]
+    fn drop(self) {
+        match self {
+            SurfaceTy::Arrow(_, _, _) => {}
+            SurfaceTy::Meet(_, _) => {}
+            SurfaceTy::Field(_, _, _) => {}
+            SurfaceTy::Ns(_) => {}
+            SurfaceTy::Atom(_, _) => {}
+            SurfaceTy::Ident(_, _) => {}
+            SurfaceTy::Group(_, _) => {}
+        }
+    }
 }
 
 /// A list of written types.
