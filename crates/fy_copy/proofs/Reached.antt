@@ -1,5 +1,5 @@
 -- Runs over a source and a sink, step by step.
-use Rattle.std.proofs.Common.{◌≡◌, ℕ, zero, suc, ◌+◌, ◌-◌, ◌<◌, ◌≤◌, max, Bool, IsTrue, true, false, [], ◌++◌, sym, ap, ◌∙◌, refl, arith, subst, inl, inr, append_assoc, Some, None}
+use Rattle.std.proofs.Common.{◌≡◌, ◌≢◌, ℕ, zero, suc, ◌+◌, ◌-◌, ◌<◌, ◌≤◌, max, Bool, IsTrue, true, false, [], ◌++◌, sym, ap, ◌∙◌, refl, arith, subst, inl, inr, append_assoc, Some, None}
 use Rattle.std.proofs.lemmas.List.{append-nil}
 use Rattle.std.proofs.lemmas.Bool.{cases_lt}
 use Rattle.std.specs.Prelude.{drop, slice_get, is_none}
@@ -17,7 +17,7 @@ use Rattle.fy_copy.specs.Moves.{IsTooBig, given}
 use Rattle.fy_copy.specs.Seen.{Seen, WentOn, Waits, Halted, Refused, went_on_with, IsStart}
 use Rattle.fy_copy.specs.declared.state.Phase.TheVariants as phase
 use Rattle.fy_copy.specs.Exchange.{Outer, Exchange, went, wrote, took, was_over, faulted as faulted_by, stuck as stuck_by, refused, unread, unwritten}
-use Rattle.fy_copy.specs.Ends.{IsGoingBelow, IsHeldBelow, StandsAt, EndsSo, HasPut, taken_after, RunsTo, DoesPart, run_at_end}
+use Rattle.fy_copy.specs.Ends.{IsGoingBelow, IsHeldBelow, StandsAt, EndsSo, HasPut, taken_after, GainedSinceRead, RunsTo, DoesPart, run_at_end}
 use Rattle.fy_copy.specs.declared.run.CopyRun.{CopyRun}
 
 -- ---- the output only grows
@@ -89,16 +89,6 @@ gained_none (Some bytes) = ap (λ b. Some b) (sym (append-nil bytes))
 gained_more : (before held now : Option Bytes) (output bytes : Bytes) → Gained before held output → Gained held now bytes → Gained before now (output ++ bytes)
 gained_more None held now output bytes first next = next ∙ ap (λ o. appended o bytes) first
 gained_more (Some start) held now output bytes first next = next ∙ ap (λ o. appended o bytes) first ∙ ap (λ b. Some b) (append_assoc start output bytes)
-
-part_more : (before held now : Option Bytes) (output bytes : Bytes) → Gained before held output → GainedPart held now bytes → GainedPart before now (output ++ bytes)
-part_more before held now output bytes first next = record {
-  part = output ++ next.part;
-  gained = gained_more before held now output next.part first next.gained;
-  begins = record {
-    rest = next.begins.rest;
-    is = ap (λ b. output ++ b) next.begins.is ∙ sym (append_assoc output next.part next.begins.rest);
-  };
-}
 
 pub part_longer : (before now : Option Bytes) (short long : Bytes) → GainedPart before now short → IsPrefix short long → GainedPart before now long
 part_longer before now short long gained begins = record { part = gained.part; gained = gained.gained; begins = prefix_more gained.part short long gained.begins begins }
@@ -300,6 +290,7 @@ record RunsOn (p : Tree) (fed : Bytes) (limit : ℕ) (done : CopyRun) (input : B
   pub input_is : (copy_after p fed (taken_after done.end done.steps)).input ≡ input
   output : HasPut done.end before now (copy_after p fed done.steps).output
   part : GainedPart before now (copy_after p fed limit).output
+  unput : done.end ≡ ends.OutputFault → GainedSinceRead p fed done.steps before now
 
 -- a run on what a source gave and what is left there is the run of the source
 runs_to : (p : Tree) (limit : ℕ) (done : CopyRun) (given : Bytes) (left left_now before now : Option Bytes) → Gave left left_now given → RunsOn p (given ++ unwrap_or left_now []) limit done (unwrap_or left_now []) before now
@@ -313,6 +304,7 @@ runs_to p limit done given left None before now gave on = record {
   rest = ap (λ o. option_map (λ _. (copy_after p (given ++ []) (taken_after done.end done.steps)).input) o) (sym gave);
   output = on.output;
   part = on.part;
+  unput = on.unput;
 }
 runs_to p limit done given left (Some rest) before now gave on = record {
   fed = given ++ rest;
@@ -323,6 +315,7 @@ runs_to p limit done given left (Some rest) before now gave on = record {
   rest = ap (λ b. Some b) (sym on.input_is) ∙ ap (λ o. option_map (λ _. (copy_after p (given ++ rest) (taken_after done.end done.steps)).input) o) (sym gave);
   output = on.output;
   part = on.part;
+  unput = on.unput;
 }
 
 -- the run on what was given and what is left
@@ -343,6 +336,7 @@ runs_spent p n limit s peak first o same reached goes_on =
       input_is = stands.shows.input_is;
       output = stands.shows.output_is;
       part = part_of p (all.given ++ unwrap_or o.left []) limit limit first.held o.held (omega arith) stands.shows.output_is;
+      unput = λ clash. cc;
     })
 
 -- the run is at its end after n steps
@@ -357,6 +351,7 @@ runs_ended p n limit s peak first o le reached over =
       input_is = stands.shows.input_is;
       output = stands.shows.output_is;
       part = part_of p (reached.given ++ unwrap_or o.left []) n limit first.held o.held le stands.shows.output_is;
+      unput = λ clash. cc;
     })
 
 pub runs_over : (p : Tree) (n limit : ℕ) (s : Seen) (peak : ℕ) (first o : Outer) → n ≡ limit → Reached p n s peak first o → standing_of s.state ≡ ended
@@ -377,12 +372,13 @@ runs_big p n limit s t peak first o lt reached big =
       input_is = stands.shows.input_is;
       output = stands.shows.output_is;
       part = part_of p (reached.given ++ unwrap_or o.left []) n limit first.held o.held (omega arith) stands.shows.output_is;
+      unput = λ clash. cc;
     })
 
 runs_halted : (end : Ending) (m : CopyMove) (standing : Standing) (p : Tree) (n limit : ℕ) (s t : Seen) (peak : ℕ) (first o : Outer) → ((r : copy.CopyRun) → settled m r ≡ record r { standing = standing })
     → ((fed : Bytes) → StandsAt p fed (n + 1) standing → EndsSo end p fed (n + 1) limit) → taken_after end (n + 1) ≡ n + 1 → ((before now : Option Bytes) (output : Bytes) → Gained before now output → HasPut end before now output)
-    → ¬ IsTooBig m → n + 1 ≤ limit → Reached p n s peak first o → Halted s t m → RunsTo p limit (record { end = end; steps = n + 1; peak = peak }) first.left o.left first.held o.held
-runs_halted end m standing p n limit s t peak first o leaves ends_so taken has_put held le reached halted =
+    → end ≢ ends.OutputFault → ¬ IsTooBig m → n + 1 ≤ limit → Reached p n s peak first o → Halted s t m → RunsTo p limit (record { end = end; steps = n + 1; peak = peak }) first.left o.left first.held o.held
+runs_halted end m standing p n limit s t peak first o leaves ends_so taken has_put other held le reached halted =
     let stands = here p n s peak first o reached in
     let fed = reached.given ++ unwrap_or o.left [] in
     let next : copy_after p fed (n + 1) ≡ record (copy_after p fed n) { standing = standing } =
@@ -400,6 +396,7 @@ runs_halted end m standing p n limit s t peak first o leaves ends_so taken has_p
       input_is = ap (λ k. (copy_after p fed k).input) taken ∙ ap (λ w. w.input) next ∙ stands.shows.input_is;
       output = has_put first.held o.held (copy_after p fed (n + 1)).output output;
       part = part_of p fed (n + 1) limit first.held o.held le output;
+      unput = λ failed. absurd (other failed);
     })
 
 -- a read failed
@@ -425,7 +422,24 @@ runs_unread p n limit s mid peak first o le reached waits =
       input_is = ap (λ k. (copy_after p fed k).input) (sym same) ∙ stands.shows.input_is;
       output = output;
       part = part_of p fed (n + 1) limit first.held o.held le output;
+      unput = λ clash. cc;
     })
+
+-- what a put that failed left: all that was put before it, and so before each read
+since_read : (p : Tree) (fed : Bytes) (n : ℕ) (text : Bytes) (next : CopyState) (part : Bytes) (before now : Option Bytes) → copy_step (copy_after p fed n).state ≡ puts text next → Gained before now ((copy_after p fed n).output ++ part)
+    → IsPrefix ((copy_after p fed n).output ++ part) (copy_after p fed (n + 1)).output → GainedSinceRead p fed (n + 1) before now
+since_read p fed n text next part before now step gained begins = record {
+  part = (copy_after p fed n).output ++ part;
+  gained = gained;
+  begins = begins;
+  reads = λ k few asks. elim (cases_lt k (n + 1)) [
+    | inl less ↦ prefix_more (copy_after p fed k).output (copy_after p fed n).output _ (outputs_grow p fed k n (omega arith)) (record { rest = part; is = refl })
+    | inr more ↦ (
+        let same : k - 1 ≡ n = omega arith in
+        absurd (let clash : puts text next ≡ takes asks.go = sym step ∙ ap (λ j. copy_step (copy_after p fed j).state) (sym same) ∙ asks.asks in cc)
+        )
+  ];
+}
 
 -- a put failed
 runs_unwritten : (p : Tree) (n limit : ℕ) (s t : Seen) (peak : ℕ) (text : Bytes) (first o u : Outer) → n + 1 ≤ limit → Reached p n s peak first o → WentOn s t (puts text t.state) → u.left ≡ o.left → GainedPart o.held u.held text
@@ -437,9 +451,11 @@ runs_unwritten p n limit s t peak text first o u le reached on left gained =
     let puts_text : copy_step (copy_after p fed n).state ≡ puts text t.state = ap copy_step stands.shows.state_is ∙ on.move in
     let next : copy_after p fed (n + 1) ≡ settled (puts text t.state) (copy_after p fed n) =
     run_more p fed n ∙ ticks (copy_after p fed n) s.state (puts text t.state) stands.shows.state_is stands.shows.standing_is on.going on.move in
-    let output : GainedPart first.held u.held (copy_after p fed (n + 1)).output =
-    let P : Bytes → Type 0 = λ b. GainedPart first.held u.held b in
-    subst P (ap (λ w. w.output) (sym next)) (part_more first.held o.held u.held (copy_after p fed n).output text stands.shows.output_is gained) in
+    let so_far = (copy_after p fed n).output in
+    let begins : IsPrefix (so_far ++ gained.part) (copy_after p fed (n + 1)).output =
+    record { rest = gained.begins.rest; is = ap (λ w. w.output) next ∙ ap (λ b. so_far ++ b) gained.begins.is ∙ sym (append_assoc so_far gained.part gained.begins.rest) } in
+    let all : Gained first.held u.held (so_far ++ gained.part) = gained_more first.held o.held u.held so_far gained.part stands.shows.output_is gained.gained in
+    let output : GainedPart first.held u.held (copy_after p fed (n + 1)).output = record { part = so_far ++ gained.part; gained = all; begins = begins } in
     let load : (copy_after p fed (n + 1)).state.load ≡ t.state.load = ap (λ w. w.state.load) next in
     let Q : Option Bytes → Type 0 = λ x. RunsTo p limit (record { end = ends.OutputFault; steps = n + 1; peak = max peak t.state.load }) first.left x first.held u.held in
     subst Q (sym left) (runs_to p limit (record { end = ends.OutputFault; steps = n + 1; peak = max peak t.state.load }) reached.given first.left o.left first.held u.held reached.gave (record {
@@ -455,6 +471,7 @@ runs_unwritten p n limit s t peak text first o u le reached on left gained =
       input_is = ap (λ w. w.input) next ∙ stands.shows.input_is;
       output = output;
       part = part_longer first.held u.held (copy_after p fed (n + 1)).output (copy_after p fed limit).output output (outputs_grow p fed (n + 1) limit le);
+      unput = λ _. since_read p fed n text t.state gained.part first.held u.held puts_text all begins;
     }))
 
 -- where nothing changed outside
@@ -468,10 +485,10 @@ runs_end ends.Ended p n limit s t peak first o u lt reached (was_over over same)
     unchanged p limit (record { end = ends.Ended; steps = n; peak = peak }) first o u same (runs_ended p n limit s peak first o (omega arith) reached over.over)
 runs_end (ends.Fault kind at) p n limit s t peak first o u lt reached (faulted_by _ _ halted same) =
     unchanged p limit (record { end = ends.Fault kind at; steps = n + 1; peak = peak }) first o u same
-    (runs_halted (ends.Fault kind at) (faults kind at) (faulted kind at) p n limit s t peak first o (λ r. refl) (λ fed stands. stands) refl (λ before now output gained. gained) (λ big. big) (omega arith) reached halted)
+    (runs_halted (ends.Fault kind at) (faults kind at) (faulted kind at) p n limit s t peak first o (λ r. refl) (λ fed stands. stands) refl (λ before now output gained. gained) (λ clash. cc) (λ big. big) (omega arith) reached halted)
 runs_end ends.Stuck p n limit s t peak first o u lt reached (stuck_by halted same) =
     unchanged p limit (record { end = ends.Stuck; steps = n + 1; peak = peak }) first o u same
-    (runs_halted ends.Stuck sticks stuck p n limit s t peak first o (λ r. refl) (λ fed stands. stands) refl (λ before now output gained. gained) (λ big. big) (omega arith) reached halted)
+    (runs_halted ends.Stuck sticks stuck p n limit s t peak first o (λ r. refl) (λ fed stands. stands) refl (λ before now output gained. gained) (λ clash. cc) (λ big. big) (omega arith) reached halted)
 runs_end ends.TooBig p n limit s t peak first o u lt reached (refused big same) =
     unchanged p limit (record { end = ends.TooBig; steps = n; peak = peak }) first o u same (runs_big p n limit s t peak first o lt reached big)
 runs_end ends.InputFault p n limit s t peak first o u lt reached (unread mid waits same) =

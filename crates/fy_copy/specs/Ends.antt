@@ -2,7 +2,7 @@
 use Rattle.std.specs.Prelude.{◌≡◌, ℕ, ◌+◌, ◌-◌, ◌<◌, ◌≤◌, max}
 use Rattle.std.specs.Option.{option_map, ForSome}
 use Rattle.std.specs.declared.option.Option.{Option}
-use Rattle.fy_base.specs.Outside.{Bytes, Gave, Gained, GainedPart}
+use Rattle.fy_base.specs.Outside.{Bytes, Gave, Gained, GainedPart, IsPrefix}
 use Rattle.fy_base.specs.declared.data.Ending.{Ending}
 use Rattle.fy_base.specs.declared.data.Ending.TheVariants as ends
 use Rattle.fy_phrase.specs.Tree.{Tree}
@@ -72,6 +72,13 @@ abbrev pub HasPut : Ending → Option Bytes → Option Bytes → Bytes → Type 
 HasPut ends.OutputFault before now output = GainedPart before now output
 HasPut _ before now output = Gained before now output
 
+-- a sink that failed gained a beginning of what n steps put, with all that was put before each of them that reads
+pub record GainedSinceRead (p : Tree) (input : Bytes) (n : ℕ) (before now : Option Bytes) : Type 0 where
+  pub part : Bytes
+  pub gained : Gained before now part
+  pub begins : IsPrefix part (copy_after p input n).output
+  pub reads : (k : ℕ) → k ≤ n → AsksAt p input k → IsPrefix (copy_after p input k).output part
+
 -- what a run of at most so many steps came to, told by an input that explains it, which is what was left at the source
 -- where that is told: its end, before which no focus passed the limit on held phrases, its greatest load, what is left
 -- then, and what the sink gained, which is a beginning of all that the phrase puts within the limit
@@ -84,6 +91,8 @@ pub record RunsTo (p : Tree) (limit : ℕ) (done : CopyRun) (left left_now befor
   pub rest : left_now ≡ option_map (λ _. (copy_after p fed (taken_after done.end done.steps)).input) left
   pub output : HasPut done.end before now (copy_after p fed done.steps).output
   pub part : GainedPart before now (copy_after p fed limit).output
+  -- where the sink failed, it had gained all that was put before the last read
+  pub unput : done.end ≡ ends.OutputFault → GainedSinceRead p fed done.steps before now
 
 -- what a run took and put that found no memory at some step within the limit: what the steps before that one took and put, none of which
 -- led to a focus that passes the limit on held phrases

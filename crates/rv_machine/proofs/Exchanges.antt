@@ -46,16 +46,6 @@ gained_more : (before held now : Option Bytes) (output bytes : Bytes) → Gained
 gained_more None held now output bytes first then = then ∙ ap (λ o. appended o bytes) first
 gained_more (Some start) held now output bytes first then = then ∙ ap (λ o. appended o bytes) first ∙ ap (λ b. Some b) (append_assoc start output bytes)
 
-part_more : (before held now : Option Bytes) (output bytes : Bytes) → Gained before held output → GainedPart held now bytes → GainedPart before now (output ++ bytes)
-part_more before held now output bytes first then = record {
-  part = output ++ then.part;
-  gained = gained_more before held now output then.part first then.gained;
-  begins = record {
-    rest = then.begins.rest;
-    is = ap (λ b. output ++ b) then.begins.is ∙ sym (append_assoc output then.part then.begins.rest);
-  };
-}
-
 -- it goes on
 pub turned_going : (program : Program) (core after : Core) (left : Option Bytes) (over : Bool) (held : Option Bytes) → (IsTrue over → IsAtEnd left) → instruction_step program core ≡ record { event = events.Going; core = after }
     → Turned None program core after left left over over held held
@@ -101,9 +91,15 @@ turned_unput byte program core after left over held now at_end step gained = tur
       puts = event_of (events.Put byte) program world core after shows.core_is step;
       core_is = ap (λ w. w.core) (sym ticks);
       input_is = ap (λ w. w.input) ticks ∙ shows.input_is;
-      output_is =
-          let P : World → Type 0 = λ w. GainedPart before now w.output in
-          subst P (sym ticks) (part_more before held now world.output (byte ∷ []) shows.output_is gained);
+      output_is = record {
+        part = world.output ++ gained.part;
+        gained = gained_more before held now world.output gained.part shows.output_is gained.gained;
+        begins = record {
+          rest = gained.begins.rest;
+          is = ap (λ w. w.output) ticks ∙ ap (λ b. world.output ++ b) gained.begins.is ∙ sym (append_assoc world.output gained.part gained.begins.rest);
+        };
+      };
+      behind = record { rest = gained.part; is = refl };
     })
 
 -- its read failed

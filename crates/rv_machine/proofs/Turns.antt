@@ -15,7 +15,7 @@ use Rattle.rv_machine.specs.declared.run.MachineRun.{MachineRun}
 use Rattle.rv_machine.specs.Run.{World, going_world, run, tick}
 use Rattle.rv_machine.specs.Fetch.{fetched_at, fetches}
 use Rattle.rv_machine.specs.declared.watch.Fetched.{Fetched}
-use Rattle.rv_machine.specs.Ends.{IsGoingBelow, StandsAt, EndsSo, HasPut, core_after, taken_after, Watched}
+use Rattle.rv_machine.specs.Ends.{IsGoingBelow, StandsAt, EndsSo, HasPut, core_after, taken_after, GainedSinceRead, Watched}
 use Rattle.rv_machine.specs.Turn.{put_count, Shows, Came, TurnedIn, Turned}
 use Rattle.rv_insn.specs.declared.events.Event.{Event}
 use Rattle.rv_insn.specs.declared.events.Event.TheVariants as events
@@ -171,6 +171,25 @@ part_longer before now short long gained begins = record {
   };
 }
 
+-- what a put that failed left: all that was put before it, and so before each read
+since_read : (program : Program) (world : World) (n byte : ℕ) (before now : Option Bytes) → IsGoingBelow program world (n + 1) → (instruction_step program (run program n world).core).event ≡ events.Put byte
+    → (put : GainedPart before now (tick program (run program n world)).output) → IsPrefix (run program n world).output put.part → GainedSinceRead program world (n + 1) before now
+since_read program world n byte before now going puts put behind = record {
+  part = put.part;
+  gained = put.gained;
+  begins = record { rest = put.begins.rest; is = ap (λ w. w.output) (run_more program n world) ∙ put.begins.is };
+  reads = λ k le asks. elim (cases_lt k (n + 1)) [
+    | inl less ↦ (
+        let grows = outputs_grow program k n world (omega arith) in
+        record { rest = grows.rest ++ behind.rest; is = behind.is ∙ ap (λ b. b ++ behind.rest) grows.is ∙ append_assoc (run program k world).output grows.rest behind.rest }
+        )
+    | inr more ↦ (
+        let same : k - 1 ≡ n = omega arith in
+        absurd (let clash : events.Put byte ≡ events.WantByte = sym puts ∙ ap (λ j. (instruction_step program (run program j world).core).event) (sym same) ∙ asks.asks in cc)
+        )
+  ];
+}
+
 -- what a run on an input came to
 record RunsOn (program : Program) (world : World) (limit : ℕ) (done : MachineRun) (after : Core) (input : Bytes) (before now : Option Bytes) : Type 0 where
   end : EndsSo done.end program world done.steps limit
@@ -179,22 +198,23 @@ record RunsOn (program : Program) (world : World) (limit : ℕ) (done : MachineR
   output : HasPut done.end before now (run program done.steps world).output
   part : GainedPart before now (run program limit world).output
   counted : done.end ≢ ends.OutputFault → done.bytes ≡ length (run program done.steps world).output
+  unput : done.end ≡ ends.OutputFault → GainedSinceRead program world done.steps before now
 
 -- the run ended by its instruction number n + 1
 run_ends : (end : Ending) (program : Program) (world : World) (n limit : ℕ) (seen : List Fetched) (bytes : ℕ) (c d : Core) (i j : Bytes) (before g h : Option Bytes) → Stands program world n seen bytes c i before g → n < limit
     → TurnedIn (Some end) program (run program n world) d j before h → RunsOn program world limit (record { end = end; steps = n + 1; bytes = bytes }) d j before h
 run_ends ends.Ended program world n limit seen bytes c d i j before g h stands lt turned =
     let done = ends_by program world n limit events.Ended d j before h (λ going. cc) stands.going lt turned in
-    record { end = done.0; core_is = done.1.core_is; input_is = done.1.input_is; output = done.1.output_is; part = done.2; counted = λ _. stands.counted ∙ ap length (sym done.3) }
+    record { end = done.0; core_is = done.1.core_is; input_is = done.1.input_is; output = done.1.output_is; part = done.2; counted = λ _. stands.counted ∙ ap length (sym done.3); unput = λ clash. cc }
 run_ends (ends.Fault kind place) program world n limit seen bytes c d i j before g h stands lt turned =
     let done = ends_by program world n limit (events.Fault kind place) d j before h (λ going. cc) stands.going lt turned in
-    record { end = done.0; core_is = done.1.core_is; input_is = done.1.input_is; output = done.1.output_is; part = done.2; counted = λ _. stands.counted ∙ ap length (sym done.3) }
+    record { end = done.0; core_is = done.1.core_is; input_is = done.1.input_is; output = done.1.output_is; part = done.2; counted = λ _. stands.counted ∙ ap length (sym done.3); unput = λ clash. cc }
 run_ends ends.Exhausted program world n limit seen bytes c d i j before g h stands lt turned =
     let done = ends_by program world n limit events.Exhausted d j before h (λ going. cc) stands.going lt turned in
-    record { end = done.0; core_is = done.1.core_is; input_is = done.1.input_is; output = done.1.output_is; part = done.2; counted = λ _. stands.counted ∙ ap length (sym done.3) }
+    record { end = done.0; core_is = done.1.core_is; input_is = done.1.input_is; output = done.1.output_is; part = done.2; counted = λ _. stands.counted ∙ ap length (sym done.3); unput = λ clash. cc }
 run_ends (ends.Trap kind) program world n limit seen bytes c d i j before g h stands lt turned =
     let done = ends_by program world n limit (events.Trap kind) d j before h (λ going. cc) stands.going lt turned in
-    record { end = done.0; core_is = done.1.core_is; input_is = done.1.input_is; output = done.1.output_is; part = done.2; counted = λ _. stands.counted ∙ ap length (sym done.3) }
+    record { end = done.0; core_is = done.1.core_is; input_is = done.1.input_is; output = done.1.output_is; part = done.2; counted = λ _. stands.counted ∙ ap length (sym done.3); unput = λ clash. cc }
 run_ends ends.InputFault program world n limit seen bytes c d i j before g h stands lt turned =
     let same : n ≡ (n + 1) - 1 = omega arith in
     let none : (run program (n + 1) world).output ≡ (run program n world).output =
@@ -206,6 +226,7 @@ run_ends ends.InputFault program world n limit seen bytes c d i j before g h sta
       output = let P : Bytes → Type 0 = λ b. Gained before h b in subst P (sym none) turned.output_is;
       part = part_of program world n limit before h (omega arith) turned.output_is;
       counted = λ _. stands.counted ∙ ap length (sym none);
+      unput = λ clash. cc;
     }
 run_ends ends.OutputFault program world n limit seen bytes c d i j before g h stands lt turned =
     let same : n ≡ (n + 1) - 1 = omega arith in
@@ -217,6 +238,7 @@ run_ends ends.OutputFault program world n limit seen bytes c d i j before g h st
       output = put;
       part = part_longer before h _ _ put (outputs_grow program (n + 1) limit world (omega arith));
       counted = λ other. absurd (other refl);
+      unput = λ _. since_read program world n (turned.byte) before h stands.going turned.puts turned.output_is turned.behind;
     }
 run_ends ends.Spent program world n limit seen bytes c d i j before g h stands lt turned = absurd turned
 run_ends ends.TooBig program world n limit seen bytes c d i j before g h stands lt turned = absurd turned
@@ -236,6 +258,7 @@ run_spent program world n limit seen bytes c i before g same stands =
       output = there.shows.output_is;
       part = part_of program world limit limit before g (omega arith) there.shows.output_is;
       counted = λ _. there.counted;
+      unput = λ clash. cc;
     }
 
 -- what is left at a source, where that is told, is nothing where the source is over
@@ -259,6 +282,7 @@ watched_to program start limit done after given left None before now room held h
     output = on.output;
     part = on.part;
     counted = on.counted;
+    unput = on.unput;
   };
   watched = kept ∙ ap (λ l. keep_last room (held ++ l)) fetched;
 }
@@ -273,6 +297,7 @@ watched_to program start limit done after given left (Some rest) before now room
     output = on.output;
     part = on.part;
     counted = on.counted;
+    unput = on.unput;
   };
   watched = kept ∙ ap (λ l. keep_last room (held ++ l)) fetched;
 }

@@ -1,8 +1,8 @@
 -- How a run over a source and a sink ends, told by the machine's run on an input.
-use Rattle.std.specs.Prelude.{◌≡◌, ◌≢◌, ℕ, ◌-◌, ◌<◌, List, ◌++◌, length, All, Some, None}
+use Rattle.std.specs.Prelude.{◌≡◌, ◌≢◌, ℕ, ◌-◌, ◌<◌, ◌≤◌, List, ◌++◌, length, All, Some, None}
 use Rattle.std.specs.Option.{ForSome, option_map}
 use Rattle.std.specs.declared.option.Option.{Option}
-use Rattle.fy_base.specs.Outside.{Bytes, Gained, GainedPart}
+use Rattle.fy_base.specs.Outside.{Bytes, Gained, GainedPart, IsPrefix}
 use Rattle.fy_base.specs.declared.data.Ending.{Ending}
 use Rattle.fy_base.specs.declared.data.Ending.TheVariants as ends
 use Rattle.rv_insn.specs.Program.{Program}
@@ -67,6 +67,13 @@ abbrev pub HasPut : Ending → Option Bytes → Option Bytes → Bytes → Type 
 HasPut ends.OutputFault before now output = GainedPart before now output
 HasPut _ before now output = Gained before now output
 
+-- a sink that failed gained a beginning of what n instructions put, with all that was put before each of them that reads
+pub record GainedSinceRead (program : Program) (world : World) (n : ℕ) (before now : Option Bytes) : Type 0 where
+  pub part : Bytes
+  pub gained : Gained before now part
+  pub begins : IsPrefix part (run program n world).output
+  pub reads : (k : ℕ) → k ≤ n → AsksAt program world k → IsPrefix (run program k world).output part
+
 -- the machine is the run's, but where it still waits for a byte
 abbrev pub core_after : Ending → Program → World → ℕ → Core
 core_after ends.InputFault program world n = (instruction_step program (run program (n - 1) world).core).core
@@ -87,6 +94,8 @@ pub record RunsTo (program : Program) (core : Core) (limit : ℕ) (done : Machin
   pub part : GainedPart before now (run program limit (going_world core fed)).output
   -- it tells how many bytes the run put, but where the sink failed
   pub counted : done.end ≢ ends.OutputFault → done.bytes ≡ length (run program done.steps (going_world core fed)).output
+  -- where the sink failed, it had gained all that was put before the last read
+  pub unput : done.end ≡ ends.OutputFault → GainedSinceRead program (going_world core fed) done.steps before now
 
 -- what a watched run came to, and that its watch holds the last words that were fetched
 pub record Watched (program : Program) (core : Core) (limit : ℕ) (done : MachineRun) (after : Core) (left left_now before now : Option Bytes) (room : ℕ) (held held_now : List Fetched) : Type 0 where
