@@ -1,6 +1,6 @@
 -- How a text is judged: its core phrase, or the refusal of the first stage that refuses. The stages are its length, its tokens, its syntax
 -- and nesting, its expansion, and the core limits.
-use Rattle.std.specs.Prelude.{◌≡◌, ◌≢◌, ◌<◌, ◌≤◌, Result, Ok, Err, List, length}
+use Rattle.std.specs.Prelude.{◌≡◌, ◌≢◌, ℕ, ◌<◌, ◌≤◌, Result, Ok, Err, List, length}
 use Rattle.fy_base.specs.Outside.{Bytes}
 use Rattle.fy_base.specs.declared.data.Place.{Place}
 use Rattle.fy_types.specs.Names.{first_names}
@@ -16,9 +16,13 @@ use Rattle.fy_phrase.specs.Tree.{Tree}
 use Rattle.fy_expand.specs.declared.error.ExpandError.{ExpandError}
 use Rattle.fy_expand.specs.Expansion.{core_of}
 
+-- how many bytes a text has at most
+abbrev pub most_text : ℕ
+most_text = 1048576
+
 -- why a text has no core phrase
 pub data Refusal : Type 0 where
-  -- over 1,048,576 bytes
+  -- longer than that
   length_refused : Refusal
   tokens_refused : LexError → Refusal
   -- at the first token with which no program of the allowed nesting begins: no program at all, or only deeper ones
@@ -29,7 +33,7 @@ pub data Refusal : Type 0 where
 
 -- the tokens of a text of allowed length, within their limits, with names numbered by the list
 pub record HasTokensFrom (names : List Bytes) (text : Bytes) (tokens : List Token) : Type 0 where
-  pub short : length text ≤ 1048576
+  pub short : length text ≤ most_text
   pub after : List Bytes
   pub read : IsTokensOf names text tokens after
   pub within : AreWithin tokens
@@ -41,8 +45,8 @@ pub record IsAllowed (tokens : List Token) (tree : written.Tree) : Type 0 where
 
 -- the text is judged so, where names are numbered by the list
 pub data IsJudgedFrom : List Bytes → Bytes → Result Tree Refusal → Type 0 where
-  too_long : {names : List Bytes} {text : Bytes} → 1048576 < length text → IsJudgedFrom names text (Err length_refused)
-  no_tokens : {names : List Bytes} {text : Bytes} {e : LexError} → length text ≤ 1048576 → IsFaultOf names text e → e ≢ OutOfMemory →
+  too_long : {names : List Bytes} {text : Bytes} → most_text < length text → IsJudgedFrom names text (Err length_refused)
+  no_tokens : {names : List Bytes} {text : Bytes} {e : LexError} → length text ≤ most_text → IsFaultOf names text e → e ≢ OutOfMemory →
       IsJudgedFrom names text (Err (tokens_refused e))
   no_program : {names : List Bytes} {text : Bytes} {tokens : List Token} {at : Place} → HasTokensFrom names text tokens →
       IsSyntaxFault 256 tokens at → IsJudgedFrom names text (Err (syntax_refused at))

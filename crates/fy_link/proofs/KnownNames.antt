@@ -32,7 +32,7 @@ push-identifier : (P : ℕ → Type 0) (ts : List Token) (t : Token) → AllIden
 push-identifier P [] t h one = (one, tt)
 push-identifier P (u ∷ ts) t h one = (h.0, push-identifier P ts t h.1 one)
 
-take-identifiers : (P : ℕ → Type 0) (k : ℕ) (ts : List Token) → AllIdentifiers P ts → AllIdentifiers P (take k ts)
+pub take-identifiers : (P : ℕ → Type 0) (k : ℕ) (ts : List Token) → AllIdentifiers P ts → AllIdentifiers P (take k ts)
 take-identifiers P zero ts h = tt
 take-identifiers P (suc k) [] h = tt
 take-identifiers P (suc k) (t ∷ ts) h = (h.0, take-identifiers P k ts h.1)
@@ -67,7 +67,7 @@ tokens-known names text tokens after later h a =
 
 -- ---- pieces
 
-abbrev AllParts : (ℕ → Type 0) → List (List Token) → Type 0
+abbrev pub AllParts : (ℕ → Type 0) → List (List Token) → Type 0
 AllParts P [] = Unit {0}
 AllParts P (part ∷ parts) = AllIdentifiers P part × AllParts P parts
 
@@ -80,7 +80,7 @@ split_step : (P : ℕ → Type 0) (p : Token → Bool) (t : Token) (ts : List To
 split_step P p t ts true e n h = subst (AllParts P) (sym (slice_split-cons_yes p t ts e)) (tt, h)
 split_step P p t ts false e n h = subst (AllParts P) (sym (slice_split-cons_no p t ts e)) (onto P t (slice_split p ts) n h)
 
-parts-identifiers : (P : ℕ → Type 0) (p : Token → Bool) (ts : List Token) → AllIdentifiers P ts → AllParts P (slice_split p ts)
+pub parts-identifiers : (P : ℕ → Type 0) (p : Token → Bool) (ts : List Token) → AllIdentifiers P ts → AllParts P (slice_split p ts)
 parts-identifiers P p [] h = (tt, tt)
 parts-identifiers P p (t ∷ ts) h = split_step P p t ts (p t) refl h.0 (parts-identifiers P p ts h.1)
 

@@ -29,3 +29,9 @@ mod CauseLemmas
 mod PlacingLemmas
 mod UnitLemmas
 mod PutLemmas
+mod NamedSources
+mod ReadBack
+mod OneSource
+mod OneFault
+mod OneUnit
+mod OneLink

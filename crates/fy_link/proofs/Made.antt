@@ -1,23 +1,30 @@
 -- Values of the code that are units, and refusals of their makers.
 use Rattle.std.proofs.Common.{◌≡◌, ◌⊎◌, inl, inr, ℕ, ◌≤◌, List, length, map, reverse, refl, sym, ap, ◌∙◌, subst, arith}
-use Rattle.std.specs.Prelude.{Some, None, Result, Ok, Err, IfErr, IsErrAnd}
+use Rattle.std.specs.Prelude.{All, Some, None, Result, Ok, Err, IfErr, IsErrAnd}
 use Rattle.fy_base.specs.Outside.{Bytes}
+use Rattle.fy_types.specs.Fields.{IsNamed, AllFields, HasFullMeets}
+use Rattle.fy_types.specs.Names.{AreNames}
 use Rattle.fy_types.specs.Types.{PlainType}
 use Rattle.fy_types.specs.Nested.{type_nesting}
 use Rattle.fy_types.specs.declared.types.TyList.{TyList}
 use Rattle.fy_types.specs.Reading.{plain_type, types_in}
+use Rattle.fy_lexer.specs.Identifiers.{AreIdentifiers}
 use Rattle.fy_lexer.specs.Tokens.{HasAdded}
 use Rattle.fy_lexer.proofs.NamesLemmas.{HasAdded-then}
 use Rattle.fy_phrase.specs.declared.phrase.Phrase.{Phrase}
 use Rattle.fy_phrase.specs.CoreLimits.{KeepsCoreLimits}
+use Rattle.fy_phrase.specs.PhraseNames.{AllNames, HasFullTypes}
 use Rattle.fy_phrase.specs.Reads.{reads}
 use Rattle.fy_phrase.specs.Tree.{Tree}
 use Rattle.fy_derive.specs.Derivations.{PlainDerivation}
 use Rattle.fy_derive.specs.Judging.{judged, concludes, refusal_at, in_scope}
+use Rattle.fy_derive.specs.Least.{forms_of, visits}
 use Rattle.fy_derive.specs.Limits.{KeepsLimits, most_type_nesting}
+use Rattle.fy_derive.specs.Printable.{IsPrintable}
 use Rattle.fy_least.specs.declared.error.FindError.{FindError}
 use Rattle.fy_least.specs.declared.error.FindError.TheVariants as unfound
 use Rattle.fy_least.specs.Finding.{IsFindingOf}
+use Rattle.fy_least.specs.Limits.{KeepTypeLimits}
 use Rattle.fy_link.specs.declared.error.UnitError.{UnitError}
 use Rattle.fy_link.specs.declared.error.UnitError.TheVariants as refused
 use Rattle.fy_link.specs.declared.source.Said.{Said}
@@ -25,8 +32,9 @@ use Rattle.fy_link.specs.declared.unit.Unit.{Unit as UnitValue}
 use Rattle.fy_link.specs.Answers.{of_find}
 use Rattle.fy_link.specs.Read.{plain_named, plain_said, source_in}
 use Rattle.fy_link.specs.Sources.{PlainSource, HasEquals, IsSource, IsSourceFault}
-use Rattle.fy_link.specs.Units.{context_of, IsTyped, IsUnit, IsUnitFault, plain_unit}
+use Rattle.fy_link.specs.Units.{context_of, IsTyped, IsUnit, IsUnitFault, KeepsTypeLimits, plain_unit}
 use Rattle.fy_link.proofs.Meanings.{source-limits, own-shallow}
+use Rattle.fy_link.proofs.NamedSources.{source-named, len-named}
 use Rattle.fy_link.proofs.Verdicts.{verdict-concludes, verdict-refuses}
 
 -- what stands in the code for a unit's context and phrase
@@ -56,6 +64,25 @@ pub found-limits : (before after : List Bytes) (source : Bytes) (said : Said) (c
 found-limits before after source said context p d h s f =
     let shallow = own-shallow before after source (plain_said said) h in
     f (subst KeepsCoreLimits (sym s.phrase_is) (source-limits before after source (plain_said said) h)) (omega (arith, shallow))
+
+-- the limits of the types for which it is found
+pub found-within : (said : Said) (context : TyList) (p : Phrase) → Stands said context p → KeepTypeLimits (visits 0 (forms_of (in_scope context)) (reads p)) →
+    KeepsTypeLimits (plain_said said)
+found-within said context p s h =
+    subst (λ (q : Tree). KeepTypeLimits (visits 0 (forms_of (reverse (context_of (plain_said said).imports))) q)) s.phrase_is
+    (subst (λ (G : List PlainType). KeepTypeLimits (visits 0 (forms_of (reverse G)) (reads p))) s.context_is h)
+
+-- what is found can be printed
+pub found-printable : (before after : List Bytes) (source : Bytes) (said : Said) (context : TyList) (p : Phrase) (d : PlainDerivation) → IsSource before source after (plain_said said) →
+    Stands said context p → AreNames after → AreIdentifiers before →
+    (KeepsCoreLimits (reads p) → HasFullTypes (reads p) → HasFullMeets (plain_type said.own.ty) → (names : List Bytes) → AllNames (IsNamed names) (reads p) →
+    All (AllFields (IsNamed names)) (in_scope context) → AllFields (IsNamed names) (plain_type said.own.ty) → IsPrintable names d) → IsPrintable after d
+found-printable before after source said context p d h s valid identifiers f =
+    let first = len-named after valid in
+    let is = source-named before after source (plain_said said) identifiers first h in
+    let back : (plain_said said).phrase ≡ reads p = sym s.phrase_is in
+    f (subst KeepsCoreLimits back (source-limits before after source (plain_said said) h)) (subst HasFullTypes back is.full) is.own_full after (subst (AllNames (IsNamed after)) back is.named)
+    (subst (λ (G : List PlainType). All (AllFields (IsNamed after)) (reverse G)) (sym s.context_is) is.context) is.own_named
 
 -- a value with a source that says this and with a derivation of it is a unit
 pub unit-made : (before after names : List Bytes) (source : Bytes) (value : UnitValue) → length source ≤ 1048576 → value.source ≡ source →

@@ -8,7 +8,7 @@ use Rattle.fy_derive.specs.Reading.{plain_derivation}
 use Rattle.fy_read.specs.declared.error.ReadError.{ReadError}
 use Rattle.fy_read.specs.declared.error.ReadError.TheVariants as stopped
 use Rattle.fy_read.specs.FieldNames.{NumbersFields}
-use Rattle.fy_read.specs.Refusals.{IsReadFault}
+use Rattle.fy_read.specs.Refusals.{IsReadFault, KeepsThroughout}
 use Rattle.fy_link.specs.declared.error.UnitError.{UnitError}
 use Rattle.fy_link.specs.declared.error.UnitError.TheVariants as refused
 use Rattle.fy_link.specs.declared.error.UnitReadError.{UnitReadError}
@@ -16,25 +16,31 @@ use Rattle.fy_link.specs.declared.error.UnitReadError.TheVariants as unread
 use Rattle.fy_link.specs.declared.source.Said.{Said}
 use Rattle.fy_link.specs.declared.unit.Unit.{Unit as UnitValue}
 use Rattle.fy_link.specs.Answers.{of_source, of_text}
-use Rattle.fy_link.specs.Read.{plain_said}
-use Rattle.fy_link.specs.Sources.{PlainSource, IsSource, IsSourceFault}
+use Rattle.fy_link.specs.Read.{plain_said, source_in}
+use Rattle.fy_link.specs.Sources.{PlainSource, HasEquals, IsSource, IsSourceFault}
 use Rattle.fy_link.specs.Units.{IsTyped, plain_unit}
-use Rattle.fy_link.specs.UnitBytes.{HoldsUnit, IsRead, IsBadUnit, IsUnitRead, unit_bytes}
+use Rattle.fy_link.specs.UnitBytes.{HoldsUnit, IsRead, bad_source, bad_text, IsBadFor, IsBadUnit, IsUnitRead, unit_bytes}
 
 -- the unit of a source and a derivation
 pub read-of : (names after later : List Bytes) (source text : Bytes) (said : Said) (d : Derivation) → IsSource names source after (plain_said said) →
-    NumbersFields after later (plain_derivation d) text → KeepsLimits (plain_derivation d) →
+    NumbersFields after later (plain_derivation d) text → KeepsLimits (plain_derivation d) → KeepsThroughout text →
     IsRead names source text later (record { source = plain_said said; derivation = plain_derivation d })
-read-of names after later source text said d h k l = record { after = after; said = h; read = k; limits = l }
+read-of names after later source text said d h k l keeps = record { after = after; said = h; read = k; limits = l; keeps = keeps }
 
-pub unit-read : (names later : List Bytes) (bytes source text : Bytes) (value : UnitValue) → HoldsUnit bytes source text → value.source ≡ source →
-    IsRead names source text later (plain_unit value) → IsTyped (plain_unit value) → IsUnitRead names bytes later value
-unit-read names later bytes source text value holds is read typed = record {
+pub unit-read : (names after later : List Bytes) (bytes source text : Bytes) (value : UnitValue) → HoldsUnit bytes source text → value.source ≡ source →
+    IsSource names source after (source_in value) → HasEquals names source after value.said.equals_at → NumbersFields after later (plain_derivation value.derivation) text →
+    KeepsThroughout text → IsTyped (plain_unit value) → IsUnitRead names bytes later value
+unit-read names after later bytes source text value holds is said equals numbers keeps typed = record {
   text = text;
   holds = subst (λ (s : Bytes). HoldsUnit bytes s text) (sym is) holds;
-  u = plain_unit value;
-  read = subst (λ (s : Bytes). IsRead names s text later (plain_unit value)) (sym is) read;
-  derivation = refl;
+  read = record {
+    after = after;
+    said = subst (λ (s : Bytes). IsSource names s after (source_in value)) (sym is) said;
+    read = numbers;
+    limits = typed.limits;
+    keeps = keeps;
+  };
+  equals = subst (λ (s : Bytes). HasEquals names s after value.said.equals_at) (sym is) equals;
   typed = typed;
 }
 
@@ -44,7 +50,7 @@ IsReadRefusal names bytes e = (e ≡ unread.OutOfMemory) ⊎ IsBadUnit names byt
 
 source-fault : (names : List Bytes) (bytes source text : Bytes) (e : UnitError) → HoldsUnit bytes source text → IsSourceFault names source e → IsReadRefusal names bytes (of_source e)
 source-fault names bytes source text refused.OutOfMemory holds h = inl refl
-source-fault names bytes source text e holds h = inr (IsBadUnit.no_source holds h)
+source-fault names bytes source text e holds h = inr (bad_source e, IsBadFor.no_source holds h)
 
 pub no-source : (names : List Bytes) (bytes source text : Bytes) (e : UnitError) (r : UnitReadError) → r ≡ of_source e → HoldsUnit bytes source text →
     (e ≡ refused.OutOfMemory) ⊎ IsSourceFault names source e → IsReadRefusal names bytes r
@@ -62,9 +68,9 @@ deep-other e = absurd (cc)
 
 text-fault : (names after : List Bytes) (bytes source text : Bytes) (u : PlainSource) (e : ReadError) → HoldsUnit bytes source text → IsSource names source after u → IsReadFault text e →
     IsReadRefusal names bytes (of_text e)
-text-fault names after bytes source text u (stopped.BadText k) holds s h = inr (IsBadUnit.no_derivation holds s h (bad-other k))
-text-fault names after bytes source text u stopped.TooLarge holds s h = inr (IsBadUnit.no_derivation holds s h large-other)
-text-fault names after bytes source text u stopped.TooDeep holds s h = inr (IsBadUnit.no_derivation holds s h deep-other)
+text-fault names after bytes source text u (stopped.BadText k) holds s h = inr (bad_text, IsBadFor.no_derivation holds s h (bad-other k))
+text-fault names after bytes source text u stopped.TooLarge holds s h = inr (bad_text, IsBadFor.no_derivation holds s h large-other)
+text-fault names after bytes source text u stopped.TooDeep holds s h = inr (bad_text, IsBadFor.no_derivation holds s h deep-other)
 text-fault names after bytes source text u stopped.OutOfMemory holds s h = inl refl
 
 pub no-text : (names after : List Bytes) (bytes source text : Bytes) (u : PlainSource) (e : ReadError) (r : UnitReadError) → r ≡ of_text e → HoldsUnit bytes source text →

@@ -6,11 +6,14 @@ use Rattle.fy_types.specs.Types.{PlainType, atom, arrow}
 use Rattle.fy_lexer.specs.Tokens.{HasAdded}
 use Rattle.fy_derive.specs.Derivations.{PlainDerivation}
 use Rattle.fy_derive.specs.Judging.{judged, concludes}
+use Rattle.fy_derive.specs.Least.{forms_of, visits}
 use Rattle.fy_derive.specs.Limits.{KeepsLimits}
 use Rattle.fy_derive.specs.Reading.{plain_derivation}
+use Rattle.fy_expand.specs.Judged.{most_text}
 use Rattle.fy_least.specs.declared.error.FindError.{FindError}
 use Rattle.fy_least.specs.declared.error.FindError.TheVariants as unfound
 use Rattle.fy_least.specs.Finding.{IsFindingOf}
+use Rattle.fy_least.specs.Limits.{KeepTypeLimits}
 use Rattle.fy_link.specs.declared.error.UnitError.{UnitError}
 use Rattle.fy_link.specs.declared.error.UnitError.TheVariants as refused
 use Rattle.fy_link.specs.declared.unit.Unit.{Unit as UnitValue}
@@ -39,9 +42,13 @@ pub record IsTyped (u : PlainUnit) : Type 0 where
   pub limits : KeepsLimits u.derivation
   pub concluded : judged u.derivation 0 (reverse (context_of u.source.imports)) u.source.phrase ≡ concludes u.source.own.type
 
+-- in the unit's context the least types of its phrase, and the types that are written in it, keep their limits
+abbrev pub KeepsTypeLimits : PlainSource → Type 0
+KeepsTypeLimits u = KeepTypeLimits (visits 0 (forms_of (reverse (context_of u.imports))) u.phrase)
+
 -- the value is this unit, and keeps what its source says and the place of its `==`; the source's names have their numbers in the list
 pub record IsUnitOf (names : List Bytes) (value : UnitValue) (u : PlainUnit) : Type 0 where
-  pub short : length value.source ≤ 1048576
+  pub short : length value.source ≤ most_text
   pub before : List Bytes
   pub after : List Bytes
   pub said : IsSource before value.source after u.source

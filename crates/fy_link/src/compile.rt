@@ -1,10 +1,15 @@
 //! Units typed apart.
 
 ghost use Rattle.std.specs.Prelude.{◌≡◌, ◌+◌, ◌≤◌, IfOk, IfErr, length};
+ghost use Rattle.fy_derive.specs.Printable.{IsPrintable};
+ghost use Rattle.fy_derive.specs.Reading.{plain_derivation};
+ghost use Rattle.fy_lexer.specs.Identifiers.{AreIdentifiers};
 ghost use Rattle.fy_lexer.specs.Tokens.{HasAdded};
 ghost use Rattle.fy_link.specs.Read.{source_in};
 ghost use Rattle.fy_link.specs.Sources.{IsSource};
-ghost use Rattle.fy_link.specs.Units.{IsUnit, IsUnitFault};
+ghost use Rattle.fy_link.specs.UnitBytes.{IsReadBack};
+ghost use Rattle.fy_link.specs.Units.{IsUnit, IsUnitFault, KeepsTypeLimits};
+ghost use Rattle.fy_types.specs.Names.{AreNames};
 
 use crate::error::UnitError;
 use crate::source::{context_of, said_in};
@@ -15,7 +20,9 @@ use std::alloc::Global;
 
 /// The unit of a source: `{ ident ":" type "," } ident ":" type "==" phrase`, its imports with their types, and then the unit's own
 /// name, its type and its phrase. The names get those of its names that are new. In its phrase the prelude's names and the imports
-/// stand for phrases of their types, and the derivation concludes the unit's type.
+/// stand for phrases of their types, and the derivation concludes the unit's type. Where the names that were there are identifiers,
+/// as those are that `Names::new` gives, it can be written as a text, and what `write_unit` writes of the unit is read as that unit by
+/// `read_unit` with the names that were there, unless the text of the derivation has over 16,777,216 bytes.
 ///
 /// # Errors
 ///
@@ -30,6 +37,9 @@ pub fn compile_unit(alloc: Global, names: &mut Names, source: &[u8]) -> Result<U
     ensures source { IfOk result (λ unit. unit.source ≡ source.now) }
     ensures said { IfOk result (λ unit. IsSource names.old source.now names.new (source_in unit)) }
     ensures unit { IfOk result (λ unit. IsUnit names.new unit) }
+    ensures within { IfOk result (λ unit. KeepsTypeLimits (source_in unit)) }
+    ensures printable { IfOk result (λ unit. AreNames names.old → AreIdentifiers names.old → IsPrintable names.new (plain_derivation unit.derivation)) }
+    ensures read_back { IfOk result (λ unit. AreNames names.old → AreIdentifiers names.old → IsReadBack names.old names.new unit) }
     ensures err { IfErr result (IsUnitFault names.old source.now) }
     ensures names { HasAdded names.old names.new }
     ensures few { length names.new ≤ length names.old + length source.now }

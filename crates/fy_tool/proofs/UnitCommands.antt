@@ -1,5 +1,6 @@
 -- From the parts of the commands of units to what is due for the words.
 use Rattle.std.proofs.Common.{◌≡◌, ◌≢◌, ◌⊎◌, ℕ, [], ◌∷◌, ◌++◌, ◌<◌, ◌≤◌, List, length, sym, ap, ◌∙◌, refl, subst, inl, inr, arith, Some, None, Ok, Err}
+use Rattle.std.proofs.lemmas.List.{append-nil}
 use Rattle.std.proofs.lemmas.List.Elements.{All-nil}
 use Rattle.std.specs.Prelude.{IfOk, MatchResult}
 use Rattle.std.specs.declared.option.Option.{Option}
@@ -8,15 +9,18 @@ use Rattle.fy_base.specs.Outside.{Bytes, Folder, Tells}
 use Rattle.fy_derive.specs.Print.{derivation_text}
 use Rattle.fy_derive.specs.Reading.{plain_derivation}
 use Rattle.fy_phrase.specs.Reads.{reads}
+use Rattle.fy_lexer.specs.Identifiers.{AreIdentifiers}
 use Rattle.fy_lexer.specs.Tokens.{HasAdded}
-use Rattle.fy_link.specs.UnitBytes.{unit_bytes}
-use Rattle.fy_link.specs.Units.{IsUnit, IsUnitFault}
+use Rattle.fy_lexer.proofs.IdentifierLemmas.{identifiers_named}
+use Rattle.fy_link.specs.Read.{source_in}
+use Rattle.fy_link.specs.UnitBytes.{unit_bytes, IsReadBack}
+use Rattle.fy_link.specs.Units.{IsUnit, IsUnitFault, KeepsTypeLimits}
 use Rattle.fy_link.specs.declared.error.UnitError.{UnitError}
 use Rattle.fy_link.specs.declared.unit.Unit.{Unit as UnitValue}
 use Rattle.fy_link.specs.declared.error.LinkError.{LinkError}
 use Rattle.fy_link.specs.declared.error.LinkError.TheVariants as linking
 use Rattle.fy_link.specs.declared.linking.Linked.{Linked}
-use Rattle.fy_types.specs.Names.{first_names}
+use Rattle.fy_types.specs.Names.{AreNames, first_names}
 use Rattle.fy_words.specs.Order.{Order, unit, join, link, stack_wanted}
 use Rattle.fy_world.specs.World.{Contents, Counts}
 use Rattle.fy_world.specs.Counted.{Faulted, Counted}
@@ -48,12 +52,22 @@ pub not_unit : {T : Type 0} (P : T → Type 0) (names : List Bytes) (text : Byte
 not_unit P names text error result short e fault found =
     found_so P (IsNoUnit text) (unit_refusal error) result found (λ w told. not_compiled error w short (subst (λ n. IsUnitFault n text error) e fault) told)
 
+are_first : AreNames first_names
+are_first = record { later = []; begins = sym (append-nil first_names); distinct = refl }
+
 pub unit_written : (first names : List Bytes) (text bytes : Bytes) (value : UnitValue) → first ≡ first_names → value.source ≡ text → IsUnit names value → HasAdded first names
+    → KeepsTypeLimits (source_in value) → (AreNames first → AreIdentifiers first → IsReadBack first names value)
     → bytes ≡ unit_bytes value.source (derivation_text names (plain_derivation value.derivation)) → AreUnitBytes text bytes
-unit_written first names text bytes value e source is added written = record {
+unit_written first names text bytes value e source is added within back written = record {
   names = names;
   value = value;
-  unit = record { source = source; unit = is; first = subst (λ n. HasAdded n names) e added };
+  unit = record {
+    source = source;
+    unit = is;
+    first = subst (λ n. HasAdded n names) e added;
+    within = within;
+    read_back = subst (λ n. IsReadBack n names value) e (back (subst AreNames (sym e) are_first) (subst AreIdentifiers (sym e) identifiers_named.first));
+  };
   are = written ∙ ap (λ s. unit_bytes s (derivation_text names (plain_derivation value.derivation))) source;
 }
 

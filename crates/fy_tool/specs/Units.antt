@@ -3,12 +3,14 @@ use Rattle.std.specs.Prelude.{◌≡◌, ◌≢◌, ℕ, ◌<◌, ◌≤◌, ◌
 use Rattle.std.specs.declared.option.Option.{Option}
 use Rattle.fy_base.specs.Outside.{Bytes}
 use Rattle.fy_types.specs.Names.{first_names}
+use Rattle.fy_expand.specs.Judged.{most_text}
 use Rattle.fy_lexer.specs.Tokens.{HasAdded}
 use Rattle.fy_phrase.specs.Reads.{reads}
 use Rattle.fy_derive.specs.Reading.{plain_derivation}
 use Rattle.fy_link.specs.Links.{IsLinked, IsUnlinked}
-use Rattle.fy_link.specs.UnitBytes.{IsUnitRead, IsBadUnit}
-use Rattle.fy_link.specs.Units.{IsUnit, IsUnitFault}
+use Rattle.fy_link.specs.Read.{source_in}
+use Rattle.fy_link.specs.UnitBytes.{IsUnitRead, IsBadUnit, IsReadBack}
+use Rattle.fy_link.specs.Units.{IsUnit, IsUnitFault, KeepsTypeLimits}
 use Rattle.fy_link.specs.declared.error.LinkError.{LinkError}
 use Rattle.fy_link.specs.declared.error.LinkError.TheVariants as linking
 use Rattle.fy_link.specs.declared.error.UnitError.{UnitError}
@@ -38,14 +40,16 @@ unit_refusal compiling.OutOfMemory = None
 
 -- why a text is the source of no unit
 pub data IsNoUnit (text : Bytes) : Refusal → Type 0 where
-  too_long : 1048576 < length text → IsNoUnit text refusal.Length
-  not_compiled : (error : UnitError) (why : Refusal) → length text ≤ 1048576 → IsUnitFault first_names text error → unit_refusal error ≡ Some why → IsNoUnit text why
+  too_long : most_text < length text → IsNoUnit text refusal.Length
+  not_compiled : (error : UnitError) (why : Refusal) → length text ≤ most_text → IsUnitFault first_names text error → unit_refusal error ≡ Some why → IsNoUnit text why
 
--- the unit whose source the text is, with these names
+-- the unit whose source the text is, with these names; the least types of its phrase keep their limits, and what is kept of it is read back
 pub record IsUnitOfText (text : Bytes) (names : List Bytes) (value : UnitValue) : Type 0 where
   pub source : value.source ≡ text
   pub unit : IsUnit names value
   pub first : HasAdded first_names names
+  pub within : KeepsTypeLimits (source_in value)
+  pub read_back : IsReadBack first_names names value
 
 -- ---- lists of units
 

@@ -13,4 +13,5 @@ returns-in-Err-compile_unit-clause-unit c =
 
 pub returns-in-Ok-write_unit-clause-unit : goal.returns-in-Ok-write_unit-clause-unit
 returns-in-Ok-write_unit-clause-unit c =
-    unit_written _ _ c.args.text.now c.in-Ok-write_unit.bytes.items c.in-Ok-compile_unit.unit c.in-Ok.ensures c.in-Ok-compile_unit.ensures.source c.in-Ok-compile_unit.ensures.unit c.in-Ok-compile_unit.ensures.names c.in-Ok-write_unit.ensures
+    unit_written _ _ c.args.text.now c.in-Ok-write_unit.bytes.items c.in-Ok-compile_unit.unit c.in-Ok.ensures c.in-Ok-compile_unit.ensures.source c.in-Ok-compile_unit.ensures.unit c.in-Ok-compile_unit.ensures.names c.in-Ok-compile_unit.ensures.within
+    c.in-Ok-compile_unit.ensures.read_back c.in-Ok-write_unit.ensures
