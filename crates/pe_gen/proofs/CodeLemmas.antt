@@ -1,5 +1,5 @@
 -- Code that is made of a site for each pair whose node is no merge is the code of the phrase and the table.
-use Rattle.std.proofs.Common.{ℕ, ◌+◌, ◌≡◌, ◌↔◌, Bool, true, false, ◌⊎◌, inl, inr, List, [], ◌∷◌, length, Some, refl, ap, sym, ◌∙◌, subst, arith}
+use Rattle.std.proofs.Common.{ℕ, ◌+◌, ◌<◌, ◌≤◌, ◌≡◌, ◌↔◌, Bool, true, false, ◌⊎◌, inl, inr, List, [], ◌∷◌, length, Some, refl, ap, sym, ◌∙◌, subst, arith}
 use Rattle.std.specs.Prelude.{slice_get}
 use Rattle.fy_phrase.specs.declared.shapes.Pair.{Pair}
 use Rattle.fy_phrase.specs.declared.shapes.ShapeTable.{ShapeTable}
@@ -14,9 +14,11 @@ use Rattle.pe_code.specs.Code.{item_at, entry_of}
 use Rattle.pe_gen.specs.Preorder.{preorder}
 use Rattle.pe_right.specs.Constants.{no_data}
 use Rattle.pe_right.specs.Right.{IsNodeUnder, itself, thunk_nodes, Enters, IsItemOf, IsRightAt, IsCodeOf}
+use Rattle.pe_gen.specs.Layout.{IsOwn, IsLaidOut}
 use Rattle.pe_gen.specs.Sites.{is_merge, taken_by, landing, pair, Stands, AreSites, AreEntries}
 use Rattle.pe_gen.proofs.EntryLists.{pair_same, address-of, address-from}
 use Rattle.pe_gen.proofs.Gets.{some_same, pair_second, get-within, get-some}
+use Rattle.pe_gen.proofs.Injections.{few-among}
 use Rattle.pe_gen.proofs.LandLemmas.{operand-kind, taken-begins, landing-plain, landing-right, landing-left, passed-right, passed-left, pair-stands}
 use Rattle.pe_gen.proofs.NodeLists.{node-found, node-placed, first-part, second-part}
 use Rattle.pe_gen.proofs.ScopeLemmas.{IsScoped, node-scoped}
@@ -143,6 +145,39 @@ module _ (p : Tree) (table : ShapeTable) (code : PeCode) (made : IsMade p table 
     assignment = made.assignment;
     thunks = made.thunks;
   }
+
+  -- what is a pair's own stands at its site
+  own-site : (x : Pair) (a : ℕ) → IsOwn p code x a → slice_get made.places a ≡ Some x
+  own-site x a own =
+      let at = entry-pair x.node x.shape a own.entered in
+      let stands = get-some table.shapes x.shape (made.sound.pairs_within at.0 (pair x.node x.shape) at.1) in
+      let is = shape-read table.shapes x.shape stands.0 stands.1 in
+      let s = plain_shape stands.0 in
+      leads own.depth x.node x.shape a own.form s own.node is own.entered
+      ∙ (ap (λ m. Some (pair m x.shape)) (landing-plain x.node own.form s own.whole) ∙ ap Some (pair_same (pair x.node x.shape) x refl refl))
+
+  site-own : (a : ℕ) (x : Pair) → slice_get made.places a ≡ Some x → IsOwn p code x a
+  site-own a x at =
+      let known = made.sites.known a x at in
+      let named : x ≡ pair x.node x.shape = pair_same x (pair x.node x.shape) refl refl in
+      let e = entered x.node x.shape (subst (λ y. Stands table.pairs y) named (made.there x known.0)) in
+      let node = node-found 0 p x.node known.1.1.0 known.1.0 known.1.1.1 in
+      let own : IsOwn p code x e.0 = record { depth = known.1.1.0; form = known.1.0; node = node; whole = known.1.2; entered = e.1 } in
+      let here : e.0 ≡ a = same-address a e.0 x x at (own-site x e.0 own) refl in
+      record { depth = known.1.1.0; form = known.1.0; node = node; whole = known.1.2; entered = e.1 ∙ ap Some here }
+
+  pub laid-out : IsLaidOut p code
+  laid-out = record {
+    each = λ a h. let x = get-some made.places a (omega (arith, h, made.all)) in (x.0, site-own a x.0 x.1);
+    one = λ a x y o u. some_same (sym (own-site x a o) ∙ own-site y a u);
+    order = λ a b x y one l o u. made.sites.order a b x y one l (own-site x a o) (own-site y b u);
+    entries = made.entries.ordered;
+  }
+
+  pub items-few : length code.items ≤ length table.pairs
+  items-few =
+      let short = few-among table.pairs made.places made.sites.apart (λ i x at. made.there x (made.sites.known i x at).0) in
+      omega (arith, short, made.all)
 
 -- an item, with its site
 pub record HasSite (p : Tree) (table : ShapeTable) (code : PeCode) (places : List Pair) (i : ℕ) (item : PeItem) : Type 0 where

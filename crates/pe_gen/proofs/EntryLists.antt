@@ -7,8 +7,9 @@ use Rattle.fy_phrase.specs.declared.shapes.Shape.{Shape}
 use Rattle.fy_phrase.specs.Tree.{Tree}
 use Rattle.pe_code.specs.declared.code.Entry.{Entry}
 use Rattle.pe_code.specs.Code.{address_in}
-use Rattle.pe_code.specs.Entries.{is_before, with_entry}
+use Rattle.pe_code.specs.Entries.{is_before, with_entry, AreInOrder}
 use Rattle.pe_code.specs.Valid.{AreOnce}
+use Rattle.pe_code.proofs.EntryLemmas.{order-with_entry}
 use Rattle.pe_gen.specs.Sites.{pair, Stands, IsEntryOf, AreEntries}
 use Rattle.pe_gen.proofs.Gets.{some_same, get-within}
 
@@ -120,12 +121,14 @@ module _ (ns : List (ℕ × Tree)) (shapes : List Shape) (pairs sites : List Pai
         IsEntryOf ns shapes pairs sites e × ((m : ℕ) × (m < i) × (slice_get pairs m ≡ Some (pair e.node e.shape)))
     pub has : (m : ℕ) (x : Pair) → m < i → slice_get pairs m ≡ Some x → (e : Entry) × Stands entries e × (e.node ≡ x.node) × (e.shape ≡ x.shape)
     pub apart : AreApart entries
+    pub ordered : AreInOrder entries
 
   pub no-entries : AreEntriesTo 0 []
   no-entries = record {
     known = λ j e is. absurd cc;
     has = λ m x h is. absurd (omega arith);
     apart = tt;
+    ordered = λ i j d l w. absurd (omega (arith, w));
   }
 
   pub one-entry : (i : ℕ) (es : List Entry) (x : Pair) (item : Entry) →
@@ -154,6 +157,7 @@ module _ (ns : List (ℕ × Tree)) (shapes : List Shape) (pairs sites : List Pai
             let same : pair item.node item.shape ≡ pair d.node d.shape = pair_same (pair item.node item.shape) (pair d.node d.shape) a b in
             let again : i ≡ k.1.0 = once i k.1.0 (pair item.node item.shape) here (k.1.2 ∙ ap Some (sym same)) in
             omega (arith, k.1.1));
+        ordered = order-with_entry item es r.ordered;
       }
 
   pub all-entries : (i : ℕ) (es : List Entry) → AreEntriesTo i es → length pairs ≤ i → AreEntries ns shapes pairs sites es
@@ -161,4 +165,5 @@ module _ (ns : List (ℕ × Tree)) (shapes : List Shape) (pairs sites : List Pai
     known = λ j e at. (r.known j e at).0;
     has = λ x at. r.has at.0 x (let h = get-within pairs at.0 x at.1 in omega arith) at.1;
     once = apart-once es r.apart;
+    ordered = r.ordered;
   }

@@ -11,9 +11,12 @@ use Rattle.pe_code.specs.declared.code.Entry.{Entry}
 use Rattle.pe_code.specs.declared.code.PeCode.{PeCode}
 use Rattle.pe_code.specs.declared.code.PeInsn.{PeInsn}
 use Rattle.pe_code.specs.declared.code.PeItem.{PeItem}
-use Rattle.pe_code.specs.Code.{beside, body_of, variable_of, shape_of, node_of, picked_from}
+use Rattle.pe_code.specs.Code.{address_in, beside, body_of, variable_of, shape_of, node_of, picked_from}
+use Rattle.pe_code.specs.Entries.{AreInOrder}
 use Rattle.pe_code.specs.Valid.{LeadsTo, IsThunkNode, IsSoundItem, IsSoundEntry, all_picked_from, AreOnce, IsValid}
 use Rattle.pe_right.specs.Direct.{IsHanded, passed, bound, same, IsItemHanded, IsDirectOf}
+use Rattle.fy_phrase.specs.declared.shapes.Pair.{Pair}
+use Rattle.pe_gen.specs.Layout.{IsOwn, IsLaidOut}
 use Rattle.pe_gen.specs.Sizes.{HasSizesOf}
 use Rattle.pe_gen.proofs.Gets.{some_same, get-within, get-some}
 use Rattle.pe_gen.proofs.SoundLemmas.{All-from_gets}
@@ -128,4 +131,19 @@ module _ (p : Tree) (code made : PeCode) (direct : IsDirectOf p code made) where
         let w = at-place (λ (item : PeItem). ForSome (body_of item.insn) (λ body. item.depth ≤ depth p)) code.items a x.0 s.frames x.1 body (sym (same-body x.2.insn) ∙ e) in
         omega (arith, w, x.2.depth));
     thunk_nodes = ap length direct.thunks ∙ s.thunk_nodes;
+  }
+
+  -- where pairs are entered is the same
+  own-before : (x : Pair) (a : ℕ) → IsOwn p made x a → IsOwn p code x a
+  own-before x a o = record { depth = o.depth; form = o.form; node = o.node; whole = o.whole; entered = ap (λ (es : List Entry). address_in es x.node x.shape) (sym direct.entries) ∙ o.entered }
+
+  own-after : (x : Pair) (a : ℕ) → IsOwn p code x a → IsOwn p made x a
+  own-after x a o = record { depth = o.depth; form = o.form; node = o.node; whole = o.whole; entered = ap (λ (es : List Entry). address_in es x.node x.shape) direct.entries ∙ o.entered }
+
+  pub layout-kept : IsLaidOut p code → IsLaidOut p made
+  layout-kept h = record {
+    each = λ a w. let x = h.each a (omega (arith, w, direct.count)) in (x.0, own-after x.0 a x.1);
+    one = λ a x y o u. h.one a x y (own-before x a o) (own-before y a u);
+    order = λ a b x y one l o u. h.order a b x y one l (own-before x a o) (own-before y b u);
+    entries = subst AreInOrder (sym direct.entries) h.entries;
   }

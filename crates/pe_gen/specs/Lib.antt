@@ -1,6 +1,7 @@
 pub mod Preorder
 pub mod Steps
 pub mod Sites
+pub mod Layout
 pub mod Thunks
 pub mod Plan
 pub mod Sizes

@@ -1,5 +1,5 @@
 -- Where the items of code stand, and where nodes are entered.
-use Rattle.std.specs.Prelude.{ℕ, ◌+◌, ◌<◌, ◌≤◌, ◌≡◌, Bool, true, false, if◌then◌else◌, List, length, slice_get, Option, Some, None}
+use Rattle.std.specs.Prelude.{ℕ, ◌+◌, ◌<◌, ◌≤◌, ◌≡◌, ◌⊎◌, Bool, true, false, if◌then◌else◌, List, length, slice_get, Option, Some, None}
 use Rattle.fy_phrase.specs.declared.shapes.Pair.{Pair}
 use Rattle.fy_phrase.specs.declared.shapes.Shape.{Shape}
 use Rattle.fy_phrase.specs.Sizes.{nodes}
@@ -7,6 +7,7 @@ use Rattle.fy_phrase.specs.Tree.{Tree, merge}
 use Rattle.fy_derive.specs.Kinds.{Kind, kind_of}
 use Rattle.fy_derive.specs.Shapes.{PlainShape, shape_begins}
 use Rattle.pe_code.specs.declared.code.Entry.{Entry}
+use Rattle.pe_code.specs.Entries.{AreInOrder}
 use Rattle.pe_code.specs.Valid.{AreOnce}
 use Rattle.pe_gen.specs.Preorder.{preorder}
 use Rattle.pe_gen.specs.Steps.{shape_in}
@@ -41,6 +42,18 @@ operand_at k p s = None
 abbrev pub pair : ℕ → ℕ → Pair
 pair k n = record { node = k; shape = n }
 
+-- one pair stands before another: by node, then by shape
+abbrev pub IsBefore : Pair → Pair → Type 0
+IsBefore x y = (x.node < y.node) ⊎ (x.node ≡ y.node) × (x.shape < y.shape)
+
+-- each pair of the list stands before those behind it
+abbrev pub ArePairsInOrder : List Pair → Type 0
+ArePairsInOrder pairs = (i j : ℕ) (x y : Pair) → i < j → slice_get pairs i ≡ Some x → slice_get pairs j ≡ Some y → IsBefore x y
+
+-- no pair of the list stands before an earlier one
+abbrev pub AreNotBefore : List Pair → Type 0
+AreNotBefore pairs = (i j : ℕ) (x y : Pair) → i < j → slice_get pairs i ≡ Some x → slice_get pairs j ≡ Some y → (x.node < y.node) ⊎ (x.node ≡ y.node) × (x.shape ≤ y.shape)
+
 -- the value is in the list
 abbrev pub Stands : {X : Type 0} → List X → X → Type 0
 Stands xs x = (i : ℕ) × (slice_get xs i ≡ Some x)
@@ -61,12 +74,13 @@ IsPlain ns x = (p : Tree) × IsListed ns x.node p × (is_merge p ≡ false)
 abbrev pub AreWithin : ℕ → List Pair → Type 0
 AreWithin n pairs = (i : ℕ) (x : Pair) → slice_get pairs i ≡ Some x → x.node < n
 
--- the sites are just the pairs whose nodes are no merges, each once, and the program's is the first
+-- the sites are just the pairs whose nodes are no merges, each once; the program's is the first, and the others are in order
 pub record AreSites (ns : List (ℕ × Tree)) (pairs : List Pair) (program : Pair) (sites : List Pair) : Type 0 where
   pub first : slice_get sites 0 ≡ Some program
   pub known : (i : ℕ) (x : Pair) → slice_get sites i ≡ Some x → Stands pairs x × IsPlain ns x
   pub has : (x : Pair) → Stands pairs x → IsPlain ns x → Stands sites x
   pub apart : (i j : ℕ) (x : Pair) → slice_get sites i ≡ Some x → slice_get sites j ≡ Some x → i ≡ j
+  pub order : (i j : ℕ) (x y : Pair) → 1 ≤ i → i < j → slice_get sites i ≡ Some x → slice_get sites j ≡ Some y → IsBefore x y
 
 -- each pair lands at a site
 abbrev pub LandAmong : List (ℕ × Tree) → List Shape → List Pair → List Pair → Type 0
@@ -99,8 +113,9 @@ pub record IsEntryOf (ns : List (ℕ × Tree)) (shapes : List Shape) (pairs site
   pub is : shape_in shapes entry.shape ≡ Some shape
   pub leads : slice_get sites entry.address ≡ Some (pair (landing entry.node node shape) entry.shape)
 
--- there is one entry for each pair
+-- there is one entry for each pair, in order
 pub record AreEntries (ns : List (ℕ × Tree)) (shapes : List Shape) (pairs sites : List Pair) (entries : List Entry) : Type 0 where
   pub known : (i : ℕ) (e : Entry) → slice_get entries i ≡ Some e → IsEntryOf ns shapes pairs sites e
   pub has : (x : Pair) → Stands pairs x → (e : Entry) × Stands entries e × (e.node ≡ x.node) × (e.shape ≡ x.shape)
   pub once : AreOnce entries
+  pub ordered : AreInOrder entries

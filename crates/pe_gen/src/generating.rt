@@ -10,7 +10,8 @@ ghost use Rattle.pe_code.specs.Valid.{IsValid};
 ghost use Rattle.pe_right.specs.Constants.{no_data};
 ghost use Rattle.pe_right.specs.Follows.{FollowsCopyRule};
 ghost use Rattle.pe_right.specs.Right.{IsCodeOf};
-ghost use Rattle.pe_gen.specs.Sites.{is_merge};
+ghost use Rattle.pe_gen.specs.Sites.{is_merge, AreNotBefore};
+ghost use Rattle.pe_gen.specs.Layout.{IsLaidOut};
 ghost use Rattle.pe_gen.specs.Sizes.{HasSizesOf};
 ghost use Rattle.pe_right.specs.Typed.{IsTableOf};
 
@@ -26,9 +27,8 @@ use pe_code::PeCode;
 use std::alloc::Global;
 
 /// Push-enter code of a closed phrase that is no merge, from the table of demand shapes of an accepted derivation: an item for each pair of the table whose node
-/// is no merge, the program's first and the others in order of node and shape. A merge is entered where the operand is that takes the demand. The time is
-/// proportional to the nodes and the pairs, up to a logarithm, besides a comparison of each two shapes. The code does what the copy rule does, and no step of it is
-/// undefined or looks for a frame that is gone.
+/// is no merge, the program's first and the others in order of node and shape. A merge is entered where the operand is that takes the demand. The code does
+/// what the copy rule does, and no step of it is undefined or looks for a frame that is gone.
 pub fn generate(alloc: Global, p: &Phrase, table: &ShapeTable) -> Result<PeCode, OutOfMemory>
     requires whole { is_merge (reads p.now) ≡ false }
     requires closed { IsClosed (reads p.now) }
@@ -44,6 +44,8 @@ pub fn generate(alloc: Global, p: &Phrase, table: &ShapeTable) -> Result<PeCode,
     ensures valid { IfOk result (λ code. IsValid code) }
     ensures follows { IfOk result (λ code. FollowsCopyRule no_data (reads p.now) code) }
     ensures sizes { IfOk result (λ code. HasSizesOf (reads p.now) code) }
+    ensures laid_out { IfOk result (λ code. IsLaidOut (reads p.now) code) }
+    ensures few { IfOk result (λ code. length code.items ≤ length table.now.pairs) }
 {
     let shapes = table.shapes.as_slice();
     let nodes = nodes_of(alloc, p)?;
@@ -77,6 +79,7 @@ pub fn generate(alloc: Global, p: &Phrase, table: &ShapeTable) -> Result<PeCode,
 fn pairs_in_order(alloc: Global, pairs: &[Pair]) -> Result<Vec<Pair>, OutOfMemory>
     ensures moved { IfOk result (λ made. IsPermutation pairs.now made.items) }
     ensures ordered { IfOk result (λ made. IsNonDecreasingBy (λ x. x.node) made.items) }
+    ensures rising { IfOk result (λ made. AreNotBefore made.items) }
 {
     let mut made = Vec::from_slice(alloc, pairs)?;
     made.sort_by_key(|pair| (pair.node, pair.shape))?;

@@ -5,7 +5,7 @@ ghost use Rattle.fy_derive.specs.ShapeTables.{plain_shape};
 ghost use Rattle.fy_phrase.specs.Reads.{reads};
 ghost use Rattle.fy_phrase.specs.Tree.{Tree};
 ghost use Rattle.pe_gen.specs.Preorder.{seen};
-ghost use Rattle.pe_gen.specs.Sites.{is_merge as is_merge_of, right_of, taken_by, operand_at, IsListing, IsPlain, Stands, AreWithin, AreSites, LandAmong, ArePassed, AreAddressesFrom, AreEntries};
+ghost use Rattle.pe_gen.specs.Sites.{is_merge as is_merge_of, right_of, taken_by, operand_at, IsListing, IsPlain, Stands, AreWithin, ArePairsInOrder, AreSites, LandAmong, ArePassed, AreAddressesFrom, AreEntries};
 
 use crate::listing::number_behind;
 use crate::nodes::Node;
@@ -26,6 +26,7 @@ pub fn sites_of(
     requires within { AreWithin (length nodes.now) pairs.now }
     requires program { Stands pairs.now program }
     requires plain { IsPlain (map seen nodes.now) program }
+    requires ordered { ArePairsInOrder pairs.now }
     ensures { IfOk result (λ sites. AreSites (map seen nodes.now) pairs.now program sites.keys) }
 {
     let mut sites = IndexSet::new(alloc);

@@ -8,10 +8,11 @@ use Rattle.pe_code.specs.declared.code.PeCode.{PeCode}
 use Rattle.pe_gen.specs.declared.plan.Plan.{Plan}
 use Rattle.pe_gen.specs.declared.steps.ShapeStep.TheVariants.{End}
 use Rattle.pe_gen.specs.Preorder.{seen, thunks_from}
-use Rattle.pe_gen.specs.Sites.{pair, Stands, IsPlain, AreSites, LandAmong, ArePassed, AreEntries}
+use Rattle.pe_gen.specs.Sites.{pair, Stands, IsPlain, ArePairsInOrder, AreSites, LandAmong, ArePassed, AreEntries}
 use Rattle.pe_gen.proofs.BegunLemmas.{some-from, begun-of, run-step, begun-within, begun-shapes, begun-once, begun-land, begun-passed, begun-few, program-stands, program-plain, plan-of, site-asked, code-made}
-use Rattle.pe_gen.proofs.CodeLemmas.{code-of}
+use Rattle.pe_gen.proofs.CodeLemmas.{code-of, laid-out, items-few}
 use Rattle.pe_gen.proofs.FrameLemmas.{sizes-of}
+use Rattle.pe_gen.proofs.OrderLemmas.{pairs-in-order}
 use Rattle.pe_gen.proofs.SeenLemmas.{nodes-few}
 use Rattle.pe_gen.proofs.SoundLemmas.{valid-of}
 use Rattle.pe_right.specs.Constants.{no_data}
@@ -48,6 +49,14 @@ sites_of-requires-clause-plain c =
     c.requires.table c.requires.whole c.requires.closed c.requires.depths c.requires.made c.requires.depth c.in_ok-nodes.ensures
     c.as_slice-shapes.ensures c.in_ok-steps.ensures c.as_slice.ensures c.in_ok-pairs.ensures.moved in
     subst (λ xs. IsPlain (map seen xs) (pair 0 c.unwrap.result)) (sym c.deref.ensures.value) (program-plain (reads c.args.p.now) c.args.table.now (map seen c.in_ok-nodes.nodes.items) c.in_ok-steps.steps.keys c.in_ok-pairs.pairs.items b c.unwrap.result)
+
+pub sites_of-requires-clause-ordered : goal.sites_of-requires-clause-ordered
+sites_of-requires-clause-ordered c =
+    let b = begun-of (reads c.args.p.now) c.args.table.now (map seen c.in_ok-nodes.nodes.items) c.in_ok-steps.steps.keys c.in_ok-pairs.pairs.items c.as_slice-shapes.result.now c.as_slice.result.now
+    c.requires.table c.requires.whole c.requires.closed c.requires.depths c.requires.made c.requires.depth c.in_ok-nodes.ensures
+    c.as_slice-shapes.ensures c.in_ok-steps.ensures c.as_slice.ensures c.in_ok-pairs.ensures.moved in
+    let once = begun-once (reads c.args.p.now) c.args.table.now (map seen c.in_ok-nodes.nodes.items) c.in_ok-steps.steps.keys c.in_ok-pairs.pairs.items b in
+    subst ArePairsInOrder (sym c.deref-2.ensures.value) (pairs-in-order c.in_ok-pairs.pairs.items c.in_ok-pairs.ensures.rising once)
 
 pub entries_of-requires-clause-few : goal.entries_of-requires-clause-few
 entries_of-requires-clause-few c =
@@ -215,6 +224,50 @@ returns-clause-sizes c =
     (ap length c.as_slice-shapes.ensures) c.number_of_step-assignment.ensures
     (c.in_ok-thunks.ensures ∙ ap (λ xs. thunks_from 0 (map seen xs)) c.deref-5.ensures.value) in
     sizes-of (reads c.args.p.now) c.args.table.now code made
+
+pub returns-clause-laid_out : goal.returns-clause-laid_out
+returns-clause-laid_out c =
+    let b = begun-of (reads c.args.p.now) c.args.table.now (map seen c.in_ok-nodes.nodes.items) c.in_ok-steps.steps.keys c.in_ok-pairs.pairs.items c.as_slice-shapes.result.now c.as_slice.result.now
+    c.requires.table c.requires.whole c.requires.closed c.requires.depths c.requires.made c.requires.depth c.in_ok-nodes.ensures
+    c.as_slice-shapes.ensures c.in_ok-steps.ensures c.as_slice.ensures c.in_ok-pairs.ensures.moved in
+    let run = MatchOption-at_some _ (λ n. slice_get c.in_ok-steps.steps.keys n ≡ Some (End ending.Run)) c.unwrap.result c.unwrap.ensures c.number_of_step.ensures in
+    let program = pair 0 c.unwrap.result in
+    let places = c.in_ok-sites.sites.keys in
+    let all = subst (λ xs. AreSites (map seen xs) c.in_ok-pairs.pairs.items program places) c.deref.ensures.value
+    (subst (λ xs. AreSites (map seen c.deref.result.now) xs program places) c.deref-2.ensures.value c.in_ok-sites.ensures) in
+    let entries = subst (λ xs. AreEntries (map seen xs) c.args.table.now.shapes c.in_ok-pairs.pairs.items places c.in_ok-entries.entries) c.deref-3.ensures.value
+    (subst (λ ss. AreEntries (map seen c.deref-3.result.now) ss c.in_ok-pairs.pairs.items places c.in_ok-entries.entries) c.as_slice-shapes.ensures
+    (subst (λ xs. AreEntries (map seen c.deref-3.result.now) c.as_slice-shapes.result.now xs places c.in_ok-entries.entries) c.deref-4.ensures.value c.in_ok-entries.ensures)) in
+    let plan : Plan = record { nodes = c.in_ok-nodes.nodes; table = c.args.table; steps = c.in_ok-steps.steps; entries = c.in_ok-entries.entries } in
+    let code : PeCode = record { items = c.in_ok-items.items; entries = c.in_ok-entries.entries; shapes = length c.as_slice-shapes.result.now; assignment = c.number_of_step-assignment.result; thunks = c.in_ok-thunks.thunks } in
+    let made = code-made (reads c.args.p.now) c.args.table.now (map seen c.in_ok-nodes.nodes.items) c.in_ok-steps.steps.keys c.in_ok-pairs.pairs.items b plan refl refl refl program places all entries code refl refl run
+    (c.in_ok-items.ensures.all ∙ ap length c.as_slice-2.ensures.keys)
+    (λ i x item at here. c.in_ok-items.ensures.each i x item (ap (λ xs. slice_get xs i) c.as_slice-2.ensures.keys ∙ at) here)
+    (ap length c.as_slice-shapes.ensures) c.number_of_step-assignment.ensures
+    (c.in_ok-thunks.ensures ∙ ap (λ xs. thunks_from 0 (map seen xs)) c.deref-5.ensures.value) in
+    laid-out (reads c.args.p.now) c.args.table.now code made
+
+pub returns-clause-few : goal.returns-clause-few
+returns-clause-few c =
+    let b = begun-of (reads c.args.p.now) c.args.table.now (map seen c.in_ok-nodes.nodes.items) c.in_ok-steps.steps.keys c.in_ok-pairs.pairs.items c.as_slice-shapes.result.now c.as_slice.result.now
+    c.requires.table c.requires.whole c.requires.closed c.requires.depths c.requires.made c.requires.depth c.in_ok-nodes.ensures
+    c.as_slice-shapes.ensures c.in_ok-steps.ensures c.as_slice.ensures c.in_ok-pairs.ensures.moved in
+    let run = MatchOption-at_some _ (λ n. slice_get c.in_ok-steps.steps.keys n ≡ Some (End ending.Run)) c.unwrap.result c.unwrap.ensures c.number_of_step.ensures in
+    let program = pair 0 c.unwrap.result in
+    let places = c.in_ok-sites.sites.keys in
+    let all = subst (λ xs. AreSites (map seen xs) c.in_ok-pairs.pairs.items program places) c.deref.ensures.value
+    (subst (λ xs. AreSites (map seen c.deref.result.now) xs program places) c.deref-2.ensures.value c.in_ok-sites.ensures) in
+    let entries = subst (λ xs. AreEntries (map seen xs) c.args.table.now.shapes c.in_ok-pairs.pairs.items places c.in_ok-entries.entries) c.deref-3.ensures.value
+    (subst (λ ss. AreEntries (map seen c.deref-3.result.now) ss c.in_ok-pairs.pairs.items places c.in_ok-entries.entries) c.as_slice-shapes.ensures
+    (subst (λ xs. AreEntries (map seen c.deref-3.result.now) c.as_slice-shapes.result.now xs places c.in_ok-entries.entries) c.deref-4.ensures.value c.in_ok-entries.ensures)) in
+    let plan : Plan = record { nodes = c.in_ok-nodes.nodes; table = c.args.table; steps = c.in_ok-steps.steps; entries = c.in_ok-entries.entries } in
+    let code : PeCode = record { items = c.in_ok-items.items; entries = c.in_ok-entries.entries; shapes = length c.as_slice-shapes.result.now; assignment = c.number_of_step-assignment.result; thunks = c.in_ok-thunks.thunks } in
+    let made = code-made (reads c.args.p.now) c.args.table.now (map seen c.in_ok-nodes.nodes.items) c.in_ok-steps.steps.keys c.in_ok-pairs.pairs.items b plan refl refl refl program places all entries code refl refl run
+    (c.in_ok-items.ensures.all ∙ ap length c.as_slice-2.ensures.keys)
+    (λ i x item at here. c.in_ok-items.ensures.each i x item (ap (λ xs. slice_get xs i) c.as_slice-2.ensures.keys ∙ at) here)
+    (ap length c.as_slice-shapes.ensures) c.number_of_step-assignment.ensures
+    (c.in_ok-thunks.ensures ∙ ap (λ xs. thunks_from 0 (map seen xs)) c.deref-5.ensures.value) in
+    items-few (reads c.args.p.now) c.args.table.now code made
 
 pub returns-clause-follows : goal.returns-clause-follows
 returns-clause-follows c =

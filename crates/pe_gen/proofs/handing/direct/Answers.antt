@@ -5,7 +5,7 @@ use Rattle.pe_gen.specs.Handing.{item_with_data}
 use Rattle.pe_gen.specs.Preorder.{seen}
 use Rattle.pe_gen.proofs.DirectLemmas.{code-kept, direct-follows, direct-ahead}
 use Rattle.pe_gen.proofs.HandingLemmas.{direct-of}
-use Rattle.pe_gen.proofs.KeptLemmas.{valid-kept, sizes-kept}
+use Rattle.pe_gen.proofs.KeptLemmas.{valid-kept, sizes-kept, layout-kept}
 use Rattle.pe_gen.proofs.handing.direct.Goals as goal
 
 pub returns-clause-direct : goal.returns-clause-direct
@@ -42,6 +42,12 @@ returns-clause-sizes c =
     let code = c.args.code.now in
     let made : PeCode = record { items = c.in_ok-items.items; entries = c.in_ok-entries.entries; shapes = code.shapes; assignment = code.assignment; thunks = c.in_ok-thunks.thunks } in
     sizes-kept (reads c.args.p.now) code made (returns-clause-direct c) c.requires.generated.sizes
+
+pub returns-clause-laid_out : goal.returns-clause-laid_out
+returns-clause-laid_out c =
+    let code = c.args.code.now in
+    let made : PeCode = record { items = c.in_ok-items.items; entries = c.in_ok-entries.entries; shapes = code.shapes; assignment = code.assignment; thunks = c.in_ok-thunks.thunks } in
+    λ laid. layout-kept (reads c.args.p.now) code made (returns-clause-direct c) laid
 
 pub returns-clause-ahead : goal.returns-clause-ahead
 returns-clause-ahead c =

@@ -23,7 +23,7 @@ loop-pair-preserved c =
           let k = w.sites-is in
           let m = w.in_ok-insert-2.ensures.keys in
           rw (k, m)
-          (next-site (map seen c.args.nodes.now) c.args.pairs.now c.args.program same_pair same_pair-true same_pair-refl i c.loop-pair.sites.keys x c.loop-pair.invariant at
+          (next-site (map seen c.args.nodes.now) c.args.pairs.now c.args.program same_pair same_pair-true same_pair-refl c.requires.ordered i c.loop-pair.sites.keys x c.loop-pair.invariant at
           (reads n.phrase.now, (n.depth, here), sym test ∙ w.if-not-is_merge.true))
       | else-not-is_merge w ↦
           let k = w.sites-is in
