@@ -6,6 +6,7 @@ ghost use Rattle.fy_derive.specs.Subsumption.{path_below};
 ghost use Rattle.fy_forms.specs.Keys.{lent};
 ghost use Rattle.fy_memo.specs.Bases.{IsFound, IsIn, IsMadeOf, IsParted, IsRest, IsSkipped, Sees, are_takers};
 ghost use Rattle.fy_order.specs.Demands.{takes, takes_argument};
+ghost use Rattle.fy_types.specs.Limits.{IsWithinLimits, all_nesting, all_nodes, most_nesting, most_nodes};
 ghost use Rattle.fy_types.specs.Once.{are_same, once};
 ghost use Rattle.fy_types.specs.Paths.{PlainPath, PlainPaths};
 ghost use Rattle.fy_types.specs.Reading.{plain_path, plain_paths};
@@ -44,6 +45,8 @@ pub(crate) struct Known {
     pub before: usize,
     ghost flagged: { are_takers taken.items (plain_paths base) (plain_paths procedure) ≡ true },
     ghost right: { are_same (plain_paths rests) (once (rests_of_call (plain_paths base) (plain_paths procedure))) ≡ true },
+    ghost few: { all_nodes (plain_paths rests) ≤ most_nodes },
+    ghost shallow: { all_nesting (plain_paths rests) ≤ most_nesting },
 }
 
 impl Known {
@@ -58,6 +61,7 @@ impl Known {
     ) -> Known
         requires taken { taken.items ≡ takes (plain_paths base) (plain_paths procedure) }
         requires rests { plain_paths rests ≡ once (rests_of_call (plain_paths base) (plain_paths procedure)) }
+        requires within { IsWithinLimits (plain_paths rests) }
     {
         let untaken = weight_of_untaken(&procedure, taken.as_slice());
         Known {
@@ -78,8 +82,10 @@ impl Known {
         argument: &Paths,
         procedure: &Paths,
     ) -> Result<Option<&Paths>, OutOfMemory>
-        ensures { IfOk result (λ found. IfSome found
+        ensures rests { IfOk result (λ found. IfSome found
             (λ rests. plain_paths rests.now ≡ once (rests_of_call (plain_paths argument.now) (plain_paths procedure.now)))) }
+        ensures within { IfOk result (λ found. IfSome found
+            (λ rests. IsWithinLimits (once (rests_of_call (plain_paths argument.now) (plain_paths procedure.now))))) }
     {
         if !are_same_paths(&self.procedure, procedure) {
             return Ok(None);

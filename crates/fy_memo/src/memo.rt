@@ -1,8 +1,8 @@
 //! Rests of calls and joins, kept for calls and pairs that are much the same.
 
-ghost use Rattle.std.specs.Prelude.{◌≡◌, true, IfOk, IfSome, IsErrOf};
+ghost use Rattle.std.specs.Prelude.{◌≡◌, ◌≤◌, true, IfOk, IfSome, IsErrOf, OnOk};
 ghost use Rattle.fy_types.specs.Bounds.{join_of};
-ghost use Rattle.fy_types.specs.Limits.{IsTooLarge};
+ghost use Rattle.fy_types.specs.Limits.{IsTooLarge, IsWithinLimits, all_nesting, all_nodes, most_nesting, most_nodes};
 ghost use Rattle.fy_types.specs.Once.{are_same, once as once_of};
 ghost use Rattle.fy_types.specs.Nested.{IsTypeOf};
 ghost use Rattle.fy_types.specs.Reading.{plain_paths, plain_type};
@@ -31,6 +31,8 @@ struct Join {
     second: Paths,
     joined: Paths,
     ghost right: { are_same (plain_paths joined) (join_of (plain_paths first) (plain_paths second)) ≡ true },
+    ghost few: { all_nodes (plain_paths joined) ≤ most_nodes },
+    ghost shallow: { all_nesting (plain_paths joined) ≤ most_nesting },
 }
 
 /// What was answered: calls and joins from the second time on that the number of a call, or a pair, is asked for, types of domains and
@@ -69,6 +71,7 @@ impl Memo {
     ) -> Result<Paths, TypeError>
         ensures ok { IfOk result
             (λ made. plain_paths made ≡ once_of (rests_of_call_of (plain_paths argument.now) (plain_paths procedure.now))) }
+        ensures within { OnOk result (IsWithinLimits (once_of (rests_of_call_of (plain_paths argument.now) (plain_paths procedure.now)))) }
         ensures large { IsErrOf result TypeError.TypeTooLarge →
             IsTooLarge (once_of (rests_of_call_of (plain_paths argument.now) (plain_paths procedure.now))) }
     {
@@ -116,8 +119,10 @@ impl Memo {
         argument: &Paths,
         procedure: &Paths,
     ) -> Result<Option<&Paths>, OutOfMemory>
-        ensures { IfOk result (λ found. IfSome found
+        ensures rests { IfOk result (λ found. IfSome found
             (λ rests. plain_paths rests.now ≡ once_of (rests_of_call_of (plain_paths argument.now) (plain_paths procedure.now)))) }
+        ensures within { IfOk result (λ found. IfSome found
+            (λ rests. IsWithinLimits (once_of (rests_of_call_of (plain_paths argument.now) (plain_paths procedure.now))))) }
     {
         match self.known_at(number) {
             Some(known) => known.rests_for(alloc, argument, procedure),
@@ -136,6 +141,7 @@ impl Memo {
     ) -> Result<(), OutOfMemory>
         requires taken { taken.items ≡ takes (plain_paths pair.0.now) (plain_paths pair.1.now) }
         requires rests { plain_paths rests.now ≡ once_of (rests_of_call_of (plain_paths pair.0.now) (plain_paths pair.1.now)) }
+        requires within { IsWithinLimits (once_of (rests_of_call_of (plain_paths pair.0.now) (plain_paths pair.1.now))) }
     {
         let base = self.base_for(alloc, number, pair, taken.as_slice())?;
         let procedure = copy_paths(alloc, pair.1)?;
@@ -178,6 +184,7 @@ impl Memo {
     /// `TypeTooLarge` comes exactly where it has over 4,096 nodes or nests more than 480.
     pub fn join(&mut self, alloc: Global, a: &Paths, b: &Paths) -> Result<Paths, TypeError>
         ensures ok { IfOk result (λ made. plain_paths made ≡ join_of (plain_paths a.now) (plain_paths b.now)) }
+        ensures within { OnOk result (IsWithinLimits (join_of (plain_paths a.now) (plain_paths b.now))) }
         ensures large { IsErrOf result TypeError.TypeTooLarge →
             IsTooLarge (join_of (plain_paths a.now) (plain_paths b.now)) }
     {
@@ -194,7 +201,8 @@ impl Memo {
     }
 
     fn find_join(&self, number: u64, a: &Paths, b: &Paths) -> Option<&Paths>
-        ensures { IfSome result (λ joined. plain_paths joined.now ≡ join_of (plain_paths a.now) (plain_paths b.now)) }
+        ensures joined { IfSome result (λ joined. plain_paths joined.now ≡ join_of (plain_paths a.now) (plain_paths b.now)) }
+        ensures within { IfSome result (λ joined. IsWithinLimits (join_of (plain_paths a.now) (plain_paths b.now))) }
     {
         let place = place_of(&self.join_places, number)?;
         if place >= self.joins.len() {
@@ -215,7 +223,8 @@ impl Memo {
         pair: (&Paths, &Paths),
         joined: &Paths,
     ) -> Result<(), OutOfMemory>
-        requires { plain_paths joined.now ≡ join_of (plain_paths pair.0.now) (plain_paths pair.1.now) }
+        requires joined { plain_paths joined.now ≡ join_of (plain_paths pair.0.now) (plain_paths pair.1.now) }
+        requires within { IsWithinLimits (join_of (plain_paths pair.0.now) (plain_paths pair.1.now)) }
     {
         let first = copy_paths(alloc, pair.0)?;
         let second = copy_paths(alloc, pair.1)?;
@@ -234,6 +243,8 @@ impl Memo {
 fn rests_once(alloc: Global, taken: &[bool], procedure: &Paths) -> Result<Paths, TypeError>
     ensures ok { IfOk result (λ made. (Q : PlainPaths) → taken.now ≡ takes Q (plain_paths procedure.now)
         → plain_paths made ≡ once_of (rests_of_call_of Q (plain_paths procedure.now))) }
+    ensures within { OnOk result ((Q : PlainPaths) → taken.now ≡ takes Q (plain_paths procedure.now)
+        → IsWithinLimits (once_of (rests_of_call_of Q (plain_paths procedure.now)))) }
     ensures large { IsErrOf result TypeError.TypeTooLarge → (Q : PlainPaths) → taken.now ≡ takes Q (plain_paths procedure.now)
         → IsTooLarge (once_of (rests_of_call_of Q (plain_paths procedure.now))) }
 {

@@ -1,6 +1,7 @@
-use Rattle.std.proofs.Common.{◌≡◌, Bool, List, sym, ap, ◌∙◌}
+use Rattle.std.proofs.Common.{◌≡◌, Bool, List, sym, ap, ◌∙◌, subst}
 use Rattle.fy_derive.specs.Least.{rests_of_call}
 use Rattle.fy_order.specs.Demands.{takes}
+use Rattle.fy_types.specs.Limits.{IsWithinLimits}
 use Rattle.fy_types.specs.Once.{once}
 use Rattle.fy_types.specs.Paths.{PlainPaths}
 use Rattle.fy_types.specs.Reading.{plain_paths}
@@ -19,3 +20,6 @@ new-known-requires-clause-rests c =
     (plain_paths c.in_ok-procedure.procedure) (plain_paths c.args.rests.now) (plain_paths c.in_ok-rests.rests)
     c.requires.taken (sym c.as_slice.ensures.value ∙ c.in_ok-base.ensures) c.in_ok-procedure.ensures c.in_ok-rests.ensures
     c.requires.rests
+
+pub new-known-requires-clause-within : goal.new-known-requires-clause-within
+new-known-requires-clause-within c = subst IsWithinLimits (sym (c.in_ok-rests.ensures ∙ c.requires.rests)) c.requires.within
