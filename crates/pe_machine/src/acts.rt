@@ -1,6 +1,6 @@
 //! What instructions do.
 
-ghost use Rattle.std.specs.Prelude.{◌≡◌, ℕ};
+ghost use Rattle.std.specs.Prelude.{◌≡◌};
 ghost use Rattle.pe_code.specs.declared.code.PeCode.{PeCode};
 ghost use Rattle.pe_machine.specs.States.{PeState, to_thunk};
 ghost use Rattle.pe_machine.specs.Step.{bound, executed, item_executed, pe_step, pushed};

@@ -1,9 +1,7 @@
 //! A datum, or a finished command, meets a context.
 
-ghost use Rattle.std.specs.Prelude.{◌≡◌, is_some, slice_get};
+ghost use Rattle.std.specs.Prelude.{◌≡◌, slice_get};
 ghost use Rattle.std.specs.Option.{option_copied};
-ghost use Rattle.fy_base.specs.Arithmetic.{written_text};
-ghost use Rattle.fy_phrase.specs.Contexts.{body_c};
 ghost use Rattle.pe_code.specs.Code.{item_at};
 ghost use Rattle.pe_machine.specs.States.{PeState, value, completed, code_at};
 ghost use Rattle.pe_machine.specs.Step.{chosen, completion_meets, datum_meets, focused, focused_if_some, indexed, left_meets, operated, parts_at, pushed};

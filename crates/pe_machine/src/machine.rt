@@ -27,7 +27,7 @@ pub struct PeState {
 }
 
 impl PeState {
-    ghost use Rattle.std.specs.Prelude.{◌≡◌, ◌<◌, ◌^◌, IfOk, if◌then◌else◌};
+    ghost use Rattle.std.specs.Prelude.{◌≡◌, ◌*◌, ◌<◌, ◌≤◌, ◌^◌, IfOk, if◌then◌else◌, vec_capacity};
     ghost use Rattle.pe_machine.specs.Run.{ended, going, pe_start, standing_of};
     ghost use Rattle.pe_machine.specs.Names.{IsPlacedChange, IsPlacedPointer};
     ghost use Rattle.pe_machine.specs.Turns.{IsFair, change_move, frames_of, kept_of, turn_move};
@@ -36,9 +36,11 @@ impl PeState {
     ghost use Rattle.pe_machine.specs.declared.turns.Turn.TheVariants.{Put, Read};
 
     /// The start of a code, with so many words for its load. It takes all the memory that there will be, and
-    /// no other call takes any: room for a frame and for a context for every 8 words.
+    /// no other call takes any: room for a frame and for a context for every 8 words, and for no more.
     pub fn load(alloc: Global, _code: &PeCode, stack_words: u32) -> Result<PeState, OutOfMemory>
-        ensures { IfOk result (λ state. seen state ≡ record { state = pe_start; steps = 0; phase = Phase.Going; limit = stack_words }) }
+        ensures starts { IfOk result (λ state. seen state ≡ record { state = pe_start; steps = 0; phase = Phase.Going; limit = stack_words }) }
+        ensures contexts { IfOk result (λ state. 8 * vec_capacity state.core.contexts ≤ stack_words) }
+        ensures frames { IfOk result (λ state. 8 * vec_capacity state.core.frames ≤ stack_words) }
     {
         let room = stack_words as usize / 8;
         let core = Core {

@@ -23,7 +23,7 @@ returns-in_err-state-clause-memory g c =
     (does_part c.args.code.now c.args.stack_words 0 c.args.steps fresh o o o.left o.held (omega arith) (reached_start c.args.code.now c.args.stack_words fresh o refl refl) refl refl)
 
 pub loop-k-init : goal.loop-k-init
-loop-k-init g c = record { reached = reached_start _ _ _ _ c.in_ok-state.ensures refl; input_quiet = refl; output_quiet = refl }
+loop-k-init g c = record { reached = reached_start _ _ _ _ c.in_ok-state.ensures.starts refl; input_quiet = refl; output_quiet = refl }
 
 pub returns-in_err-end-clause-memory : goal.returns-in_err-end-clause-memory
 returns-in_err-end-clause-memory g c =
