@@ -5,8 +5,7 @@ ghost use Rattle.std.specs.Borrow.{Bor};
 ghost use Rattle.fy_types.specs.declared.paths.Path.{Path};
 ghost use Rattle.fy_types.specs.Reading.{plain_path};
 ghost use Rattle.fy_forms.specs.Keys.{group_at, lent};
-ghost use Rattle.fy_forms.specs.Numbers.{key_of as key_of_path};
-ghost use Rattle.fy_forms.specs.Rows.{flag_at, lacks_flag, AreKnown, AreRows, IsAgain, IsEnough, IsEnoughFor, IsFound, IsKnown, IsMet, IsRow};
+ghost use Rattle.fy_forms.specs.Rows.{flag_at, lacks_flag, AreKnown, IsAgain, IsEnough, IsEnoughFor, IsKnown, IsMet, IsRow};
 
 use crate::index::Groups;
 use crate::join_forms::has_common;

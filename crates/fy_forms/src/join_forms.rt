@@ -1,6 +1,6 @@
 //! The join of two path forms.
 
-ghost use Rattle.std.specs.Prelude.{◌≡◌, ◌≤◌, IsTrue, IfOk, OnOk, IsErrOf};
+ghost use Rattle.std.specs.Prelude.{◌≡◌, IsTrue, IfOk, OnOk, IsErrOf};
 ghost use Rattle.fy_types.specs.Paths.{PlainPath, no_paths, and_path};
 ghost use Rattle.fy_types.specs.Reading.{plain_elem, plain_path, plain_paths, type_of_form};
 ghost use Rattle.fy_types.specs.Limits.{IsWithinLimits, IsTooLarge};

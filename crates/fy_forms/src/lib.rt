@@ -23,3 +23,4 @@ pub use join_forms::join;
 pub use meet_forms::{meet, meet_with};
 pub use number::{mixed, number_of, number_of_form, place};
 pub use same::{are_same_paths, is_same_path};
+pub use size::{Size, size_of_paths};

@@ -10,7 +10,7 @@ use fy_types::{Path, PathElem, Paths};
 
 /// The nodes and the nesting of a path or of a list, each at most the greatest number of 64 bits.
 #[derive(Clone, Copy)]
-pub(crate) struct Size {
+pub struct Size {
     pub nodes: u64,
     pub nesting: u64,
 }
@@ -56,7 +56,7 @@ fn size_behind(elem: &PathElem, rest: Size) -> Size
 
 /// The size of a list.
 #[cycle(size)]
-pub(crate) fn size_of_paths(paths: &Paths) -> Size
+pub fn size_of_paths(paths: &Paths) -> Size
     ensures nodes { result.nodes ≡ capped (all_nodes (plain_paths paths.now)) }
     ensures nesting { result.nesting ≡ capped (all_nesting (plain_paths paths.now)) }
 {

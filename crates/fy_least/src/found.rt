@@ -12,9 +12,9 @@ ghost use Rattle.fy_least.specs.Limits.{most_together};
 ghost use Rattle.fy_least.specs.Visited.{IsMade, IsRefused, blame_at};
 
 use crate::error::LeastError;
-use crate::size::size_of;
 use fy_base::{OutOfMemory, Place};
 use fy_derive::Derivation;
+use fy_forms::size_of_paths;
 use fy_memo::Memo;
 use fy_types::{Atom, Name, Paths, Ty, copy_ty};
 use std::alloc::Global;
@@ -51,7 +51,7 @@ impl Found {
         ensures derived { IfOk result (λ f. plain_derivation f.derivation ≡ plain_derivation derivation) }
         ensures large { IsErrOf result LeastError.TypeTooLarge → IsRefused (plain_paths paths) parts }
     {
-        let size = size_of(&paths);
+        let size = size_of_paths(&paths);
         if size.nodes > MOST_NODES || size.nesting > MOST_NESTING {
             return Err(LeastError::TypeTooLarge);
         }

@@ -13,7 +13,6 @@ mod many;
 mod outer;
 mod rules;
 mod scope;
-mod size;
 mod written;
 
 pub use error::FindError;

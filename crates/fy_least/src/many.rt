@@ -31,10 +31,9 @@ ghost use Rattle.fy_least.specs.Visited.{IsMade, IsRefused};
 
 use crate::error::LeastError;
 use crate::found::{Found, both, to_atom, to_paths, to_type};
-use crate::size::size_of;
 use fy_base::{OutOfMemory, Place};
 use fy_derive::{Derivation, DerivationList};
-use fy_forms::{TypeError, call_form, join, meet, paths_of};
+use fy_forms::{TypeError, call_form, join, meet, paths_of, size_of_paths};
 use fy_memo::Memo;
 use fy_order::has;
 use fy_types::{Atom, Paths, Ty, copy_paths, copy_ty};
@@ -262,7 +261,7 @@ fn joined(alloc: Global, parts: &[Found]) -> Result<(Paths, u64), LeastError>
     let mut paths = join(alloc, first, &parts[1].paths)?;
     let mut earlier = 0u64;
     for i in 2..parts.len() {
-        earlier = both(earlier, size_of(&paths).nodes)?;
+        earlier = both(earlier, size_of_paths(&paths).nodes)?;
         paths = join(alloc, &paths, &parts[i].paths)?;
     }
     Ok((paths, earlier))

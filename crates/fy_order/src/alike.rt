@@ -5,7 +5,7 @@ ghost use Rattle.fy_types.specs.PathOrder.{IsPathBelow};
 ghost use Rattle.fy_types.specs.Reading.{IsElemBelow, plain_elem, plain_path};
 
 use fy_forms::{is_same_path, mixed, place};
-use fy_types::{Path, PathElem, Paths, is_subtype};
+use fy_types::{Path, PathElem, is_subtype};
 
 /// A number of a path, and how many paths stand in it, itself counted.
 #[derive(Clone, Copy)]
@@ -15,32 +15,22 @@ pub(crate) struct Measure {
 }
 
 /// The measure of a path. Paths whose domains differ in the order of their paths alone have the same, and few others.
-#[cycle(weigh)]
 pub(crate) fn weigh(path: &Path) -> Measure {
     let mut number = place(path.end);
     let mut weight: u64 = 1;
     for elem in path.elems.as_slice() {
         match elem {
             PathElem::Call(domain) => {
-                let all = weigh_all(domain);
-                number = scattered(mixed(number, all.number));
-                weight = weight.saturating_add(all.weight);
+                let mut sum: u64 = 0;
+                for member in domain.as_slice() {
+                    let one = weigh(member);
+                    sum = sum.wrapping_add(scattered(one.number));
+                    weight = weight.saturating_add(one.weight);
+                }
+                number = scattered(mixed(number, sum));
             }
             PathElem::Field(name) => number = scattered(mixed(number, u64::from(*name) + 1)),
         }
-    }
-    Measure { number, weight }
-}
-
-// The sums of the measures.
-#[cycle(weigh)]
-fn weigh_all(paths: &Paths) -> Measure {
-    let mut number: u64 = 0;
-    let mut weight: u64 = 0;
-    for path in paths.as_slice() {
-        let one = weigh(path);
-        number = number.wrapping_add(scattered(one.number));
-        weight = weight.saturating_add(one.weight);
     }
     Measure { number, weight }
 }

@@ -1,6 +1,6 @@
 //! Places, each of which can be asked for.
 
-ghost use Rattle.std.specs.Prelude.{◌≡◌, ◌↔◌, [], ℕ, Contains, IfOk, OnOk, IsTrue, length};
+ghost use Rattle.std.specs.Prelude.{◌↔◌, ℕ, Contains, IfOk, OnOk, IsTrue};
 ghost use Rattle.fy_order.specs.Levels.{list_at as list_of};
 ghost use Rattle.fy_order.specs.Searching.{IsFlagged};
 

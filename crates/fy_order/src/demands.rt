@@ -20,7 +20,7 @@ ghost use Rattle.fy_order.specs.Demands.{behind, takes as takes_of, takes_argume
 use crate::keyed::{PathIndex, is_form_below, is_some_below};
 use fy_base::OutOfMemory;
 use fy_derive::{Demand, is_acceptor};
-use fy_types::{Atom, ElemList, Name, Path, PathElem, Paths, copy_paths, is_end_below};
+use fy_types::{Atom, ElemList, Name, Path, PathElem, Paths, is_end_below};
 use std::alloc::Global;
 
 /// The form of one path without demands.

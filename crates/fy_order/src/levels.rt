@@ -73,14 +73,6 @@ struct Slots {
 }
 
 impl Slots {
-    // No numbers, in a slot for each of so many and one more.
-    fn for_many(alloc: Global, count: usize) -> Result<Slots, OutOfMemory> {
-        Ok(Slots {
-            noted: Vec::with_capacity(alloc, count)?,
-            last: vec![in alloc; 0usize; count.saturating_add(1)]?,
-        })
-    }
-
     fn slot_of(&self, number: u64) -> usize {
         (number % self.last.len().max(1) as u64) as usize
     }
@@ -204,7 +196,11 @@ pub(crate) fn level_of<'a>(alloc: Global, nodes: Vec<Tagged<'a>>) -> Result<Made
     ensures next { IfOk result (λ made. (t : PlainTagged) → Contains (map plain_tagged made.next.items) t
         → Contains (next (map plain_tagged nodes.entry.items)) t) }
 {
-    let slots = Slots::for_many(alloc, width_in(nodes.as_slice()))?;
+    let count = width_in(nodes.as_slice());
+    let slots = Slots {
+        noted: Vec::with_capacity(alloc, count)?,
+        last: vec![in alloc; 0usize; count.saturating_add(1)]?,
+    };
     let mut met = Met {
         nodes: Vec::new(alloc),
         slots,

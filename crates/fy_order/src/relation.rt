@@ -78,8 +78,24 @@ pub(crate) fn one_below(
     if place >= high.nodes.len() {
         return Ok(None);
     }
+    let Indexed { level, index } = low;
+    let wanted = Wanted::below(high.nodes[place]);
     let domains = list_at(high.inner.as_slice(), place);
-    first_below(alloc, low, high.nodes[place], domains, covers)
+    let covered = Covered::by(alloc, covers, domains, index.owners.len())?;
+    let owned = places_at(&index.places, wanted.own);
+    let mut found = first_low(level, &wanted, &covered, owned);
+    if found.is_none() {
+        let others = places_at(&index.places, wanted.other);
+        found = first_low(level, &wanted, &covered, others);
+    }
+    for place in covered.places.as_slice() {
+        if found.is_some() {
+            return Ok(found);
+        }
+        let owners = list_at(index.owners.as_slice(), *place);
+        found = first_low(level, &wanted, &covered, owners);
+    }
+    Ok(found)
 }
 
 /// For each path of the second form's first level, where those of the first form's stand that are below it, among other places.
@@ -134,41 +150,6 @@ fn found_below(
     for place in covered.places.as_slice() {
         let owners = list_at(index.owners.as_slice(), *place);
         add_low(level, &wanted, &covered, owners, &mut found)?;
-    }
-    Ok(found)
-}
-
-// Where the first of them stands.
-fn first_below(
-    alloc: Global,
-    indexed: &Indexed<'_>,
-    path: Tagged<'_>,
-    domains: &[usize],
-    covers: &[Vec<usize>],
-) -> Result<Option<usize>, OutOfMemory> {
-    let wanted = Wanted::below(path);
-    let Indexed { level, index } = indexed;
-    let covered = Covered::by(alloc, covers, domains, index.owners.len())?;
-    let mut found = first_low(
-        level,
-        &wanted,
-        &covered,
-        places_at(&index.places, wanted.own),
-    );
-    if found.is_none() {
-        found = first_low(
-            level,
-            &wanted,
-            &covered,
-            places_at(&index.places, wanted.other),
-        );
-    }
-    for place in covered.places.as_slice() {
-        if found.is_some() {
-            return Ok(found);
-        }
-        let owners = list_at(index.owners.as_slice(), *place);
-        found = first_low(level, &wanted, &covered, owners);
     }
     Ok(found)
 }

@@ -1,6 +1,6 @@
 //! What a path has in common with those below it and above it.
 
-ghost use Rattle.std.specs.Prelude.{◌≡◌, ◌⊎◌, ◌↔◌, ℕ, IsTrue, IfOk, OnOk};
+ghost use Rattle.std.specs.Prelude.{◌≡◌, ◌↔◌, IsTrue, OnOk};
 ghost use Rattle.fy_order.specs.Levels.{IsBelow, IsNotedToo, PlainTagged, own_sign, places_at as places_of, plain_tagged, sign as sign_of};
 ghost use Rattle.fy_order.specs.Searching.{IsWanted};
 

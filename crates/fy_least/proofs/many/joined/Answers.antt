@@ -68,8 +68,8 @@ returns-in_err-earlier-clause-large c =
     let inv = c.loop-i.invariant in
     let pos : 1 < i = omega arith in
     let within : i < length fs = omega arith in
-    rw (p.1, p.2) (λ e. earlier-refused fs i c.loop-i.earlier c.size_of.result.nodes (plain_paths c.loop-i.paths) pos within
-    inv.earlier inv.paths inv.last c.size_of.ensures.nodes (c.in_err-earlier.ensures.large (large-again _ e)))
+    rw (p.1, p.2) (λ e. earlier-refused fs i c.loop-i.earlier c.size_of_paths.result.nodes (plain_paths c.loop-i.paths) pos within
+    inv.earlier inv.paths inv.last c.size_of_paths.ensures.nodes (c.in_err-earlier.ensures.large (large-again _ e)))
 
 pub returns-in_err-paths-2-clause-large : goal.returns-in_err-paths-2-clause-large
 returns-in_err-paths-2-clause-large c =
@@ -99,8 +99,8 @@ loop-i-preserved c =
     record {
       paths = c.in_ok-paths-2.ensures.ok ∙ next;
       earlier = c.in_ok-earlier.ensures.sum
-          ∙ earlier-counted fs i c.loop-i.earlier c.size_of.result.nodes (plain_paths c.loop-i.paths) more within inv.earlier inv.paths inv.last
-          c.size_of.ensures.nodes;
+          ∙ earlier-counted fs i c.loop-i.earlier c.size_of_paths.result.nodes (plain_paths c.loop-i.paths) more within inv.earlier inv.paths inv.last
+          c.size_of_paths.ensures.nodes;
       within = earlier-within fs i more within inv.within inv.last;
       last = subst IsWithinLimits next c.in_ok-paths-2.ensures.within;
     }
