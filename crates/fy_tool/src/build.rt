@@ -1,10 +1,10 @@
 //! `build`: an image of a text.
 
-ghost use Rattle.std.specs.Prelude.{◌≡◌, ◌≤◌, [], ◌∷◌, Some, IfOk, IfErr};
+ghost use Rattle.std.specs.Prelude.{◌≡◌, [], ◌∷◌, Some, IfOk, IfErr};
 ghost use Rattle.std.specs.Option.{option_map};
 ghost use Rattle.fy_build.specs.Building.{IsStackSize};
 ghost use Rattle.fy_image.specs.Ranges.{IsImage};
-ghost use Rattle.fy_words.specs.Order.{build, stack_wanted};
+ghost use Rattle.fy_words.specs.Order.{IsStackInRange, build};
 ghost use Rattle.fy_world.specs.Counted.{Counted};
 ghost use Rattle.fy_world.specs.Did.{IsOwn};
 ghost use Rattle.fy_tool.specs.Answers.{Serves};
@@ -65,7 +65,7 @@ pub(crate) fn build_file<W: World>(
     derivation: Option<&str>,
     world: &mut W,
 ) -> Result<u8, Stop>
-    requires { (1024 ≤ stack_wanted stack) × (stack_wanted stack ≤ 67108864) }
+    requires { IsStackInRange stack }
     ensures serves { Serves (Some (build file.now name.now stack (option_map (λ name. name.now) derivation.entry))) (W.holds world.old) (W.holds world.new) (W.counts world.old) (W.counts world.new) result }
     ensures same { W.names world.new ≡ W.names world.old }
 {

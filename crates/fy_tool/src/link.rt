@@ -3,7 +3,7 @@
 ghost use Rattle.std.specs.Prelude.{◌≡◌, ◌≢◌, ◌≤◌, ◌<◌, [], ◌∷◌, length, All, Some, IfOk, IfErr, MatchResult};
 ghost use Rattle.fy_link.specs.Links.{IsLinked};
 ghost use Rattle.fy_link.specs.Units.{IsUnit};
-ghost use Rattle.fy_words.specs.Order.{join, link, stack_wanted};
+ghost use Rattle.fy_words.specs.Order.{IsStackInRange, join, link};
 ghost use Rattle.fy_world.specs.Did.{IsOwn};
 ghost use Rattle.fy_tool.specs.Answers.{Serves};
 ghost use Rattle.fy_tool.specs.Working.{CountsList, IsLinkedFrom, IsSomeLinked, LinksList, ShapesLinked};
@@ -135,7 +135,7 @@ pub(crate) fn link_file<W: World>(
     stack: Option<u32>,
     world: &mut W,
 ) -> Result<u8, Stop>
-    requires { (1024 ≤ stack_wanted stack) × (stack_wanted stack ≤ 67108864) }
+    requires { IsStackInRange stack }
     ensures serves { Serves (Some (link file.now to.now stack)) (W.holds world.old) (W.holds world.new) (W.counts world.old) (W.counts world.new) result }
     ensures same { W.names world.new ≡ W.names world.old }
 {

@@ -1,9 +1,9 @@
 //! `run`: an image of a text, kept and run.
 
-ghost use Rattle.std.specs.Prelude.{◌≡◌, ◌≤◌, [], ◌∷◌, ◌++◌, Some, codes, string_bytes, IfOk, IfErr};
+ghost use Rattle.std.specs.Prelude.{◌≡◌, [], ◌∷◌, ◌++◌, Some, codes, string_bytes, IfOk, IfErr};
 ghost use Rattle.std.specs.Option.{option_map};
 ghost use Rattle.fy_build.specs.Building.{IsStackSize};
-ghost use Rattle.fy_words.specs.Order.{run, stack_wanted};
+ghost use Rattle.fy_words.specs.Order.{IsStackInRange, run};
 ghost use Rattle.fy_world.specs.Counted.{Counted};
 ghost use Rattle.fy_world.specs.Did.{IsOwn};
 ghost use Rattle.fy_tool.specs.Answers.{Serves};
@@ -52,7 +52,7 @@ fn run_as<W: World>(
     image: Option<&str>,
     world: &mut W,
 ) -> Result<u8, Stop>
-    requires stack { (1024 ≤ stack_wanted stack) × (stack_wanted stack ≤ 67108864) }
+    requires stack { IsStackInRange stack }
     requires name { name.now ≡ kept_as file.now (option_map (λ name. name.now) image) }
     ensures serves { Serves (Some (run file.now steps stack (option_map (λ name. name.now) derivation.entry) (option_map (λ name. name.now) image.entry))) (W.holds world.old) (W.holds world.new) (W.counts world.old) (W.counts world.new) result }
     ensures same { W.names world.new ≡ W.names world.old }
@@ -94,7 +94,7 @@ pub(crate) fn run_file<W: World>(
     image: Option<&str>,
     world: &mut W,
 ) -> Result<u8, Stop>
-    requires { (1024 ≤ stack_wanted stack) × (stack_wanted stack ≤ 67108864) }
+    requires { IsStackInRange stack }
     ensures serves { Serves (Some (run file.now steps stack (option_map (λ name. name.now) derivation.entry) (option_map (λ name. name.now) image.entry))) (W.holds world.old) (W.holds world.new) (W.counts world.old) (W.counts world.new) result }
     ensures same { W.names world.new ≡ W.names world.old }
 {

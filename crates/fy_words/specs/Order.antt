@@ -286,10 +286,14 @@ copy_wanted steps = unwrap_or steps 100000
 abbrev pub trace_steps_wanted : Option ℕ → ℕ
 trace_steps_wanted steps = unwrap_or steps 10000
 
+-- a stack of a size that images have
+abbrev pub IsStackInRange : Option ℕ → Type 0
+IsStackInRange stack = (1024 ≤ stack_wanted stack) × (stack_wanted stack ≤ 67108864)
+
 -- an order whose image has a stack of a size that images have, or whose steps are few enough, or whose sample has a size that samples have
 abbrev pub IsInRange : Order → Type 0
-IsInRange (build file image stack derivation) = (1024 ≤ stack_wanted stack) × (stack_wanted stack ≤ 67108864)
-IsInRange (run file steps stack derivation image) = (1024 ≤ stack_wanted stack) × (stack_wanted stack ≤ 67108864)
+IsInRange (build file image stack derivation) = IsStackInRange stack
+IsInRange (run file steps stack derivation image) = IsStackInRange stack
 IsInRange (copy file steps) = copy_wanted steps ≤ 1000000000
 IsInRange (trace file steps) = trace_steps_wanted steps ≤ 1000000
 IsInRange (sample number size) = (number < 2 ^ 32) × (1 ≤ size) × (size ≤ 2000)
@@ -303,4 +307,4 @@ IsInRange (elf from to) = Unit {0}
 IsInRange (unelf from to) = Unit {0}
 IsInRange (unit file to) = Unit {0}
 IsInRange (join file to) = Unit {0}
-IsInRange (link file to stack) = (1024 ≤ stack_wanted stack) × (stack_wanted stack ≤ 67108864)
+IsInRange (link file to stack) = IsStackInRange stack

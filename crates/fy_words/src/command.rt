@@ -2,7 +2,7 @@
 
 ghost use Rattle.std.specs.Prelude.{◌≡◌, ◌≤◌, map, string_bytes, IfSome};
 ghost use Rattle.std.specs.Option.{option_map};
-ghost use Rattle.fy_words.specs.Order.{IsInRange, copy_wanted, trace_steps_wanted, stack_wanted};
+ghost use Rattle.fy_words.specs.Order.{IsInRange, IsStackInRange, copy_wanted, trace_steps_wanted};
 ghost use Rattle.fy_words.specs.Order.{stack_option, trace_option, steps_option, check_from, build_from, exec_from, run_from, list_from, sample_from, command_from, order_of, copy_option, copy_from, trace_steps_option, trace_from, derive_from, audit_from, migrate_from, elf_from, unelf_from, unit_from, join_from, link_from};
 
 use crate::words::{
@@ -100,7 +100,7 @@ pub enum Command<'a> {
 // The words of the stack that `--stack=` asks for.
 fn stack_option(words: &[String]) -> Option<Option<u32>>
     ensures option { result ≡ stack_option (map string_bytes words.now) }
-    ensures range { IfSome result (λ stack. (1024 ≤ stack_wanted stack) × (stack_wanted stack ≤ 67108864)) }
+    ensures range { IfSome result (λ stack. IsStackInRange stack) }
 {
     let stack = number_option("--stack=", 1024, 67_108_864, words)?;
     match stack {

@@ -1,6 +1,6 @@
 //! Options and operands among the words of a call.
 
-ghost use Rattle.std.specs.Prelude.{◌≡◌, ◌≤◌, ◌<◌, ℕ, ◌^◌, ◌-◌, ◌∷◌, ◌++◌, [], List, min, not, ◌||◌, IfSome, map, string_bytes};
+ghost use Rattle.std.specs.Prelude.{◌≡◌, ◌≤◌, ◌<◌, ◌^◌, ◌-◌, ◌∷◌, ◌++◌, [], List, min, not, ◌||◌, IfSome, map, string_bytes};
 ghost use Rattle.std.specs.Option.{option_map, option_to_list};
 ghost use Rattle.fy_words.specs.Order.{is_option, operands, behind, values, has_key, are_known, name_of, number_in, only_operand, both_operands, both_names, at_most_once, number_from};
 ghost use Rattle.fy_base.specs.Outside.{Bytes};
