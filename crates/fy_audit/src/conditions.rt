@@ -1,7 +1,7 @@
 //! Whether the operands of a pattern fit, and which piece is cut off.
 
-ghost use Rattle.std.specs.Prelude.{◌≡◌, ◌≢◌, ℕ, ◌+◌, ◌^◌, ◌<◌, ◌≤◌, ◌↔◌, ◌⊎◌, IsTrue, length, drop};
-ghost use Rattle.rv_guard.specs.Patterns.{IsNatural, IsCheckable, IsStackCheck, IsTableCheck, IsEntry, IsFaultCall, IsPattern, HasHead, value};
+ghost use Rattle.std.specs.Prelude.{◌≡◌, ◌+◌, ◌^◌, ◌<◌, ◌≤◌, ◌↔◌, IsTrue, length, drop};
+ghost use Rattle.rv_guard.specs.Patterns.{IsNatural, IsCheckable, IsStackCheck, IsTableCheck, IsEntry, IsFaultCall, IsPattern, value};
 ghost use Rattle.rv_guard.specs.Cutting.{Begins, IsCutBy};
 ghost use Rattle.fy_audit.specs.Words.{IsHeadCount, setting};
 

@@ -1,6 +1,6 @@
 //! How the code is cut into pieces.
 
-ghost use Rattle.std.specs.Prelude.{◌≡◌, ℕ, ◌+◌, ◌*◌, ◌≤◌, ◌<◌, IfOk, IfSome, Some, IsTrue, length, drop};
+ghost use Rattle.std.specs.Prelude.{◌≡◌, ◌+◌, ◌*◌, ◌≤◌, ◌<◌, IfOk, Some, length};
 ghost use Rattle.rv_guard.specs.Patterns.{word_count};
 ghost use Rattle.rv_guard.specs.Cutting.{AreCut};
 ghost use Rattle.fy_audit.specs.Words.{IsHeadCount, setting};

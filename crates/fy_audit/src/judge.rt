@@ -1,6 +1,6 @@
 //! The rules, piece by piece from left to right.
 
-ghost use Rattle.std.specs.Prelude.{◌≡◌, ℕ, ◌+◌, ◌≤◌, ◌<◌, List, [], Err, OnOk, length, All};
+ghost use Rattle.std.specs.Prelude.{◌≡◌, ℕ, ◌+◌, ◌≤◌, ◌<◌, [], Err, OnOk, length};
 ghost use Rattle.rv_guard.specs.Rules.{is_start, is_target, windows_at, KeepRules, BreaksFirstAt};
 ghost use Rattle.rv_guard.specs.Joining.{total_words};
 ghost use Rattle.fy_audit.specs.Words.{AreMarks, HaveValues};

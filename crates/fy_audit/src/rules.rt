@@ -1,9 +1,9 @@
 //! The rules for one piece, but for the windows that it gives.
 
-ghost use Rattle.std.specs.Prelude.{◌≡◌, ◌≢◌, ℕ, ◌+◌, ◌*◌, ◌%◌, ◌≤◌, ◌<◌, ◌||◌, ◌↔◌, ◌⊎◌, nat_eq, IfOk, IsTrue, Some, List, [], length, false, true};
+ghost use Rattle.std.specs.Prelude.{◌≡◌, ◌+◌, ◌*◌, ◌%◌, ◌≤◌, ◌<◌, ◌||◌, ◌↔◌, ◌⊎◌, IsTrue, Some, length, false, true};
 ghost use Rattle.rv_insn.specs.Memory.{load_size, store_size};
 ghost use Rattle.rv_guard.specs.Windows.{is_changed, written_by, is_multiple, HasWindow, CoversStack, CoversTable};
-ghost use Rattle.rv_guard.specs.Rules.{address_of, target_of, is_start, KeepsBounds, IsPlain, JumpsToStart, HasAccess, Closes, IsInForm, IsAllowed};
+ghost use Rattle.rv_guard.specs.Rules.{is_start, KeepsBounds, IsPlain, JumpsToStart, HasAccess, Closes, IsInForm, IsAllowed};
 ghost use Rattle.rv_guard.specs.Joining.{total_words};
 ghost use Rattle.fy_audit.specs.Words.{AreMarks};
 ghost use Rattle.rv_guard.specs.declared.pieces.Piece.{Piece};

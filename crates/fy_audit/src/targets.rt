@@ -1,6 +1,6 @@
 //! Where pieces begin, and where they jump.
 
-ghost use Rattle.std.specs.Prelude.{◌≡◌, ℕ, ◌+◌, ◌*◌, ◌^◌, ◌%◌, ◌≤◌, ◌<◌, ◌||◌, nat_eq, IfOk, length, slice_index_or, false};
+ghost use Rattle.std.specs.Prelude.{◌≡◌, ℕ, ◌+◌, ◌*◌, ◌%◌, ◌≤◌, ◌<◌, ◌||◌, nat_eq, IfOk, length, slice_index_or, false};
 ghost use Rattle.rv_guard.specs.Rules.{address_of, is_at, target_of, branch_target, is_start, is_target};
 ghost use Rattle.rv_guard.specs.Joining.{total_words};
 ghost use Rattle.fy_audit.specs.Words.{AreMarks};

@@ -1,6 +1,6 @@
 //! The windows behind a piece.
 
-ghost use Rattle.std.specs.Prelude.{◌≡◌, ℕ, ◌+◌, ◌*◌, ◌^◌, ◌≤◌, ◌<◌, ◌++◌, nat_eq, IfOk, List, length};
+ghost use Rattle.std.specs.Prelude.{◌≡◌, ℕ, ◌+◌, ◌*◌, ◌^◌, ◌<◌, ◌++◌, IfOk};
 ghost use Rattle.rv_guard.specs.Windows.{is_ended, is_checked, register_of, moved_windows, kept_windows, given_windows, windows_behind};
 ghost use Rattle.fy_audit.specs.Words.{AreNear, IsNearWindow, moved_window, HasValue};
 ghost use Rattle.rv_guard.specs.declared.pieces.Piece.{Piece};

@@ -7,7 +7,6 @@ pub mod FrontLemmas
 pub mod GainLemmas
 pub mod GrammarLemmas
 pub mod HalfwayLemmas
-pub mod KeptLemmas
 pub mod LevelLemmas
 pub mod LexLemmas
 pub mod LowLemmas

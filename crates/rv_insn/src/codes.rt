@@ -1,6 +1,6 @@
 //! The fixed fields of the operations' words, both ways.
 
-ghost use Rattle.std.specs.Prelude.{◌≡◌, ◌<◌, ◌^◌, ◌+◌, ◌-◌, IfSome};
+ghost use Rattle.std.specs.Prelude.{◌≡◌, ◌<◌, ◌^◌, ◌-◌, IfSome};
 ghost use Rattle.rv_insn.specs.Encoding.{code, short_code, reg_code, shift_code, imm_code, load_code, store_code, branch_code, amount_bits};
 ghost use Rattle.rv_insn.specs.declared.instructions.RegOp.{RegOp};
 ghost use Rattle.rv_insn.specs.declared.instructions.ShiftOp.{ShiftOp};

@@ -1,6 +1,6 @@
 //! From words to instructions.
 
-ghost use Rattle.std.specs.Prelude.{◌≡◌, ℕ, ◌^◌, ◌⊎◌};
+ghost use Rattle.std.specs.Prelude.{◌≡◌, ◌^◌, ◌⊎◌};
 ghost use Rattle.rv_insn.specs.Fields.{opcode_of, rd_of, funct3_of, rs1_of, rs2_of, i_immediate, s_immediate, b_immediate, j_immediate};
 ghost use Rattle.rv_insn.specs.Encoding.{IsReadingOf, IsWithin, IsEven};
 

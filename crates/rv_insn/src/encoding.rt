@@ -1,9 +1,9 @@
 //! From instructions to words.
 
 ghost use Rattle.std.specs.Prelude.{◌≡◌, ◌^◌, ◌<◌, ◌%◌, ◌+◌, ◌-◌, ◌↔◌, IsTrue};
-ghost use Rattle.rv_insn.specs.Fields.{bits, twos_complement, opcode_of, rd_of, funct3_of, rs1_of, rs2_of, funct7_of, i_immediate, s_immediate, b_immediate, u_immediate, j_immediate};
+ghost use Rattle.rv_insn.specs.Fields.{twos_complement, opcode_of, rd_of, funct3_of, rs1_of, rs2_of, funct7_of, i_immediate, s_immediate, b_immediate, u_immediate, j_immediate};
 ghost use Rattle.rv_insn.specs.declared.instructions.Insn.{Insn};
-ghost use Rattle.rv_insn.specs.Encoding.{IsWordOf, IsWithin, IsEven, IsEncodable, amount_bits, reg_code, shift_code, imm_code, load_code, store_code, branch_code};
+ghost use Rattle.rv_insn.specs.Encoding.{IsWordOf, IsWithin, IsEven, IsEncodable, amount_bits};
 
 use crate::codes::{AUIPC, Fixed, JAL, JALR, LUI, MISC_MEM};
 use crate::instructions::{Insn, ShiftOp};

@@ -7,8 +7,5 @@ pub mod Parts
 pub mod Accesses
 pub mod Fetching
 pub mod Loading
-pub mod Straight
-pub mod Blocks
-pub mod Blockwise
 pub mod Decoding
 pub mod Striding

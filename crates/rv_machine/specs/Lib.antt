@@ -6,4 +6,3 @@ pub mod View
 pub mod Fetch
 pub mod Ends
 pub mod Turn
-pub mod Words

@@ -2,7 +2,7 @@ use crate::tests::made::{keep_limits, run};
 use fy_base::{Ending, OutOfMemory};
 use rv_asm::{AsmError, Item, LabelAt, assemble};
 use rv_flow::lower_all;
-use rv_insn::{BranchOp, ImmOp, Insn};
+use rv_insn::{BranchOp, ImmOp};
 use rv_word::Micro;
 use rv_word::Register::{First, Second};
 use std::alloc::Global;
