@@ -38,7 +38,7 @@ use std::alloc::Global;
 /// its table has the words that the shapes of the derivation need.
 ///
 /// The derivation has at most 262,144 nodes and nests at most 2,048, and the stack has 1,024 to
-/// 16,777,216 words. The time is that of [`check`], of [`shapes_of`] and of [`image_of`].
+/// 67,108,864 words.
 ///
 /// # Errors
 ///
@@ -71,9 +71,7 @@ pub fn build(
 }
 
 /// The image of a program's phrase by the table of demand shapes of a derivation that is accepted, for
-/// who has judged the derivation and made the table already: [`build`] is this behind both. The time is
-/// that of the code, proportional to the phrase's nodes and the table, up to a logarithm, besides a
-/// comparison of each two shapes.
+/// who has judged the derivation and made the table already: [`build`] is this behind both.
 ///
 /// # Errors
 ///

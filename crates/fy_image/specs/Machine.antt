@@ -10,7 +10,7 @@ use Rattle.rv_insn.specs.declared.events.Event.TheVariants.{Going}
 use Rattle.rv_insn.specs.declared.events.Status.TheVariants.{Running}
 
 -- the program of an image: its words, its table and its places, and the instruction of each word. The words tell the
--- instructions, so an image has one program
+-- instructions, so an image has at most one program
 pub record IsProgramOf (image : Image) (program : Program) : Type 0 where
   pub words_are : program.words ≡ image.code
   pub read : AreRead program.words program.instructions

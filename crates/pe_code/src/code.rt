@@ -165,7 +165,7 @@ impl PeCode {
     ghost use Rattle.pe_code.specs.Code.{entry_of};
 
     /// The address at which the node is entered at the shape, the first where there are more, or `None` exactly
-    /// where there is none. It takes no memory, and logarithmic time.
+    /// where there is none. It takes no memory.
     pub fn entry(&self, node: u32, shape: u32) -> Option<u32>
         ensures { result ≡ entry_of self.now node shape }
     {

@@ -72,7 +72,7 @@ impl EntryList {
         self.items.as_slice()
     }
 
-    /// The entries of the node, found in logarithmic time.
+    /// The entries of the node.
     pub fn of_node(&self, node: u32) -> &[Entry]
         ensures { result.now ≡ filter (λ e. e.node == node) self.now }
     {
@@ -82,8 +82,7 @@ impl EntryList {
         &entries[start..end]
     }
 
-    /// The address of the first entry for the node and the shape, or `None` exactly where there is none. It takes
-    /// logarithmic time.
+    /// The address of the first entry for the node and the shape, or `None` exactly where there is none.
     pub fn address(&self, node: u32, shape: u32) -> Option<u32>
         ensures { result ≡ address_in self.now node shape }
     {

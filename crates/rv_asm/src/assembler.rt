@@ -48,9 +48,9 @@ fn placed_labels(alloc: Global, labels: &[u32], places: &[u32]) -> Result<LabelL
 }
 
 /// The words of items in order, and each marked label with the number of the word that it stands
-/// before, in order of the marks. Each item does what it says however far its label is: a branch or
-/// a jump is near where its label is in reach, and else goes through x31, which nothing else
-/// changes. `FarTo` is never near. Run time is linear in the number of items.
+/// before, in order of the marks. Each item does what it says however far its label is: a branch, a
+/// jump or a call is one word, or goes through x31, which nothing else changes, in three words for a
+/// branch and two for the others. Which of the two it is, no clause tells; `FarTo` is never near.
 ///
 /// There are at most 4,194,304 items, plain instructions are encodable, and other registers are
 /// below 32.

@@ -42,8 +42,9 @@ pub fn runs_follow()
     word_output_grows();
 }
 
-/// The image of a selection does what the push-enter code does, both ways, runs out only where a load
-/// passes its stack, and never traps.
+/// The image of a selection of valid code that is never stuck and never misses a frame, whose data are in
+/// range and which has at most 1,048,576 thunk nodes, does what the push-enter code does on every input of
+/// bytes, both ways, runs out only where a load passes its stack, and never traps.
 pub fn selections_follow()
     ensures { SelectionsFollow }
 {
@@ -51,8 +52,8 @@ pub fn selections_follow()
     runs_follow();
 }
 
-/// The code selected for valid code, whose data are in range and whose thunks are of at most
-/// 1,048,576 nodes, is disciplined: it never goes wrong.
+/// The code selected for valid code, whose data are in range and which has at most 1,048,576 thunk
+/// nodes, is disciplined: it never goes wrong.
 pub fn selection_is_disciplined()
     ensures { SelectionIsDisciplined }
 {

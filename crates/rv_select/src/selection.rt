@@ -24,8 +24,7 @@ pub struct Selected {
 }
 
 /// Selects the code for the word machine that valid push-enter code becomes, as items of assembly:
-/// first the entries, then the blocks. The time is proportional to the code and its table, up to a
-/// logarithm for the entries that the table has.
+/// first the entries, then the blocks.
 ///
 /// # Errors
 ///

@@ -12,7 +12,7 @@ pub fn word_output_grows()
     ensures { WordOutputGrows }
 {}
 
-/// Disciplined code never goes wrong, from its start or any entry.
+/// Disciplined code never goes wrong, from its start or any entry with at most 2^27 words.
 pub fn disciplined_is_never_wrong()
     ensures { DisciplinedIsNeverWrong }
 {}
