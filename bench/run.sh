@@ -1,7 +1,7 @@
 #!/bin/bash
 # Measures the proved machine against the plain interpreter in the same run, on the same machine:
 #     bench/run.sh [ROUNDS]
-# The two take turns, and the least user time of each counts. FORSYTHE names another built program than
+# The two take turns, and the least user time of each counts; then it measures the programs of bench/programs. FORSYTHE names another built program than
 # bin/forsythe, and RUSTC another rustc.
 set -eu
 here=$(cd "$(dirname "$0")" && pwd -P)
@@ -42,3 +42,4 @@ done
 echo "proved: $(rate "$(least <"$work/proved.times")") ($(tail -n 1 "$work/proved.notes"))"
 echo "plain:  $(rate "$(least <"$work/plain.times")")"
 echo "load of 4,194,304 words of code and the largest stack: proved $(least <"$work/proved.large") s, plain $(least <"$work/plain.large") s"
+"$here/programs.sh" "$rounds"
