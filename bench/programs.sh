@@ -37,10 +37,10 @@ for source in "$here"/programs/*.fy; do
         timed "$name" plain "$work/plain" "$work/$name.img" --steps="$steps"
         timed "$name" proved "$program" exec "$work/$name.img" --steps="$steps"
         timed "$name" run "$program" run "$source" --steps="$steps" --image="$work/run.img"
-        timed "$name" copy "$program" copy "$source" --steps="$steps"
+        timed "$name" copy "$program" copy "$source" --steps=1000000000
         timed "$name" python python3 "$here/programs/$name.py"
         if command -v a68g >/dev/null; then
-            timed "$name" algol a68g "$here/programs/$name.a68"
+            timed "$name" algol env -C "$work" a68g "$here/programs/$name.a68"
         fi
     done
 done
