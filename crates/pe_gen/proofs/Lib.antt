@@ -28,3 +28,4 @@ pub mod KeptLemmas
 pub mod CopyLemmas
 pub mod HandingLemmas
 pub mod DirectLemmas
+pub mod OneCode

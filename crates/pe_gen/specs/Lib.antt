@@ -7,3 +7,4 @@ pub mod Plan
 pub mod Sizes
 pub mod Handing
 pub mod Generated
+pub mod OneCode

@@ -6,6 +6,7 @@ mod copying;
 mod generating;
 mod handing;
 mod items;
+mod laws;
 mod listing;
 mod nodes;
 mod plan;
@@ -15,3 +16,4 @@ mod thunks;
 
 pub use generating::generate;
 pub use handing::direct;
+pub use laws::laid_out_code_is_one;

@@ -1,0 +1,18 @@
+-- The law of laid out code.
+use Rattle.std.specs.Prelude.{ℕ, ◌≡◌, false, Option, None}
+use Rattle.fy_base.specs.declared.data.Datum.{Datum}
+use Rattle.fy_base.specs.declared.data.Place.{Place}
+use Rattle.fy_phrase.specs.declared.shapes.ShapeTable.{ShapeTable}
+use Rattle.fy_phrase.specs.Tree.{Tree, var}
+use Rattle.pe_code.specs.declared.code.PeCode.{PeCode}
+use Rattle.pe_code.specs.Valid.{IsValid}
+use Rattle.pe_right.specs.Right.{IsCodeOf}
+use Rattle.pe_right.specs.Typed.{IsTableOf}
+use Rattle.pe_gen.specs.Layout.{IsLaidOut}
+use Rattle.pe_gen.specs.Sites.{is_merge}
+
+-- a phrase that is no merge, the table of an accepted derivation and what is known of data, none of a variable, have one code that is right, valid and laid out
+abbrev pub LaidOutCodeIsOne : Type 0
+LaidOutCodeIsOne =
+    (handed : Tree → Option Datum) (p : Tree) (table : ShapeTable) (one other : PeCode) → is_merge p ≡ false → IsTableOf p table → ((k : ℕ) (at : Place) → handed (var k at) ≡ None)
+    → IsCodeOf handed p table one → IsCodeOf handed p table other → IsValid one → IsValid other → IsLaidOut p one → IsLaidOut p other → one ≡ other

@@ -1,0 +1,9 @@
+//! What laid out code is. It is the contract of a function that does nothing.
+
+ghost use Rattle.pe_gen.specs.OneCode.{LaidOutCodeIsOne};
+
+/// Code that is right for a phrase and the table of an accepted derivation, valid and laid out is one: whoever makes it makes the same. So `generate` gives a
+/// function of its phrase and its table, and `direct` one of what that gives. It does nothing: its contract is the law.
+pub fn laid_out_code_is_one()
+    ensures { LaidOutCodeIsOne }
+{}
