@@ -20,7 +20,9 @@ use Rattle.pe_right.specs.Right.{IsCodeOf}
 use Rattle.pe_gen.specs.Sizes.{HasSizesOf}
 use Rattle.rv_operators.specs.Laws.{IsDatum}
 use Rattle.rv_select.specs.Images.{IsSelectionImage}
-use Rattle.rv_select.specs.Laws.{value_of, IsSelectable, deepest}
+use Rattle.rv_flow.specs.Laws.{CodeIsShort}
+use Rattle.rv_select.specs.Laws.{value_of, IsSelectable, deepest, SelectionIsShort}
+use Rattle.rv_select.specs.Program.{word_code}
 use Rattle.rv_select.specs.Sizes.{IsCounted}
 use Rattle.fy_build.specs.Building.{HasTableWords}
 use Rattle.fy_build.proofs.Refusals.{shapes_counted}
@@ -68,3 +70,14 @@ has_table_words p d table code image shapes sizes counted is just =
     let words : code.shapes * (4 + length code.thunks) ≡ table_words p (length table.shapes) =
     ap (λ n. n * (4 + length code.thunks)) shapes ∙ ap (λ n. length table.shapes * (4 + n)) sizes.thunk_nodes in
     record { shapes = length table.shapes; counted = shapes_counted p d table just; words_are = made ∙ words }
+
+-- ---- its words
+
+pub few_words : (table : ShapeTable) (given code : PeCode) (image : Image) → SelectionIsShort → CodeIsShort → length given.items ≤ length table.pairs → length code.items ≡ length given.items
+    → IsSelectionImage code image → length image.code ≤ 60 * length table.pairs + 4096
+few_words table given code image short brief few count is =
+    let its = is.image_of in
+    let words = (short code is.selectable).words in
+    let most = brief (word_code code) its.assembled its.assembly in
+    let made = ap length its.words_are in
+    omega arith

@@ -9,3 +9,4 @@ pub mod Shown
 pub mod Selecting
 pub mod Refusals
 pub mod Imaging
+pub mod Direct

@@ -3,5 +3,6 @@ pub mod Agreement
 pub mod Laws
 pub mod Shown
 pub mod Building
+pub mod Selected
 pub mod Errors
 pub mod Selecting

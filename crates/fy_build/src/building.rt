@@ -15,6 +15,7 @@ ghost use Rattle.rv_guard.specs.Guarded.{IsGuarded};
 ghost use Rattle.rv_select.specs.Images.{IsSelectionImage};
 ghost use Rattle.rv_select.specs.Laws.{IsSelectable};
 ghost use Rattle.fy_build.specs.Headline.{RunsAsCopyRule};
+ghost use Rattle.fy_build.specs.Selected.{IsSelectedBy, IsSelectedFrom};
 ghost use Rattle.fy_build.specs.Building.{IsProgramPhrase, IsStackSize, HasTableWords, IsAccepted, IsRefused};
 ghost use Rattle.fy_build.specs.declared.error.BuildError.{BuildError};
 
@@ -29,13 +30,14 @@ use pe_code::PeCode;
 use pe_gen::{direct, generate};
 use pe_shapes::shapes_of;
 use rv_asm::{AsmError, Assembled, Item, assemble};
-use rv_flow::images_are_guarded;
-use rv_select::{select, selection_is_counted};
+use rv_flow::{code_is_short, images_are_guarded};
+use rv_select::{select, selection_is_counted, selection_is_short};
 use std::alloc::Global;
 
 /// The image of a program's phrase, by a derivation that it is a command: it puts what the copy rule puts
 /// and ends as it ends, whatever its input of bytes is. It has that many words of stack, is guarded, and
-/// its table has the words that the shapes of the derivation need.
+/// its table has the words that the shapes of the derivation need. Its code has at most 60 words for each
+/// pair of a node and a shape of the derivation, and 4,096 beside; it hands no constant as a thunk.
 ///
 /// The derivation has at most 262,144 nodes and nests at most 2,048, and the stack has 1,024 to
 /// 67,108,864 words.
@@ -57,6 +59,7 @@ pub fn build(
     ensures runs { IfOk result (λ image. RunsAsCopyRule (reads p.now) image) }
     ensures stack { IfOk result (λ image. image.stack_words ≡ stack_words) }
     ensures table { IfOk result (λ image. HasTableWords (reads p.now) (plain_derivation d.now) (length image.table)) }
+    ensures selected { IfOk result (λ image. IsSelectedFrom (reads p.now) (plain_derivation d.now) image) }
     ensures ranges { IfOk result (λ image. IsImage image) }
     ensures guarded { IfOk result (λ image. IsGuarded image) }
     ensures accepted { OnOk result (IsAccepted (reads p.now) (plain_derivation d.now)) }
@@ -90,6 +93,7 @@ pub fn image_of(
     ensures stack { IfOk result (λ image. image.stack_words ≡ stack_words) }
     ensures table { IfOk result (λ image. (d : PlainDerivation) → HasJustPairs table.now (shape_table (reads p.now) d)
         → HasTableWords (reads p.now) d (length image.table)) }
+    ensures selected { IfOk result (λ image. IsSelectedBy (reads p.now) table.now image) }
     ensures ranges { IfOk result (λ image. IsImage image) }
     ensures guarded { IfOk result (λ image. IsGuarded image) }
 {
@@ -99,6 +103,8 @@ pub fn image_of(
     let image = image_of_code(alloc, &code, stack_words)?;
     code_runs_as_copy_rule();
     selection_is_counted();
+    selection_is_short();
+    code_is_short();
     images_are_guarded();
     Ok(image)
 }

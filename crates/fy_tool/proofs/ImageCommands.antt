@@ -61,6 +61,7 @@ by_image program stack image is of = record {
   in_use = record { accepted = is.derived; table = program.table; just = is.table_is; limits = is.table_limits };
   stack_is = of.stack_is;
   table_is = of.table_is;
+  selected = of.selected;
   guarded = of.guarded;
   runs = of.runs;
 }

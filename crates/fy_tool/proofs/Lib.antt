@@ -9,7 +9,6 @@ pub mod Pigeons
 pub mod Completing
 pub mod Named
 pub mod Answering
-pub mod Direct
 pub mod Lists
 pub mod ReadUnits
 pub mod Linking

@@ -28,7 +28,9 @@ use Rattle.fy_elf.specs.declared.error.ElfError.{ElfError}
 use Rattle.rv_guard.specs.Guarded.{IsGuarded, IsUnguardedAt}
 use Rattle.rv_insn.specs.Program.{Program}
 use Rattle.rv_machine.specs.Start.{IsProgramOf}
+use Rattle.pe_gen.specs.Layout.{IsLaidOut}
 use Rattle.fy_build.specs.Building.{HasTableWords}
+use Rattle.fy_build.specs.Selected.{IsSelectedBy}
 use Rattle.fy_build.specs.Headline.{AreBytes, RunsAsCopyRule}
 use Rattle.fy_build.specs.Shown.{RunEnd, ShowsCopyRule}
 use Rattle.fy_link.specs.UnitBytes.{unit_bytes}
@@ -219,11 +221,13 @@ RunsImage (orders.link file to stack) = ⊥
 
 -- ---- images
 
--- the image of a phrase with so many stack words, by a derivation in use: its table has a row for each shape of the derivation, `audit` passes it, and it runs as the copy rule
+-- the image of a phrase with so many stack words, by a derivation in use: its table has a row for each shape of the derivation, it is selected from the code that `trace` runs, with at most 60 words
+-- for each entry and 4,096 beside, `audit` passes it, and it runs as the copy rule
 pub record IsImageBy (phrase : Tree) (by : PlainDerivation) (stack : ℕ) (image : Image) : Type 0 where
   pub in_use : IsInUse phrase by
   pub stack_is : image.stack_words ≡ stack
   pub table_is : HasTableWords phrase by (length image.table)
+  pub selected : IsSelectedBy phrase in_use.table image
   pub guarded : IsGuarded image
   pub runs : RunsAsCopyRule phrase image
 
@@ -244,10 +248,11 @@ pub record RunsBuilt (text : Bytes) (named derivation : Option Bytes) (stack ste
 -- ---- push-enter code
 
 -- the code of a phrase by a table of the demand shapes of a derivation in use, with constants handed as data: it is valid and right, so that it has an entry for each pair of the table and for no other,
--- hands no constant of the phrase as a thunk, and does what the copy rule does
+-- has an item for each pair whose node is no merge and no other, in order of node and shape behind the program's, hands no constant of the phrase as a thunk, and does what the copy rule does
 pub record IsRightCode (p : Tree) (table : ShapeTable) (code : PeCode) : Type 0 where
   pub valid : IsValid code
   pub right : IsCodeOf constant p table code
+  pub laid_out : IsLaidOut p code
   pub hands_no_constant : All (λ item. HandsNoConstant p item.insn) code.items
   pub follows : FollowsCopyRule constant p code
 

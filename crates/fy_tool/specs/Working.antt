@@ -38,6 +38,7 @@ use Rattle.fy_elf.specs.Elf.{IsElfBytes}
 use Rattle.fy_elf.specs.Memory.{LoadsAsStart}
 use Rattle.fy_elf.specs.Refusals as elf
 use Rattle.fy_elf.specs.declared.error.ElfError.{ElfError}
+use Rattle.fy_build.specs.Selected.{IsSelectedBy}
 use Rattle.fy_build.specs.Building.{HasTableWords}
 use Rattle.fy_build.specs.Headline.{RunsAsCopyRule}
 use Rattle.fy_link.specs.Links.{IsLinked, IsUnlinked}
@@ -181,6 +182,7 @@ pub record IsImageFor (program : Program) (stack : ℕ) (image : Image) : Type 0
   pub runs : RunsAsCopyRule (reads program.phrase) image
   pub stack_is : image.stack_words ≡ stack
   pub table_is : HasTableWords (reads program.phrase) (plain_derivation program.derivation) (length image.table)
+  pub selected : IsSelectedBy (reads program.phrase) program.table image
   pub guarded : IsGuarded image
 
 -- the image of a program was kept under a name, or a part of that was done

@@ -11,6 +11,9 @@ image_of-requires-clause-table c = record {
   pairs = c.in_ok-table.ensures.shaping.0;
 }
 
+pub returns-clause-selected : goal.returns-clause-selected
+returns-clause-selected c = (c.in_ok-table.table, c.in_ok-table.ensures.shaping.0, c.in_ok-image.ensures.selected)
+
 pub returns-in_err-table-clause-exact : goal.returns-in_err-table-clause-exact
 returns-in_err-table-clause-exact c =
     let p = reads c.args.p.now in

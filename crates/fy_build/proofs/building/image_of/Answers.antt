@@ -8,7 +8,8 @@ use Rattle.pe_right.specs.Constants.{constant}
 use Rattle.rv_operators.specs.Laws.{IsDatum}
 use Rattle.rv_select.specs.Laws.{value_of}
 use Rattle.rv_select.specs.Program.{word_code}
-use Rattle.fy_build.proofs.Imaging.{has_shapes, selectable, deepest_below, has_table_words}
+use Rattle.fy_build.proofs.Direct.{none_handed}
+use Rattle.fy_build.proofs.Imaging.{has_shapes, selectable, deepest_below, has_table_words, few_words}
 use Rattle.fy_build.proofs.building.image_of.Goals as goal
 
 pub direct-requires-clause-few : goal.direct-requires-clause-few
@@ -49,6 +50,23 @@ returns-clause-table c = λ d just.
     let made = c.in_ok-code.ensures in
     let is = c.in_ok-image.ensures.selection in
     has_table_words (reads c.args.p.now) d c.args.table.now code c.in_ok-image.image (made.direct.shapes ∙ c.in_ok-generated.ensures.right.shapes) made.sizes (c.selection_is_counted.ensures code is.selectable) is just
+
+pub returns-clause-selected : goal.returns-clause-selected
+returns-clause-selected c =
+    let p = reads c.args.p.now in
+    let generated = c.in_ok-generated.generated in
+    let code = c.in_ok-code.code in
+    let given = c.in_ok-generated.ensures in
+    let made = c.in_ok-code.ensures in
+    let is = c.in_ok-image.ensures.selection in
+    record {
+      code = code;
+      right = made.right c.args.table.now given.right;
+      laid_out = made.laid_out given.laid_out;
+      hands_no_constant = none_handed p generated code made.direct;
+      selection = is;
+      short = few_words c.args.table.now generated code c.in_ok-image.image c.selection_is_short.ensures c.code_is_short.ensures given.few made.direct.count is;
+    }
 
 pub returns-clause-ranges : goal.returns-clause-ranges
 returns-clause-ranges c = c.in_ok-image.ensures.selection.image_of.ranges

@@ -19,5 +19,6 @@ returns-in-Ok-clause-image c = record {
   runs = c.in-Ok.ensures.runs;
   stack_is = c.in-Ok.ensures.stack;
   table_is = c.in-Ok.ensures.table (plain_derivation c.args.program.now.derivation) c.requires.given.table_is;
+  selected = c.in-Ok.ensures.selected;
   guarded = c.in-Ok.ensures.guarded;
 }

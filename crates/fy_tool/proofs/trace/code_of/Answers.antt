@@ -1,6 +1,6 @@
 use Rattle.fy_phrase.specs.Reads.{reads}
 use Rattle.fy_derive.specs.Reading.{plain_derivation}
-use Rattle.fy_tool.proofs.Direct.{none_handed}
+use Rattle.fy_build.proofs.Direct.{none_handed}
 use Rattle.fy_tool.proofs.Programs.{judged-whole, judged-closed, judged-depths, judged-made, judged-nodes, judged-depth}
 use Rattle.fy_tool.proofs.trace.code_of.Goals as goal
 
@@ -49,6 +49,7 @@ returns c =
     record {
       valid = made.valid;
       right = made.right c.args.program.now.table c.in_ok-generated.ensures.right;
+      laid_out = made.laid_out c.in_ok-generated.ensures.laid_out;
       hands_no_constant = none_handed (reads c.args.program.now.phrase) c.in_ok-generated.generated c.in_ok-code.code made.direct;
       follows = made.follows;
     }

@@ -1,0 +1,27 @@
+-- Which code the image of a phrase is selected from, and how long the image is.
+use Rattle.std.specs.Prelude.{ℕ, ◌+◌, ◌*◌, ◌≤◌, length, All}
+use Rattle.fy_phrase.specs.Tree.{Tree}
+use Rattle.fy_phrase.specs.declared.shapes.ShapeTable.{ShapeTable}
+use Rattle.fy_derive.specs.Derivations.{PlainDerivation}
+use Rattle.fy_derive.specs.Shapes.{shape_table}
+use Rattle.fy_derive.specs.ShapeTables.{HasJustPairs}
+use Rattle.fy_image.specs.declared.image.Image.{Image}
+use Rattle.pe_code.specs.declared.code.PeCode.{PeCode}
+use Rattle.pe_right.specs.Constants.{constant}
+use Rattle.pe_right.specs.Direct.{HandsNoConstant}
+use Rattle.pe_right.specs.Right.{IsCodeOf}
+use Rattle.pe_gen.specs.Layout.{IsLaidOut}
+use Rattle.rv_select.specs.Images.{IsSelectionImage}
+
+-- the image is the selection of the code of the phrase and the table, laid out, that hands no constant as a thunk; it has at most 60 words for each pair of the table, and 4,096 beside
+pub record IsSelectedBy (p : Tree) (table : ShapeTable) (image : Image) : Type 0 where
+  pub code : PeCode
+  pub right : IsCodeOf constant p table code
+  pub laid_out : IsLaidOut p code
+  pub hands_no_constant : All (λ item. HandsNoConstant p item.insn) code.items
+  pub selection : IsSelectionImage code image
+  pub short : length image.code ≤ 60 * length table.pairs + 4096
+
+-- so it is for a table of the pairs of the derivation
+abbrev pub IsSelectedFrom : Tree → PlainDerivation → Image → Type 0
+IsSelectedFrom p d image = (table : ShapeTable) × HasJustPairs table (shape_table p d) × IsSelectedBy p table image
