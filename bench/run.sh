@@ -1,8 +1,8 @@
 #!/bin/bash
 # Measures the proved machine against the plain interpreter in the same run, on the same machine:
 #     bench/run.sh [ROUNDS]
-# The two take turns, and the least user time of each counts; then it measures the programs of bench/programs. FORSYTHE names another built program than
-# bin/forsythe, and RUSTC another rustc.
+# The two take turns, and the least user time of each counts; then it says whether the loop is in line, and measures the programs of bench/programs.
+# FORSYTHE names another built program than bin/forsythe, and RUSTC another rustc.
 set -eu
 here=$(cd "$(dirname "$0")" && pwd -P)
 rounds=${1:-7}
@@ -42,4 +42,5 @@ done
 echo "proved: $(rate "$(least <"$work/proved.times")") ($(tail -n 1 "$work/proved.notes"))"
 echo "plain:  $(rate "$(least <"$work/plain.times")")"
 echo "load of 4,194,304 words of code and the largest stack: proved $(least <"$work/proved.large") s, plain $(least <"$work/plain.large") s"
+echo "what the loop does for a word or a row: $("$here/inline.sh" 2>&1 || true)"
 "$here/programs.sh" "$rounds"

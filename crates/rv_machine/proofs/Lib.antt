@@ -9,3 +9,5 @@ pub mod Fetching
 pub mod Loading
 pub mod Decoding
 pub mod Striding
+pub mod Stepping
+pub mod Finding

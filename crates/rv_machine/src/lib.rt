@@ -2,11 +2,13 @@
 #![tactic(auto)]
 
 mod decoded;
+mod find;
 mod forms;
 mod laws;
 mod machine;
 mod memory;
 mod operations;
+mod rows;
 mod run;
 mod services;
 mod step;

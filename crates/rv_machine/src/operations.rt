@@ -39,12 +39,7 @@ pub fn half_extended(n: u64) -> u64
 pub fn word_extended(n: u64) -> u64
     ensures { result ≡ word_result n }
 {
-    let low = n % WORD;
-    if low < 0x8000_0000 {
-        low
-    } else {
-        low + 0xffff_ffff_0000_0000
-    }
+    (((n % WORD) as u32).cast_signed() as i64).cast_unsigned()
 }
 
 #[inline(always)]

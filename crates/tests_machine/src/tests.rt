@@ -7,4 +7,5 @@ mod machine;
 mod made;
 mod pe;
 mod routines;
+mod rows;
 mod shapes;
