@@ -22,6 +22,7 @@ use Rattle.fy_derive.specs.Kinds.{Kind, of_call, of_field, of_assignment, begins
 use Rattle.fy_derive.specs.Subsumption.{some_below, paths_below}
 use Rattle.fy_derive.specs.Least.{forms_of, paths_at, one_end, if_passed, has, some_data, has_operands, has_assignment, command_of, alternatives_of, rest_of_call, rests_of_call, rest_of_field, rests_of_field, others, merge_of}
 use Rattle.fy_derive.proofs.SubsumptionLemmas.{or_cases, some_below-sound, ArePathsBelow-le, paths_below-iff}
+use Rattle.fy_least.specs.Pairs.{AreContextsBelow, no_variables, and_variable}
 
 pub passed-mono : (b c : Bool) {P Q : PlainPaths} → (c ≡ true → b ≡ true) → ArePathsBelow P Q → ArePathsBelow (if_passed b P) (if_passed c Q)
 passed-mono true true f low = low
@@ -76,11 +77,6 @@ once-low P low = ArePathsBelow-trans P (once-below P) low
 pub join_of-mono : (P P' Q Q' : PlainPaths) → ArePathsBelow P P' → ArePathsBelow Q Q' → ArePathsBelow (join_of P Q) (join_of P' Q')
 join_of-mono P P' Q Q' low next =
     join_of-least P Q (ArePathsBelow-trans P' low (join_of-left P' Q')) (ArePathsBelow-trans Q' next (join_of-right P' Q'))
-
--- contexts: each list of the first is below that of the second
-pub data AreContextsBelow : List PlainPaths → List PlainPaths → Type 0 where
-  no_variables : AreContextsBelow [] []
-  and_variable : {P Q : PlainPaths} {G H : List PlainPaths} → ArePathsBelow P Q → AreContextsBelow G H → AreContextsBelow (P ∷ G) (Q ∷ H)
 
 pub AreContextsBelow-refl : (G : List PlainPaths) → AreContextsBelow G G
 AreContextsBelow-refl [] = no_variables

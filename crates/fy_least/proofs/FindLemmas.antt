@@ -18,6 +18,7 @@ use Rattle.fy_derive.specs.Derivations.{sub}
 use Rattle.fy_derive.specs.Reading.{plain_derivation}
 use Rattle.fy_derive.specs.Typing.{HasType}
 use Rattle.fy_derive.specs.Judging.{judged, refusal_at}
+use Rattle.fy_derive.specs.Shapes.{in_sub}
 use Rattle.fy_derive.proofs.RuleLemmas.{same_type-refl}
 use Rattle.fy_derive.specs.Least.{forms_of, least_type, visits}
 use Rattle.fy_least.specs.declared.found.Found.{Found}
@@ -33,8 +34,10 @@ use Rattle.fy_derive.specs.Printable.{IsPrintable}
 use Rattle.fy_least.specs.Finding.{IsFinding, IsFindingOf}
 use Rattle.fy_least.specs.Layers.{subsumed, IsLayered, one_sub}
 use Rattle.fy_least.specs.Limits.{most_together, KeepTypeLimits}
+use Rattle.fy_least.specs.Pairs.{HasAllPairs}
 use Rattle.fy_least.specs.Visited.{IsFound, derivation_of}
 use Rattle.fy_least.specs.Writable.{AllContextFields}
+use Rattle.fy_least.proofs.BelowLemmas.{AreContextsBelow-refl}
 use Rattle.fy_least.proofs.FormFields.{paths-fields}
 use Rattle.fy_least.proofs.LeastLemmas.{HasType-least}
 use Rattle.fy_least.proofs.FoundLemmas.{taken}
@@ -76,6 +79,9 @@ module _ (G : List PlainType) (p : Tree) (T : PlainType) (f : Found) (h : IsFoun
   pub found-layered : IsLayered subsumed (sub T (derivation_of f))
   found-layered = one_sub h.layered
 
+  pub found-pairs : HasAllPairs G p (sub T (derivation_of f))
+  found-pairs e A j k s pair = in_sub (h.pairs G G refl (AreContextsBelow-refl (forms_of G)) e A j 0 k s pair)
+
   pub found-printable : KeepsCoreLimits p → HasFullTypes p → HasFullMeets T → (names : List Bytes) → AllNames (IsNamed names) p →
       All (AllFields (IsNamed names)) G → AllFields (IsNamed names) T → IsPrintable names (sub T (derivation_of f))
   found-printable l full meets names named around written = (
@@ -100,6 +106,10 @@ pub limits-alone : (r : Result Derivation FindError) (p : Tree) (T : PlainType) 
     IfOk r (λ d. KeepsCoreLimits p → KeepsLimits (plain_derivation d))
 limits-alone (Ok d) p T comm h = λ l. h l (subst (λ A. type_nesting A ≤ most_type_nesting) (sym comm) (omega arith))
 limits-alone (Err x) p T comm h = tt
+
+pub pairs-alone : (r : Result Derivation FindError) (p : Tree) (G : List PlainType) → G ≡ [] →
+    IfOk r (λ d. HasAllPairs G p (plain_derivation d)) → IfOk r (λ d. HasAllPairs [] p (plain_derivation d))
+pairs-alone r p G none h = subst (λ H. IfOk r (λ d. HasAllPairs H p (plain_derivation d))) none h
 
 pub printable-alone : (r : Result Derivation FindError) (p : Tree) (G : List PlainType) (T : PlainType) → G ≡ [] → T ≡ atom Comm →
     IfOk r (λ d. KeepsCoreLimits p → HasFullTypes p → HasFullMeets T → (names : List Bytes) → AllNames (IsNamed names) p →

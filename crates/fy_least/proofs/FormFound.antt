@@ -1,5 +1,5 @@
 -- What is found of forms whose parts are taken at their least types.
-use Rattle.std.proofs.Common.{ℕ, zero, suc, ◌+◌, ◌≤◌, ◌≡◌, max, Bool, true, false, not, List, [], ◌∷◌, ◌++◌, eqb, eqb-true, eq-eqb, Option, option_map, Some, None, inl, inr, slice_get, refl, sym, ap, ◌∙◌, subst, arith, if◌then◌else◌}
+use Rattle.std.proofs.Common.{ℕ, zero, suc, ◌+◌, ◌≤◌, ◌≡◌, max, Bool, true, false, not, ◌&&◌, List, [], ◌∷◌, ◌++◌, eqb, eqb-true, eq-eqb, Option, option_map, Some, None, inl, inr, slice_get, refl, sym, ap, ◌∙◌, subst, arith, if◌then◌else◌}
 use Rattle.std.proofs.lemmas.Bool.{and_from}
 use Rattle.std.proofs.lemmas.List.{length-append}
 use Rattle.std.proofs.lemmas.Option.{slice_get-map}
@@ -18,7 +18,7 @@ use Rattle.fy_types.specs.Nested.{type_nesting}
 use Rattle.fy_types.specs.Fields.{IsNamed, AllFormFields}
 use Rattle.fy_types.proofs.Order.{IsPathBelow-refl, ArePathsBelow-refl, ArePathsBelow-trans}
 use Rattle.fy_types.proofs.Laws.{append-left, append-right, append-greatest, append-none, called-append, called-below, picked-append, picked-below}
-use Rattle.fy_types.proofs.OnceLemmas.{below-once}
+use Rattle.fy_types.proofs.OnceLemmas.{both_true, below-once}
 use Rattle.fy_types.proofs.BoundLemmas.{join_of-left, join_of-right}
 use Rattle.fy_phrase.specs.Tree.{Tree, var, cond, app, field, sel, merge, let_in, rec}
 use Rattle.fy_phrase.specs.Sizes.{nesting}
@@ -27,7 +27,8 @@ use Rattle.fy_derive.specs.Derivations.{PlainDerivation, sub, meets, left, right
 use Rattle.fy_derive.specs.Derivations as derivations
 use Rattle.fy_derive.specs.Kinds.{Kind, kind_of, begins, none_begins}
 use Rattle.fy_derive.specs.Subsumption.{paths_below}
-use Rattle.fy_derive.specs.Rules.{nothing, first, given, provided, same_type}
+use Rattle.fy_derive.specs.Rules.{nothing, first, given, provided, is_atom, same_type}
+use Rattle.fy_derive.specs.Tables.{type_at}
 use Rattle.fy_derive.specs.Judging.{concludes, then_judge, then_others, at_node, if_form, all_conclude, from_premises, judged}
 use Rattle.fy_derive.specs.Least.{forms_of, paths_at, if_passed, has, rest_of_call, rests_of_call, rest_of_field, rests_of_field, others, merge_of, least_type, visits}
 use Rattle.fy_derive.proofs.CompleteLemmas.{no-premise, one-premise, two-premises, three-premises, when}
@@ -41,6 +42,7 @@ use Rattle.fy_derive.specs.Printable.{IsPrintable}
 use Rattle.fy_least.specs.Layers.{met, IsLayered}
 use Rattle.fy_phrase.specs.CoreLimits.{deepest_written}
 use Rattle.fy_least.specs.Forms.{variable_rule, IsApplied, IsPicked, IsDefined, IsMerged, is_recursive, IsChosen}
+use Rattle.fy_least.specs.Pairs.{HasPairsAbove}
 use Rattle.fy_least.specs.Writable.{IsWritable}
 use Rattle.fy_least.specs.Visited.{IsFound, IsMade, blame_at, has_atom, derivation_of, as_atom}
 use Rattle.fy_least.proofs.BelowLemmas.{more-below, test-below}
@@ -49,6 +51,7 @@ use Rattle.fy_least.proofs.CountLemmas.{within-append, nodes-append}
 use Rattle.fy_least.proofs.FormFields.{paths-fields, once-fields, join-fields, call-fields, selection-fields, others-fields}
 use Rattle.fy_least.proofs.LayerLemmas.{ns-layered, none-layered, bare-layered, one-layered, two-layered, defined-layered, three-layered, merge-layered, if-layered}
 use Rattle.fy_least.proofs.LeastFields.{least-fields, part-writable, both-writable}
+use Rattle.fy_least.proofs.PairLemmas.{provided-some, IsSolid, no_premises, and_plain, and_given, none-pairs, sub-pairs, rule-pairs, passed-pairs, untested-pairs, let-pairs, merge-pairs, unmerged-pairs}
 use Rattle.fy_least.proofs.PrintableLemmas.{made-printable, arrow-printable, none-printable, bare-printable, one-printable, two-printable, defined-printable, three-printable, merge-printable, if-printable}
 
 -- a variable
@@ -70,7 +73,7 @@ pub var-found : (G : List PlainPaths) (k : ℕ) (at : Place) (f : Found) → IsM
 var-found G k at f made e =
     none-found G (var k at) at f (variable_rule (slice_get G k)) made refl refl refl (λ m. refl) e (derived (slice_get G k) refl)
     (few (slice_get G k)) (shallow (slice_get G k)) refl (plain (slice_get G k)) (layers (slice_get G k))
-    (prints (slice_get G k))
+    (prints (slice_get G k)) (none-pairs G (var k at) (variable_rule (slice_get G k)) refl)
   where
     prints : (o : Option PlainPaths) (names : List Bytes) → IsPrintable names (variable_rule o)
     prints None names = tt
@@ -151,6 +154,9 @@ app-found G p q at f g r hf hg made x =
       made-nesting (once (rests_of_call (plain_paths g.paths) (plain_paths f.paths))) x.1 x.3 made.within,
     ))
     (two-layered (arrow x.0 x.1) x.0 (derivation_of f) (derivation_of g) hf.layered hg.layered) prints
+    (rule-pairs G (app p q at) ((nothing, p) ∷ (nothing, q) ∷ [])
+    (and_derivation (sub (arrow x.0 x.1) (derivation_of f)) (and_derivation (sub x.0 (derivation_of g)) no_derivations)) refl
+    (and_plain (sub-pairs G p (arrow x.0 x.1) (derivation_of f) hf.pairs) (and_plain (sub-pairs G q x.0 (derivation_of g) hg.pairs) no_premises)))
   where
     prints : (names : List Bytes) → IsWritable names G (app p q at) →
         IsPrintable names (rule_of_both (sub (arrow x.0 x.1) (derivation_of f)) (sub x.0 (derivation_of g)))
@@ -196,6 +202,7 @@ field-found G i p at part f h made e =
     )) (omega arith) (omega arith) (omega (arith, h.types)) (bare-layered (derivation_of part) h.layered)
     (λ names text. bare-printable names (derivation_of part)
     (h.printable names (part-writable names G p text.around text.named.1 text.full text.few)))
+    (rule-pairs G (field i p at) ((nothing, p) ∷ []) (and_derivation (derivation_of part) no_derivations) refl (and_plain h.pairs no_premises))
 
 pick-below : (i : ℕ) (p : PlainPath) (P : PlainPaths) → ArePathsBelow (and_path p P) (picked i (rest_of_field i p))
 pick-below i (end a) P = none_left
@@ -228,6 +235,8 @@ sel-found G i p at part f h made x =
     )) (omega arith) (omega arith)
     (omega (arith, h.types, made-nesting (rests_of_field i (plain_paths part.paths)) x.0 x.1 made.within))
     (one-layered (field_type i x.0) (derivation_of part) h.layered) prints
+    (rule-pairs G (sel p i at) ((nothing, p) ∷ []) (and_derivation (sub (field_type i x.0) (derivation_of part)) no_derivations) refl
+    (and_plain (sub-pairs G p (field_type i x.0) (derivation_of part) h.pairs) no_premises))
   where
     prints : (names : List Bytes) → IsWritable names G (sel p i at) → IsPrintable names (rule_of (sub (field_type i x.0) (derivation_of part)))
     prints names text =
@@ -261,6 +270,9 @@ let-found G d p q at f g r hf hg made x =
     )) (omega arith) (omega arith)
     (omega (arith, hf.types, hg.types, made-nesting (plain_paths f.paths) x.0 x.1 (subst IsWithinLimits (sym hf.paths) hf.kept)))
     (defined-layered x.0 (derivation_of f) (derivation_of g) hf.layered hg.layered) prints
+    (let-pairs G d p q at x.0 (derivation_of f) (derivation_of g) defined hf.pairs inner.pairs
+    (λ H i. taken G p (derivation_of f) hf.derived x.0
+    (subst (λ P. ArePathsBelow (least_type G p) P) (sym defined) (ArePathsBelow-refl (least_type G p))) H i 0))
   where
     prints : (names : List Bytes) → IsWritable names G (let_in d p q at) →
         IsPrintable names (rule_of_both (sub x.0 (derivation_of f)) (derivation_of g))
@@ -303,7 +315,15 @@ rec-found G d T p at P part f same within h made e =
     (one-printable names T (derivation_of part) (text.named.0, text.full.0)
     (h.printable names (part-writable names (paths T ∷ G) p (paths-fields (IsNamed names) T text.named.0, text.around)
     text.named.1 text.full.1 text.few))))
+    (passed-pairs G (rec d T p at) ((given T, p) ∷ []) (is_recursive part P) (once P) (rule_of (sub T (derivation_of part))) refl test solid
+    (rule-pairs G (rec d T p at) ((given T, p) ∷ []) (and_derivation (sub T (derivation_of part)) no_derivations) refl
+    (and_given (sub-pairs (paths T ∷ G) p T (derivation_of part) h.pairs) no_premises)))
   where
+    solid : is_recursive part P ≡ false → IsSolid (rec d T p at)
+    solid off I Bs A c none =
+        let empty : P ≡ no_paths = same ∙ (ap paths (provided-some (same_type (type_at Bs 0) T) T A c).1 ∙ none) in
+        let failed = sym (ap (is_recursive part) empty) ∙ off in cc
+
     types : (b : Bool) → deepest_type (derived_if b (rule_of (sub T (derivation_of part)))) ≤ max (type_nesting T) (deepest_type (derivation_of part))
     types true = omega arith
     types false = omega arith
@@ -381,8 +401,15 @@ merge-found G p q at f g r hf hg made choice =
     (ap (λ P. merge_of (kind_of q) P (plain_paths g.paths)) hf.paths ∙ ap (merge_of (kind_of q) (least_type G p)) hg.paths) made)
     refl refl refl (λ m. refl) refl refl
     (derived (kind_of q) refl choice) (few (kind_of q) choice) (shallow (kind_of q) choice) (types (kind_of q) choice)
-    (layers (kind_of q) choice) (λ names text. prints names text (kind_of q) choice)
+    (layers (kind_of q) choice) (λ names text. prints names text (kind_of q) choice) (paired (kind_of q) refl choice)
   where
+    paired : (o : Option Kind) → kind_of q ≡ o → IsMerged o f g (derivation_of r) → ConcludesBelow G (merge p q at) (derivation_of r) →
+        HasPairsAbove G (merge p q at) (derivation_of r)
+    paired None m e = unmerged-pairs G p q at (derivation_of r) m
+    paired (Some k) m x =
+        subst (λ d. ConcludesBelow G (merge p q at) d → HasPairsAbove G (merge p q at) d) (sym x.2)
+        (merge-pairs G p q at k x.0 (derivation_of f) (derivation_of g) m hf.pairs hg.pairs)
+
     prints : (names : List Bytes) → IsWritable names G (merge p q at) → (o : Option Kind) → IsMerged o f g (derivation_of r) →
         IsPrintable names (derivation_of r)
     prints names text None e = subst (IsPrintable names) (sym e) tt
@@ -468,8 +495,23 @@ cond-found G b p q at c f g r hc hf hg made choice =
       few choice,
     ))
     (omega (arith, hc.shallow, hf.shallow, hg.shallow, shallow choice)) (types choice) (layers choice)
-    (λ names text. prints names text choice)
+    (λ names text. prints names text choice) (paired choice (derived choice))
   where
+    paired : IsChosen c f g (derivation_of r) → ConcludesBelow G (cond b p q at) (derivation_of r) → HasPairsAbove G (cond b p q at) (derivation_of r)
+    paired (inl x) =
+        untested-pairs G b (cond b p q at) ((nothing, p) ∷ (nothing, q) ∷ []) Truth (derivation_of r) refl
+        (sym (ap (λ X. has X Truth) hc.paths) ∙ x.0)
+        (λ I Bs A e. (both_true (is_atom Truth (type_at Bs 0)) (same_type (type_at Bs 1) (type_at Bs 2))
+        (provided-some (is_atom Truth (type_at Bs 0) && same_type (type_at Bs 1) (type_at Bs 2)) (type_at Bs 1) A e).0).0)
+    paired (inr y) =
+        let x = y.1 in
+        subst (λ d. ConcludesBelow G (cond b p q at) d → HasPairsAbove G (cond b p q at) d) (sym x.2)
+        (rule-pairs G (cond b p q at) ((nothing, b) ∷ (nothing, p) ∷ (nothing, q) ∷ [])
+        (and_derivation (as_atom Truth c) (and_derivation (sub x.0 (derivation_of f)) (and_derivation (sub x.0 (derivation_of g)) no_derivations)))
+        refl
+        (and_plain (sub-pairs G b (atom Truth) (derivation_of c) hc.pairs)
+        (and_plain (sub-pairs G p x.0 (derivation_of f) hf.pairs) (and_plain (sub-pairs G q x.0 (derivation_of g) hg.pairs) no_premises))))
+
     prints : (names : List Bytes) → IsWritable names G (cond b p q at) → IsChosen c f g (derivation_of r) → IsPrintable names (derivation_of r)
     prints names text (inl x) = subst (IsPrintable names) (sym x.1) tt
     prints names text (inr y) =

@@ -1,5 +1,5 @@
 -- What is found of abstractions.
-use Rattle.std.proofs.Common.{ℕ, zero, suc, ◌+◌, ◌*◌, ◌≤◌, ◌≡◌, max, cond, List, [], ◌∷◌, ◌++◌, length, replicate, Option, option_map, Some, refl, sym, ap, ◌∙◌, subst, arith, zero-add}
+use Rattle.std.proofs.Common.{ℕ, zero, suc, ◌+◌, ◌*◌, ◌≤◌, ◌≡◌, max, cond, List, [], ◌∷◌, ◌++◌, length, replicate, Option, option_map, None, Some, refl, sym, ap, ◌∙◌, subst, arith, zero-add}
 use Rattle.std.proofs.lemmas.Bool.{le-leb}
 use Rattle.std.proofs.lemmas.List.{length-append}
 use Rattle.fy_base.specs.declared.data.Place.{Place}
@@ -16,10 +16,11 @@ use Rattle.fy_types.proofs.Laws.{append-none}
 use Rattle.fy_types.proofs.OnceLemmas.{below-once}
 use Rattle.fy_phrase.specs.Tree.{Tree, lam}
 use Rattle.fy_phrase.specs.Sizes.{nesting}
-use Rattle.fy_derive.specs.Derivations.{PlainDerivations, sub, meets, alt, no_derivations, and_derivation, nodes, all_nodes, count}
+use Rattle.fy_derive.specs.Derivations.{PlainDerivation, PlainDerivations, sub, meets, alt, no_derivations, and_derivation, nodes, all_nodes, count}
 use Rattle.fy_derive.specs.Derivations as derivations
 use Rattle.fy_derive.specs.Rules.{nothing}
 use Rattle.fy_derive.specs.Judging.{judged, concludes, stops, each_judged, all_conclude, then_judge, then_others, from_premises, if_form, member}
+use Rattle.fy_derive.specs.Shapes.{PlainShape, HasPair, in_sub, in_meet, in_alt, OneHasPair, this_one, other_one}
 use Rattle.fy_derive.specs.Least.{forms_of, alternatives_of, least_type, visits, visits_under}
 use Rattle.fy_derive.proofs.SoundLemmas.{append-none as append-nothing, append-push}
 use Rattle.fy_least.specs.declared.found.Found.{Found}
@@ -33,6 +34,7 @@ use Rattle.fy_least.specs.Layers.{met, ruled, IsLayered, one_sub, an_alt, AreLay
 use Rattle.fy_phrase.specs.CoreLimits.{types_count, visits_of, deepest_written}
 use Rattle.fy_phrase.specs.PhraseNames.{AllNames, HasFullTypes}
 use Rattle.fy_least.specs.Many.{AreFoundUnder, no_alternatives, and_alternative, total_of, blame_at_first, called_bodies, AreOnce, AreAlternatives, no_more, and_more, meet_of_all, IsAbstracted}
+use Rattle.fy_least.specs.Pairs.{AreContextsBelow, and_variable, HasPairsAbove}
 use Rattle.fy_least.specs.Writable.{AllContextFields, IsWritable}
 use Rattle.fy_least.specs.Visited.{IsFound, IsMade, derivation_of}
 use Rattle.fy_least.proofs.DistinctLemmas.{once-distinct, distinct-least}
@@ -40,6 +42,7 @@ use Rattle.fy_least.proofs.FoundLemmas.{made-nesting, taken, found-fields, none-
 use Rattle.fy_least.proofs.CountLemmas.{within-append, nodes-append}
 use Rattle.fy_least.proofs.LayerLemmas.{meet-layered}
 use Rattle.fy_least.proofs.FormFields.{paths-fields}
+use Rattle.fy_least.proofs.PairLemmas.{HasInner, inner-pairs}
 use Rattle.fy_least.proofs.PrintableLemmas.{made-printable, meet-printable}
 use Rattle.fy_least.proofs.VisitLemmas.{visits-some}
 
@@ -219,6 +222,58 @@ lam-derived G d b at (and_alternative {A = A} {As = As} {f = f} {fs = fs} w h (a
       subst (λ P. ArePathsBelow (all_paths (types_from x.0)) (once P)) (x.1 ∙ bodies-same all) (below-once (all_paths (types_from x.0))),
     )
 
+-- each pair of the body under an alternative is one of that alternative
+under-pairs : {G : List PlainPaths} {b : Tree} {As : PlainTypes} {fs : List Found} {i : ℕ} {ds : PlainDerivations} (All : PlainTypes) (d : ℕ)
+    (at : Place) →
+    AreFoundUnder G b As fs → AreAlternatives i fs ds → ((k : ℕ) → member All (i + k) ≡ member As k) → (H I : List PlainType) → forms_of H ≡ G →
+    AreContextsBelow G (forms_of I) → (l : ℕ) (A : PlainType) → member As l ≡ Some A → (e : PlainDerivation) (C : PlainType) →
+    judged e 0 (A ∷ I) b ≡ concludes C → (m k : ℕ) (s : PlainShape) → HasPair e (m + 1) (A ∷ I) b k s → OneHasPair ds m H (lam d All b at) k s
+under-pairs All d at no_alternatives no_more places H I same low l A there e C j m k s pair = absurd cc
+under-pairs {b = b} All d at (and_alternative {A = B} {f = f} w h r) (and_more {i = i} T t rest) places H I same low zero A there e C j m k s pair =
+    let is : B ≡ A = cc in
+    let at-i : member All i ≡ Some B = ap (member All) start ∙ places 0 in
+    this_one (in_alt (ap (option_map {U = PlainType × Tree} (λ X. (X, b))) at-i)
+    (in_sub (h.pairs (B ∷ H) (B ∷ I) (ap (λ X. paths B ∷ X) same) (and_variable (ArePathsBelow-refl (paths B)) low) e C
+    (subst (λ X. judged e 0 (X ∷ I) b ≡ concludes C) (sym is) j) (m + 1) k s (subst (λ X. HasPair e (m + 1) (X ∷ I) b k s) (sym is) pair))))
+  where
+    start : i ≡ i + 0
+    start = omega arith
+under-pairs All d at (and_alternative w h r) (and_more {i = i} T t rest) places H I same low (suc l) A there e C j m k s pair =
+    other_one (under-pairs All d at r rest (λ n. ap (member All) (later n) ∙ places (suc n)) H I same low l A there e C j m k s pair)
+  where
+    later : (n : ℕ) → suc i + n ≡ i + suc n
+    later n = omega arith
+
+meet-pair : {ds : PlainDerivations} {m k : ℕ} {H : List PlainType} {p : Tree} {s : PlainShape} → OneHasPair ds m H p k s →
+    HasPair (meet_of_all ds) m H p k s
+meet-pair {ds = no_derivations} pair = elim pair [ ]
+meet-pair {ds = and_derivation d no_derivations} (this_one pair) = pair
+meet-pair {ds = and_derivation d no_derivations} (other_one pair) = elim pair [ ]
+meet-pair {ds = and_derivation d (and_derivation e ds)} pair = in_meet pair
+
+lam-pairs : (G : List PlainPaths) (d : ℕ) (As : PlainTypes) (b : Tree) (at : Place) {fs : List Found} {ds : PlainDerivations} →
+    AreFoundUnder G b As fs → AreAlternatives 0 fs ds → ConcludesBelow G (lam d As b at) (meet_of_all ds) →
+    HasPairsAbove G (lam d As b at) (meet_of_all ds)
+lam-pairs G d As b at {ds = ds} hs all derived = inner-pairs G (lam d As b at) (meet_of_all ds) derived inner
+  where
+    found : (H I : List PlainType) → forms_of H ≡ G → AreContextsBelow G (forms_of I) → (i : ℕ) (x : PlainType × Tree) (o : Option PlainType) →
+        member As i ≡ o → option_map {U = PlainType × Tree} (λ A. (A, b)) o ≡ Some x → (e : PlainDerivation) (C : PlainType) →
+        judged e 0 (x.0 ∷ I) x.1 ≡ concludes C → (m k : ℕ) (s : PlainShape) → HasPair e (m + 1) (x.0 ∷ I) x.1 k s →
+        HasPair (meet_of_all ds) m H (lam d As b at) k s
+    found H I same low i x None g f e C j m k s pair = absurd cc
+    found H I same low i x (Some A) g f e C j m k s pair =
+        let is : x ≡ (A, b) = cc in
+        meet-pair (under-pairs As d at hs all (λ n. ap (member As) (zero-add n)) H I same low i A g e C
+        (subst (λ y. judged e 0 (y.0 ∷ I) y.1 ≡ concludes C) is j) m k s (subst (λ y. HasPair e (m + 1) (y.0 ∷ I) y.1 k s) is pair))
+
+    inner : (H I : List PlainType) → forms_of H ≡ G → AreContextsBelow G (forms_of I) → HasInner I H (lam d As b at) (meet_of_all ds)
+    inner H I same low = record {
+      rules = λ es n B j Ps f m k s pair. absurd cc;
+      alternatives = λ i x f e C j m k s pair. found H I same low i x (member As i) refl f e C j m k s pair;
+      lefts = λ x f e C j m k s pair. absurd cc;
+      rights = λ x f e C j m k s pair. absurd cc;
+    }
+
 pub lam-found : (G : List PlainPaths) (d : ℕ) (As : PlainTypes) (b : Tree) (at : Place) (fs : List Found) (r : Found) → AreFoundUnder G b As fs →
     IsMade (once (called_bodies As fs)) (blame_at_first fs at) (total_of fs) r → IsAbstracted fs (derivation_of r) → IsFound G (lam d As b at) r
 lam-found G d As b at fs r hs made x =
@@ -235,3 +290,4 @@ lam-found G d As b at fs r hs made x =
     (let few = times-some (types_count As) (visits_of b) (visits-some b) in
     meet-printable names x.0 (omega (arith, under-count hs x.1, text.few, few))
     (under-printable hs x.1 names text.around text.named.0 text.named.1 text.full.1 text.few (omega (arith, text.few, few)))))
+    (subst (HasPairsAbove G (lam d As b at)) (sym x.2) (lam-pairs G d As b at hs x.1 (lam-derived G d b at hs x.1)))

@@ -17,7 +17,8 @@ use Rattle.fy_derive.specs.Kinds.{kind_of}
 use Rattle.fy_derive.specs.Typing.{HasType, by_ns, by_subsumption, by_meet, by_var, by_lit, by_unary, by_binary, by_cond, by_case, by_lam, by_app, by_field, by_sel, by_left, by_right, by_let, by_rec, by_skip, by_seq, by_assign, by_while, by_forever, by_new, by_escape, by_accept, by_put, by_read, HasEach, no_more, and_has, EachHasType, no_parts, and_part}
 use Rattle.fy_derive.specs.Subsumption.{paths_below}
 use Rattle.fy_derive.specs.Least.{forms_of, paths_at, one_end, has, some_data, has_operands, has_assignment, alternatives_of, rests_of_call, others, merge_of, least_type, join_of_all, join_behind}
-use Rattle.fy_least.proofs.BelowLemmas.{passed-mono, passed-below, below-has, has-down, below-test, test-down, once-mono, once-low, join_of-mono, AreContextsBelow, and_variable, AreContextsBelow-refl, at-mono, at-known, others-below, merge_of-mono, rests-below, rests-mono, fields-below, fields-mono, alternatives-mono, alternatives-below, data-intro, operands-mono, assignment-mono, both-mono, command-below, command-mono}
+use Rattle.fy_least.specs.Pairs.{AreContextsBelow, and_variable}
+use Rattle.fy_least.proofs.BelowLemmas.{passed-mono, passed-below, below-has, has-down, below-test, test-down, once-mono, once-low, join_of-mono, AreContextsBelow-refl, at-mono, at-known, others-below, merge_of-mono, rests-below, rests-mono, fields-below, fields-mono, alternatives-mono, alternatives-below, data-intro, operands-mono, assignment-mono, both-mono, command-below, command-mono}
 
 mutual
   pub least-mono : (p : Tree) (G H : List PlainPaths) → AreContextsBelow G H → ArePathsBelow (least_type G p) (least_type H p)

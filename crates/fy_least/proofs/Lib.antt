@@ -20,6 +20,7 @@ pub mod LeastLemmas
 pub mod MadeLemmas
 pub mod ManyFound
 pub mod OperandLemmas
+pub mod PairLemmas
 pub mod PartLemmas
 pub mod PrincipalLemmas
 pub mod PrintableLemmas

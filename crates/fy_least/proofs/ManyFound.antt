@@ -38,11 +38,13 @@ use Rattle.fy_derive.specs.Printable.{IsPrintable, ArePrintable}
 use Rattle.fy_phrase.specs.CoreLimits.{parts_visits, deepest_of_parts}
 use Rattle.fy_phrase.specs.PhraseNames.{AllNamesOf, HaveFullTypes}
 use Rattle.fy_least.specs.Many.{AreFound, no_parts, and_part, total_of, blame_at_some, joined, joined_with, joins_before, earlier_joined, case_forms, all_at, IsCased, IsCase}
+use Rattle.fy_least.specs.Pairs.{HasPairsAbove}
 use Rattle.fy_least.specs.Writable.{AllContextFields, IsWritable}
 use Rattle.fy_least.specs.Visited.{IsFound, has_atom, derivation_of, as_atom}
 use Rattle.fy_least.proofs.FoundLemmas.{made-nesting, taken, taken-atom, none-derived, blame-same}
 use Rattle.fy_least.proofs.CountLemmas.{within-append, nodes-append}
 use Rattle.fy_least.proofs.LeastFields.{all-fields}
+use Rattle.fy_least.proofs.PairLemmas.{HavePairs, no_premises, and_plain, sub-pairs, rule-pairs, untested-pairs, picked-first, empty-pairs}
 use Rattle.fy_least.proofs.PrintableLemmas.{IsPrintableType, made-printable}
 use Rattle.fy_least.proofs.VisitLemmas.{visits-some}
 
@@ -186,6 +188,10 @@ counted G e (and_tree p ps) at c (f ∷ fs) hc (and_part h r) =
     (ap (λ P. joins_before P fs) h.paths ∙ before-last r (least_type G p))
     ∙ some-counted (has (least_type G e) Int) (joins_before_last G (least_type G p) ps) (join_of_all G (and_tree p ps))))
 
+parts-pairs : {G : List PlainPaths} {ps : Trees} {fs : List Found} → AreFound G ps fs → (A : PlainType) → HavePairs G (of_parts ps) (all_at A fs)
+parts-pairs no_parts A = no_premises
+parts-pairs {G = G} (and_part {p = p} {f = f} h r) A = and_plain (sub-pairs G p A (derivation_of f) h.pairs) (parts-pairs r A)
+
 case-derived : (G : List PlainPaths) (e p : Tree) (ps : Trees) (at : Place) (c f : Found) (fs : List Found) (A : PlainType) → IsFound G e c →
     AreFound G (and_tree p ps) (f ∷ fs) → has_atom c Int ≡ true → paths A ≡ joined (f ∷ fs) →
     ConcludesBelow G (case e (and_tree p ps) at) (rule (and_derivation (as_atom Int c) (all_at A (f ∷ fs))))
@@ -233,9 +239,24 @@ case-found G e ps at c r fs hc hs made choice = record {
   kept = last-within (earlier_joins G (case e ps at)) (least_type G (case e ps at)) (subst AreWithin (counted G e ps at c fs hc hs) made.within);
   types = omega (arith, hc.types, types-of fs hs made.within choice);
   layered = layers fs hs choice;
+  pairs = paired ps fs hs choice (derived ps fs hs choice);
   printable = λ names text. prints names text fs hs choice;
 }
   where
+    paired : (ps : Trees) (fs : List Found) → AreFound G ps fs → IsCased c fs (derivation_of r) →
+        ConcludesBelow G (case e ps at) (derivation_of r) → HasPairsAbove G (case e ps at) (derivation_of r)
+    paired no_trees [] no_parts x = empty-pairs G e at (derivation_of r)
+    paired no_trees (f ∷ fs) hs x = elim hs [ ]
+    paired (and_tree p ps) [] hs x = elim hs [ ]
+    paired (and_tree p ps) (f ∷ fs) hs (inl x) =
+        untested-pairs G e (case e (and_tree p ps) at) (of_parts (and_tree p ps)) Int (derivation_of r) refl
+        (sym (ap (λ X. has X Int) hc.paths) ∙ x.0) (λ I Bs A. picked-first Bs A)
+    paired (and_tree p ps) (f ∷ fs) hs (inr x) =
+        subst (λ d. ConcludesBelow G (case e (and_tree p ps) at) d → HasPairsAbove G (case e (and_tree p ps) at) d) (sym x.3)
+        (rule-pairs G (case e (and_tree p ps) at) ((nothing, e) ∷ of_parts (and_tree p ps))
+        (and_derivation (as_atom Int c) (all_at x.1 (f ∷ fs))) refl
+        (and_plain (sub-pairs G e (atom Int) (derivation_of c) hc.pairs) (parts-pairs hs x.1)))
+
     prints : (names : List Bytes) → IsWritable names G (case e ps at) → (gs : List Found) → AreFound G ps gs →
         IsCased c gs (derivation_of r) → IsPrintable names (derivation_of r)
     prints names text [] h x = subst (IsPrintable names) (sym x) tt

@@ -1,6 +1,6 @@
 -- What is found of forms whose premises are atoms.
 use Rattle.std.proofs.lemmas.Bool.{or_left, or_right}
-use Rattle.std.proofs.Common.{ℕ, ◌+◌, ◌≤◌, ◌≡◌, max, Bool, true, false, ◌&&◌, List, ◌∷◌, inl, inr, refl, sym, ap, ◌∙◌, subst, arith, if◌then◌else◌}
+use Rattle.std.proofs.Common.{ℕ, ◌+◌, ◌≤◌, ◌≡◌, max, Bool, true, false, ◌&&◌, List, [], ◌∷◌, inl, inr, refl, sym, ap, ◌∙◌, subst, arith, if◌then◌else◌}
 use Rattle.fy_base.specs.declared.data.Place.{Place}
 use Rattle.fy_base.specs.Outside.{Bytes}
 use Rattle.fy_base.specs.declared.data.Datum.{Datum}
@@ -21,12 +21,13 @@ use Rattle.fy_phrase.specs.Tree.{Tree, lit, unary, binary, seq, assign, while_do
 use Rattle.fy_phrase.specs.Sizes.{nesting}
 use Rattle.fy_phrase.specs.Sizes as sizes
 use Rattle.fy_derive.specs.Atoms.{data_atom, acceptor_atom, cell_type, datum_atom, operand_atom, unary_atom, takes, binary_atom, put_atom, is_command}
-use Rattle.fy_derive.specs.Derivations.{by_ns, rule, no_derivations, nodes}
+use Rattle.fy_derive.specs.Derivations.{by_ns, rule, no_derivations, and_derivation, nodes}
 use Rattle.fy_derive.specs.Derivations as derivations
 use Rattle.fy_derive.specs.Rules.{nothing, given, is_atom, fits_operator, fits_assignment}
+use Rattle.fy_derive.specs.Tables.{type_at}
 use Rattle.fy_derive.specs.Typing.{of_data}
 use Rattle.fy_derive.specs.Least.{one_end, if_passed, has, some_data, has_operands, has_assignment, command_of, least_type}
-use Rattle.fy_derive.proofs.CompleteLemmas.{no-premise, same_atom, when, operator-fits, assignment-fits, command-concludes}
+use Rattle.fy_derive.proofs.CompleteLemmas.{no-premise, when, operator-fits, assignment-fits, command-concludes}
 use Rattle.fy_least.specs.declared.found.Found.{Found}
 use Rattle.fy_least.specs.Derived.{rule_of, rule_of_both, derived_if, ConcludesBelow, most_made_nesting}
 use Rattle.fy_derive.specs.Limits.{deepest_type}
@@ -36,8 +37,10 @@ use Rattle.fy_phrase.specs.CoreLimits.{deepest_written}
 use Rattle.fy_least.specs.Rules.{have_atoms, end_of_command, serves_operator, serves_assignment, IsOperated, IsAssigned}
 use Rattle.fy_least.specs.Writable.{IsWritable}
 use Rattle.fy_least.specs.Visited.{IsFound, IsMade, blame_at, has_atom, derivation_of, as_atom}
+use Rattle.fy_least.specs.Pairs.{HasPairsAbove}
 use Rattle.fy_least.proofs.LayerLemmas.{ns-layered, none-layered, two-layered}
 use Rattle.fy_least.proofs.LeastFields.{part-writable, both-writable}
+use Rattle.fy_least.proofs.PairLemmas.{no_premises, and_plain, and_given, provided-solid, command-solid, none-pairs, sub-pairs, rule-pairs, solid-pairs, mark-pairs}
 use Rattle.fy_least.proofs.PrintableLemmas.{none-printable, two-printable}
 use Rattle.fy_least.proofs.FoundLemmas.{none-found, two-found, atom-found, atoms-found, atoms-derived, none-derived}
 
@@ -47,18 +50,20 @@ pub lit-found : (G : List PlainPaths) (v : Datum) (at : Place) (f : Found) → I
 lit-found G v at f made e =
     none-found G (lit v at) at f (rule no_derivations) made refl refl refl (λ m. refl) e
     (λ H i n. (atom (datum_atom v), no-premise H (lit v at) (atom (datum_atom v)) n refl refl, ArePathsBelow-refl (one_end (datum_atom v)))) refl refl
-    refl refl none-layered none-printable
+    refl refl none-layered none-printable (none-pairs G (lit v at) (rule no_derivations) refl)
 
 pub skip-found : (G : List PlainPaths) (at : Place) (f : Found) → IsMade (one_end Comm) at 0 f →
     derivation_of f ≡ rule no_derivations → IsFound G (skip at) f
 skip-found G at f made e =
     none-found G (skip at) at f (rule no_derivations) made refl refl refl (λ m. refl) e
     (λ H i n. (atom Comm, no-premise H (skip at) (atom Comm) n refl refl, ArePathsBelow-refl (one_end Comm))) refl refl refl refl none-layered none-printable
+    (none-pairs G (skip at) (rule no_derivations) refl)
 
 pub mark-found : (G : List PlainPaths) (k : MarkKind) (at : Place) (f : Found) → IsMade no_paths at 0 f → derivation_of f ≡ by_ns →
     IsFound G (mark k at) f
 mark-found G k at f made e =
     none-found G (mark k at) at f by_ns made refl refl refl (λ m. refl) e (none-derived G (mark k at) refl) refl refl refl refl ns-layered (λ names. tt)
+    (mark-pairs G k at by_ns)
 
 -- rules of one premise
 pub unary-found : (G : List PlainPaths) (op : UnOp) (p : Tree) (at : Place) (part f : Found) → IsFound G p part →
@@ -66,46 +71,45 @@ pub unary-found : (G : List PlainPaths) (op : UnOp) (p : Tree) (at : Place) (par
     derivation_of f ≡ derived_if (has_atom part (operand_atom op)) (rule_of (as_atom (operand_atom op) part)) → IsFound G (unary op p at) f
 unary-found G op p at part f h =
     atom-found G G p (unary op p at) nothing (operand_atom op) (unary_atom op) at part f h refl refl refl refl (λ m. refl) refl refl refl (λ H i. i)
-    (λ H. when (is_atom (operand_atom op) (atom (operand_atom op))) (atom (unary_atom op)) (same_atom (operand_atom op)))
-    (λ names text. part-writable names G p text.around text.named text.full text.few)
+    (λ H As. refl) (λ names text. part-writable names G p text.around text.named text.full text.few) (λ d x. and_plain x no_premises)
 
 pub forever-found : (G : List PlainPaths) (p : Tree) (at : Place) (part f : Found) → IsFound G p part →
     IsMade (if_passed (has_atom part Comm) (one_end Compl)) (blame_at part at) part.total f →
     derivation_of f ≡ derived_if (has_atom part Comm) (rule_of (as_atom Comm part)) → IsFound G (forever p at) f
 forever-found G p at part f h =
-    atom-found G G p (forever p at) nothing Comm Compl at part f h refl refl refl refl (λ m. refl) refl refl refl (λ H i. i) (λ H. refl)
-    (λ names text. part-writable names G p text.around text.named text.full text.few)
+    atom-found G G p (forever p at) nothing Comm Compl at part f h refl refl refl refl (λ m. refl) refl refl refl (λ H i. i) (λ H As. refl)
+    (λ names text. part-writable names G p text.around text.named text.full text.few) (λ d x. and_plain x no_premises)
 
 pub escape-found : (G : List PlainPaths) (d : ℕ) (p : Tree) (at : Place) (part f : Found) → IsFound (one_end Compl ∷ G) p part →
     IsMade (if_passed (has_atom part Comm) (one_end Comm)) (blame_at part at) part.total f →
     derivation_of f ≡ derived_if (has_atom part Comm) (rule_of (as_atom Comm part)) → IsFound G (escape d p at) f
 escape-found G d p at part f h =
     atom-found G (one_end Compl ∷ G) p (escape d p at) (given (atom Compl)) Comm Comm at part f h refl refl refl refl (λ m. refl) refl refl refl
-    (λ H i. ap (λ X. one_end Compl ∷ X) i) (λ H. refl)
-    (λ names text. part-writable names (one_end Compl ∷ G) p ((tt, tt), text.around) text.named text.full text.few)
+    (λ H i. ap (λ X. one_end Compl ∷ X) i) (λ H As. refl)
+    (λ names text. part-writable names (one_end Compl ∷ G) p ((tt, tt), text.around) text.named text.full text.few) (λ d x. and_given x no_premises)
 
 pub accept-found : (G : List PlainPaths) (d : ℕ) (D : DataTy) (p : Tree) (at : Place) (part f : Found) → IsFound (one_end (data_atom D) ∷ G) p part →
     IsMade (if_passed (has_atom part Comm) (one_end (acceptor_atom D))) (blame_at part at) part.total f →
     derivation_of f ≡ derived_if (has_atom part Comm) (rule_of (as_atom Comm part)) → IsFound G (accept d D p at) f
 accept-found G d D p at part f h =
     atom-found G (one_end (data_atom D) ∷ G) p (accept d D p at) (given (atom (data_atom D))) Comm (acceptor_atom D) at part f h
-    refl refl refl refl (λ m. refl) refl refl refl (λ H i. ap (λ X. one_end (data_atom D) ∷ X) i) (λ H. refl)
+    refl refl refl refl (λ m. refl) refl refl refl (λ H i. ap (λ X. one_end (data_atom D) ∷ X) i) (λ H As. refl)
     (λ names text. part-writable names (one_end (data_atom D) ∷ G) p ((tt, tt), text.around) text.named text.full text.few)
+    (λ d x. and_given x no_premises)
 
 pub put-found : (G : List PlainPaths) (kind : PutKind) (p : Tree) (at : Place) (part f : Found) → IsFound G p part →
     IsMade (if_passed (has_atom part (put_atom kind)) (one_end Comm)) (blame_at part at) part.total f →
     derivation_of f ≡ derived_if (has_atom part (put_atom kind)) (rule_of (as_atom (put_atom kind) part)) → IsFound G (put kind p at) f
 put-found G kind p at part f h =
     atom-found G G p (put kind p at) nothing (put_atom kind) Comm at part f h refl refl refl refl (λ m. refl) refl refl refl (λ H i. i)
-    (λ H. when (is_atom (put_atom kind) (atom (put_atom kind))) (atom Comm) (same_atom (put_atom kind)))
-    (λ names text. part-writable names G p text.around text.named text.full text.few)
+    (λ H As. refl) (λ names text. part-writable names G p text.around text.named text.full text.few) (λ d x. and_plain x no_premises)
 
 pub read-found : (G : List PlainPaths) (p : Tree) (at : Place) (part f : Found) → IsFound G p part →
     IsMade (if_passed (has_atom part IntAcc) (one_end Comm)) (blame_at part at) part.total f →
     derivation_of f ≡ derived_if (has_atom part IntAcc) (rule_of (as_atom IntAcc part)) → IsFound G (read p at) f
 read-found G p at part f h =
-    atom-found G G p (read p at) nothing IntAcc Comm at part f h refl refl refl refl (λ m. refl) refl refl refl (λ H i. i) (λ H. refl)
-    (λ names text. part-writable names G p text.around text.named text.full text.few)
+    atom-found G G p (read p at) nothing IntAcc Comm at part f h refl refl refl refl (λ m. refl) refl refl refl (λ H i. i) (λ H As. refl)
+    (λ names text. part-writable names G p text.around text.named text.full text.few) (λ d x. and_plain x no_premises)
 
 -- rules of two premises
 pub while-found : (G : List PlainPaths) (p q : Tree) (at : Place) (f g r : Found) → IsFound G p f → IsFound G q g →
@@ -115,6 +119,7 @@ while-found G p q at f g r hf hg =
     atoms-found G G p q (while_do p q at) nothing Truth Comm Comm at f g r (λ m. m + 1 + sizes.nodes p) hf hg refl refl refl refl (λ m. refl) refl
     refl refl
     (λ H A i. i) (λ H. refl) (λ names text. both-writable names G G p q text.around text.around text.named text.full text.few)
+    (λ I Bs A. provided-solid (is_atom Truth (type_at Bs 0) && is_atom Comm (type_at Bs 1)) Comm A) (λ d e x y. and_plain x (and_plain y no_premises))
 
 pub command-same : (x : Bool) (Q : PlainPaths) → if_passed x (command_of Q)
     ≡ if_passed (x && has Q (if has Q Compl then Compl else Comm)) (one_end (if has Q Compl then Compl else Comm))
@@ -145,6 +150,7 @@ seq-found G p q at f g r hf hg =
     (command-at G q g (has (least_type G p) Comm) hg) refl refl refl (λ m. refl) refl refl refl (λ H A i. i)
     (λ H. command-concludes Comm (end_of_command g) (command-is (has_atom g Compl)))
     (λ names text. both-writable names G G p q text.around text.around text.named text.full text.few)
+    (λ I Bs A. command-solid Comm (type_at Bs 0) (type_at Bs 1) A) (λ d e x y. and_plain x (and_plain y no_premises))
 
 pub new-found : (G : List PlainPaths) (d : ℕ) (D : DataTy) (p q : Tree) (at : Place) (f g r : Found) → IsFound G p f →
     IsFound (paths (cell_type D) ∷ G) q g →
@@ -160,6 +166,7 @@ new-found G d D p q at f g r hf hg =
     (λ H A i. ap (λ X. paths (cell_type D) ∷ X) i)
     (λ H. command-concludes (data_atom D) (end_of_command g) (command-is (has_atom g Compl)))
     (λ names text. both-writable names G (paths (cell_type D) ∷ G) p q text.around ((tt, (tt, tt)), text.around) text.named text.full text.few)
+    (λ I Bs A. command-solid (data_atom D) (type_at Bs 0) (type_at Bs 1) A) (λ d e x y. and_plain x (and_given y no_premises))
 
 data-some : (t : DataTy → Bool) (D : DataTy) → t D ≡ true → some_data t ≡ true
 data-some t data_type.Int e = or_left _ _ e
@@ -174,11 +181,23 @@ binary-found G op p q at f g r hf hg made choice =
     two-found G G p q (binary op p q at) at f g r (derivation_of r) (λ m. m + 1 + sizes.nodes p) hf hg
     (subst (λ P. IsMade P (blame_at f (blame_at g at)) (f.total + g.total) r) (sym test) made) refl refl refl (λ m. refl) refl refl
     (derived choice) (few choice) (shallow choice) (types choice) (layers choice) (λ names text. prints names text choice)
+    (paired choice)
   where
     test : least_type G (binary op p q at) ≡ if_passed (serves_operator op f g) (one_end (binary_atom op))
     test =
         ap (λ P. if_passed (some_data (has_operands op P (least_type G q))) (one_end (binary_atom op))) (sym hf.paths)
         ∙ ap (λ Q. if_passed (some_data (has_operands op (plain_paths f.paths) Q)) (one_end (binary_atom op))) (sym hg.paths)
+
+    paired : IsOperated op f g (derivation_of r) → ConcludesBelow G (binary op p q at) (derivation_of r) → HasPairsAbove G (binary op p q at) (derivation_of r)
+    paired (inl x) =
+        solid-pairs G (binary op p q at) ((nothing, p) ∷ (nothing, q) ∷ []) (derivation_of r) refl
+        (test ∙ ap (λ b. if_passed b (one_end (binary_atom op))) x.0) (λ I Bs A. provided-solid (fits_operator op (type_at Bs 0) (type_at Bs 1)) (binary_atom op) A)
+    paired (inr x) =
+        subst (λ d. ConcludesBelow G (binary op p q at) d → HasPairsAbove G (binary op p q at) d) (sym x.2)
+        (rule-pairs G (binary op p q at) ((nothing, p) ∷ (nothing, q) ∷ [])
+        (and_derivation (as_atom (data_atom x.0) f) (and_derivation (as_atom (data_atom x.0) g) no_derivations)) refl
+        (and_plain (sub-pairs G p (atom (data_atom x.0)) (derivation_of f) hf.pairs)
+        (and_plain (sub-pairs G q (atom (data_atom x.0)) (derivation_of g) hg.pairs) no_premises)))
 
     serves : (D : DataTy) → has_operands op (plain_paths f.paths) (plain_paths g.paths) D ≡ true → serves_operator op f g ≡ true
     serves D e = data-some (has_operands op (plain_paths f.paths) (plain_paths g.paths)) D e
@@ -234,11 +253,23 @@ assign-found G p q at f g r hf hg made choice =
     two-found G G p q (assign p q at) at f g r (derivation_of r) (λ m. m + 1 + sizes.nodes p) hf hg
     (subst (λ P. IsMade P (blame_at f (blame_at g at)) (f.total + g.total) r) (sym test) made) refl refl refl (λ m. refl) refl refl
     (derived choice) (few choice) (shallow choice) (types choice) (layers choice) (λ names text. prints names text choice)
+    (paired choice)
   where
     test : least_type G (assign p q at) ≡ if_passed (serves_assignment f g) (one_end Comm)
     test =
         ap (λ P. if_passed (some_data (has_assignment P (least_type G q))) (one_end Comm)) (sym hf.paths)
         ∙ ap (λ Q. if_passed (some_data (has_assignment (plain_paths f.paths) Q)) (one_end Comm)) (sym hg.paths)
+
+    paired : IsAssigned f g (derivation_of r) → ConcludesBelow G (assign p q at) (derivation_of r) → HasPairsAbove G (assign p q at) (derivation_of r)
+    paired (inl x) =
+        solid-pairs G (assign p q at) ((nothing, p) ∷ (nothing, q) ∷ []) (derivation_of r) refl
+        (test ∙ ap (λ b. if_passed b (one_end Comm)) x.0) (λ I Bs A. provided-solid (fits_assignment (type_at Bs 0) (type_at Bs 1)) Comm A)
+    paired (inr x) =
+        subst (λ d. ConcludesBelow G (assign p q at) d → HasPairsAbove G (assign p q at) d) (sym x.2)
+        (rule-pairs G (assign p q at) ((nothing, p) ∷ (nothing, q) ∷ [])
+        (and_derivation (as_atom (acceptor_atom x.0) f) (and_derivation (as_atom (data_atom x.0) g) no_derivations)) refl
+        (and_plain (sub-pairs G p (atom (acceptor_atom x.0)) (derivation_of f) hf.pairs)
+        (and_plain (sub-pairs G q (atom (data_atom x.0)) (derivation_of g) hg.pairs) no_premises)))
 
     serves : (D : DataTy) → has_assignment (plain_paths f.paths) (plain_paths g.paths) D ≡ true → serves_assignment f g ≡ true
     serves D e = data-some (has_assignment (plain_paths f.paths) (plain_paths g.paths)) D e

@@ -18,7 +18,7 @@ use Rattle.fy_derive.specs.Judging.{judged, concludes, member, alternative, oper
 use Rattle.fy_derive.specs.Shapes.{PlainShape, at_end, a_call, a_field, end_shape, erase, HasPath, first_path, later_path, HasPair, own, in_sub, in_meet, in_alt, in_left, in_right, in_rule, OneHasPair, this_one, other_one, PremiseHasPair, this_premise, later_premise}
 use Rattle.fy_derive.specs.Least.{forms_of, one_end, least_type, Visit, visit, visits_under, visits, visits_of_all, HasLeastPair, this_visit, later_visit}
 use Rattle.fy_derive.proofs.SoundLemmas.{judged-sound}
-use Rattle.fy_least.proofs.BelowLemmas.{AreContextsBelow, no_variables, and_variable}
+use Rattle.fy_least.specs.Pairs.{AreContextsBelow, no_variables, and_variable}
 use Rattle.fy_least.proofs.LeastLemmas.{least-mono, HasType-least}
 
 -- the order of paths keeps shapes
@@ -31,11 +31,11 @@ erase-same (ends low) = ap at_end (end_shape-same low)
 erase-same (calls wide low) = ap a_call (erase-same low)
 erase-same (picks {i = i} low) = ap (a_field i) (erase-same low)
 
-path-below : {P : PlainPaths} {q : PlainPath} → HasBelow P q → (r : PlainPath) × HasPath P r × (erase r ≡ erase q)
+pub path-below : {P : PlainPaths} {q : PlainPath} → HasBelow P q → (r : PlainPath) × HasPath P r × (erase r ≡ erase q)
 path-below (here {p = p} low) = (p, first_path, erase-same low)
 path-below (there some) = let found = path-below some in (found.0, later_path found.1, found.2)
 
-below-path : {P Q : PlainPaths} {q : PlainPath} → ArePathsBelow P Q → HasPath Q q → HasBelow P q
+pub below-path : {P Q : PlainPaths} {q : PlainPath} → ArePathsBelow P Q → HasPath Q q → HasBelow P q
 below-path (and_above some rest) first_path = some
 below-path (and_above some rest) (later_path among) = below-path rest among
 below-path none_left among = elim among [ ]
@@ -192,17 +192,17 @@ context-under first (L ∷ Ls) (A ∷ As) H G (and_variable next c) low = and_va
 context-under (given T) Ls As H G c low = and_variable (ArePathsBelow-refl (paths T)) low
 
 -- what a derivation concludes is above the least type under a context that is below
-concluded-above : (d : PlainDerivation) (p : Tree) (H : List PlainPaths) (G : List PlainType) (A : PlainType) → AreContextsBelow H (forms_of G) →
-    judged d 0 G p ≡ concludes A → ArePathsBelow (least_type H p) (paths A)
-concluded-above d p H G A low e =
-    ArePathsBelow-trans (least_type (forms_of G) p) (least-mono p H (forms_of G) low) (HasType-least (judged-sound d 0 G p A e))
+pub concluded-above : (d : PlainDerivation) (n : ℕ) (p : Tree) (H : List PlainPaths) (G : List PlainType) (A : PlainType) → AreContextsBelow H (forms_of G) →
+    judged d n G p ≡ concludes A → ArePathsBelow (least_type H p) (paths A)
+concluded-above d n p H G A low e =
+    ArePathsBelow-trans (least_type (forms_of G) p) (least-mono p H (forms_of G) low) (HasType-least (judged-sound d n G p A e))
 
 mutual
   HasPair-least : {d : PlainDerivation} {m k : ℕ} {G : List PlainType} {p : Tree} {s : PlainShape} (H : List PlainPaths) →
       AreContextsBelow H (forms_of G) →
       HasPair d m G p k s → HasLeastPair (visits m H p) k s
   HasPair-least H low (own {d = d} {m = m} {G = G} {p = p} {A = A} {q = q} e among) =
-      let found = path-below (below-path (concluded-above d p H G A low e) among) in
+      let found = path-below (below-path (concluded-above d 0 p H G A low e) among) in
       subst (λ x. HasLeastPair (visits m H p) m x) found.2 (pair-own p m H found.1)
   HasPair-least H low (in_sub pair) = HasPair-least H low pair
   HasPair-least H low (in_meet pair) = OneHasPair-least H low pair
@@ -231,7 +231,7 @@ mutual
       pair-right (visits m (forms_under P.0 Ls H) P.1)
       (PremiseHasPair-least H (Ls ++ least_type (forms_under P.0 Ls H) P.1 ∷ []) low
       (context-push Ls As (least_type (forms_under P.0 Ls H) P.1) A c
-      (concluded-above d P.1 (forms_under P.0 Ls H) (under P.0 As G) A (context-under P.0 Ls As H G c low) e)) pair)
+      (concluded-above d 0 P.1 (forms_under P.0 Ls H) (under P.0 As G) A (context-under P.0 Ls As H G c low) e)) pair)
 
 -- with no variable in scope
 pub shapes-least : (p : Tree) (d : PlainDerivation) (k : ℕ) (s : PlainShape) → HasPair d 0 [] p k s → HasLeastPair (visits 0 [] p) k s

@@ -14,3 +14,4 @@ pub mod Scopes
 pub mod Visited
 pub mod Writable
 pub mod Outers
+pub mod Pairs

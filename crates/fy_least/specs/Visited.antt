@@ -20,6 +20,7 @@ use Rattle.fy_least.specs.declared.found.Found.{Found}
 use Rattle.fy_least.specs.Blame.{if_empty, blame_of}
 use Rattle.fy_least.specs.Layers.{met, IsLayered}
 use Rattle.fy_least.specs.Limits.{most_together}
+use Rattle.fy_least.specs.Pairs.{HasPairsAbove}
 use Rattle.fy_least.specs.Counts.{nodes_of_visits, AreVisitsWithin}
 use Rattle.fy_least.specs.Derived.{ConcludesBelow, most_made_nesting}
 use Rattle.fy_least.specs.Writable.{IsWritable}
@@ -38,6 +39,7 @@ pub record IsFound (G : List PlainPaths) (p : Tree) (f : Found) : Type 0 where
   pub kept : IsWithinLimits (least_type G p)
   pub types : deepest_type (plain_derivation f.derivation) ≤ max (deepest_written p) most_made_nesting
   pub layered : IsLayered met (plain_derivation f.derivation)
+  pub pairs : HasPairsAbove G p (plain_derivation f.derivation)
   pub printable : (names : List Bytes) → IsWritable names G p → IsPrintable names (plain_derivation f.derivation)
 
 -- a visit that has the paths and the blame, and whose parts have so many nodes in their least types

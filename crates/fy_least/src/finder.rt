@@ -1,6 +1,6 @@
 //! Derivations of programs.
 
-ghost use Rattle.std.specs.Prelude.{◌≤◌, ℕ, List, All, IfOk, IsErrOf, map, reverse};
+ghost use Rattle.std.specs.Prelude.{◌≤◌, ℕ, List, [], All, IfOk, IsErrOf, map, reverse};
 ghost use Rattle.fy_base.specs.Outside.{Bytes};
 ghost use Rattle.fy_types.specs.Fields.{AllFields, HasFullMeets, IsNamed};
 ghost use Rattle.fy_types.specs.Nested.{type_nesting};
@@ -16,6 +16,7 @@ ghost use Rattle.fy_derive.specs.Reading.{plain_derivation};
 ghost use Rattle.fy_least.specs.Counts.{PassLimits};
 ghost use Rattle.fy_least.specs.Finding.{IsFinding, IsFindingOf};
 ghost use Rattle.fy_least.specs.Layers.{subsumed, IsLayered};
+ghost use Rattle.fy_least.specs.Pairs.{HasAllPairs};
 ghost use Rattle.fy_least.specs.Visited.{IsFound};
 
 use crate::context::Context;
@@ -40,7 +41,7 @@ use std::alloc::Global;
 /// derivation can be written as a text: the same holds of the names and the meets in its types, its
 /// own meets have two members or more, its numbers are below 2^32, and no meet and no rule in it has
 /// over 65,536 premises. Above each rule stands at most one meet, and above that at most one
-/// subsumption.
+/// subsumption. Whatever demand shape some derivation of the phrase has at a node, it has too.
 ///
 /// # Errors
 ///
@@ -57,6 +58,7 @@ pub fn find(alloc: Global, p: &Phrase) -> Result<Derivation, FindError>
         (λ d. KeepsCoreLimits (reads p.now) → HasFullTypes (reads p.now) → (names : List Bytes) →
         AllNames (IsNamed names) (reads p.now) → IsPrintable names (plain_derivation d)) }
     ensures layered { IfOk result (λ d. IsLayered subsumed (plain_derivation d)) }
+    ensures pairs { IfOk result (λ d. HasAllPairs [] (reads p.now) (plain_derivation d)) }
 {
     find_as(alloc, &TyList::new(alloc), p, &Ty::Atom(Atom::Comm))
 }
@@ -68,7 +70,7 @@ pub fn find(alloc: Global, p: &Phrase) -> Result<Derivation, FindError>
 /// the type nests at most 1,024, the derivation keeps its limits. If besides the names in the phrase, in
 /// the context and in the type are those of identifiers, and the meets in the phrase's types and in the
 /// type have two members or more, the derivation can be written as a text. Both are as with [`find`], and
-/// so is what stands above each rule.
+/// so are what stands above each rule and the demand shapes.
 ///
 /// # Errors
 ///
@@ -89,6 +91,7 @@ pub fn find_as(
         (names : List Bytes) → AllNames (IsNamed names) (reads p.now) → All (AllFields (IsNamed names)) (in_scope context.now) →
         AllFields (IsNamed names) (plain_type ty.now) → IsPrintable names (plain_derivation d)) }
     ensures layered { IfOk result (λ d. IsLayered subsumed (plain_derivation d)) }
+    ensures pairs { IfOk result (λ d. HasAllPairs (in_scope context.now) (reads p.now) (plain_derivation d)) }
 {
     let found = found_around(alloc, context.as_slice(), p)?;
     let least = ty_of(alloc, &found.paths)?;

@@ -17,4 +17,4 @@ mod written;
 
 pub use error::FindError;
 pub use finder::{find, find_as};
-pub use laws::{least_type_is_principal, shapes_are_least};
+pub use laws::{found_derivations_have_the_same_shapes, least_type_is_principal, shapes_are_least};

@@ -5,7 +5,7 @@ use Rattle.fy_types.specs.Reading.{types_in, plain_type}
 use Rattle.fy_types.proofs.TypeForms.{reads_atom}
 use Rattle.fy_phrase.specs.Reads.{reads}
 use Rattle.fy_derive.specs.Judging.{in_scope}
-use Rattle.fy_least.proofs.FindLemmas.{finding-alone, limits-alone, printable-alone}
+use Rattle.fy_least.proofs.FindLemmas.{finding-alone, limits-alone, pairs-alone, printable-alone}
 use Rattle.fy_least.proofs.finder.find.Goals as goal
 
 none-around : (l : TyList) → types_in l ≡ [] → in_scope l ≡ []
@@ -22,3 +22,7 @@ pub returns-clause-printable : goal.returns-clause-printable
 returns-clause-printable c =
     printable-alone c.find_as.result (reads c.args.p.now) _ _ (none-around c.new.result c.new.ensures) (reads_atom _ Comm refl)
     c.find_as.ensures.printable
+
+pub returns-clause-pairs : goal.returns-clause-pairs
+returns-clause-pairs c =
+    pairs-alone c.find_as.result (reads c.args.p.now) _ (none-around c.new.result c.new.ensures) c.find_as.ensures.pairs

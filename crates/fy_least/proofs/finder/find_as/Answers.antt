@@ -9,8 +9,9 @@ use Rattle.fy_derive.specs.Limits.{KeepsLimits}
 use Rattle.fy_derive.specs.Printable.{IsPrintable}
 use Rattle.fy_least.specs.Counts.{PassLimits}
 use Rattle.fy_least.specs.Layers.{subsumed, IsLayered}
+use Rattle.fy_least.specs.Pairs.{HasAllPairs}
 use Rattle.fy_least.specs.Visited.{IsFound, derivation_of}
-use Rattle.fy_least.proofs.FindLemmas.{found-kept, found-accepted, found-untyped, found-limits, found-layered, found-printable, found-refused}
+use Rattle.fy_least.proofs.FindLemmas.{found-kept, found-accepted, found-untyped, found-limits, found-layered, found-pairs, found-printable, found-refused}
 use Rattle.fy_least.proofs.finder.find_as.Goals as goal
 
 never : (b : Bool) → b ≡ false → b ≡ true → ⊥
@@ -69,6 +70,17 @@ returns-in_ok-whole-clause-layered c =
     let h = subst (λ H. IsFound H p f) around c.in_ok-found.ensures.ok in
     let same = c.in_ok-whole.ensures ∙ ap (λ A. sub A (derivation_of f)) c.in_ok-wanted.ensures in
     subst (IsLayered subsumed) (sym same) (found-layered G p T f h)
+
+pub returns-in_ok-whole-clause-pairs : goal.returns-in_ok-whole-clause-pairs
+returns-in_ok-whole-clause-pairs c =
+    let G = in_scope c.args.context.now in
+    let p = reads c.args.p.now in
+    let T = plain_type c.args.ty.now in
+    let f = c.in_ok-found.found in
+    let around = ap (λ ts. forms_of (reverse (map plain_type ts))) c.as_slice.ensures.members in
+    let h = subst (λ H. IsFound H p f) around c.in_ok-found.ensures.ok in
+    let same = c.in_ok-whole.ensures ∙ ap (λ A. sub A (derivation_of f)) c.in_ok-wanted.ensures in
+    subst (HasAllPairs G p) (sym same) (found-pairs G p T f h)
 
 pub returns-else-fits-clause-found : goal.returns-else-fits-clause-found
 returns-else-fits-clause-found c =
