@@ -1,5 +1,5 @@
 -- The run of a phrase by the copy rule over the objects of a call.
-use Rattle.std.proofs.Common.{◌≡◌, ◌≢◌, ℕ, ◌≤◌, zero, suc, ◌+◌, ◌-◌, ◌<◌, Bool, true, false, sym, ap, ◌∙◌, refl, subst, arith, inl, inr, Some, None}
+use Rattle.std.proofs.Common.{◌≡◌, ◌≢◌, ℕ, ◌≤◌, zero, suc, ◌+◌, ◌-◌, ◌<◌, Bool, true, false, [], sym, ap, ◌∙◌, refl, subst, arith, inl, inr, Some, None}
 use Rattle.std.specs.Prelude.{◌⊎◌}
 use Rattle.std.specs.Option.{ForSome, option_map}
 use Rattle.std.specs.declared.option.Option.{Option}
@@ -21,12 +21,13 @@ use Rattle.fy_world.specs.World.{Contents}
 use Rattle.fy_world.specs.Note.{texts, ended_lines}
 use Rattle.fy_world.specs.Runs.{Copying, of_phrase, CopyEnd, ending_of_copy, IsCopyRun, copy_status, copy_notes, copied}
 use Rattle.fy_world.specs.Runs as copy_ends
-use Rattle.fy_world.specs.Did.{IsLeftBy, IsUnread}
+use Rattle.fy_world.specs.Did.{IsLeftBy, StopsAtRead, StopsAtPut}
 use Rattle.fy_world.specs.Working.{HasCopied}
 use Rattle.fy_world.specs.declared.world.Stop.{Stop}
-use Rattle.fy_world.specs.declared.world.Stop.TheVariants.{Input, Output, Notes, Memory}
+use Rattle.fy_world.specs.declared.world.Stop.TheVariants.{Keep, Input, Output, Notes, Memory}
 use Rattle.fy_world.proofs.Contents.{appended-nil, nothing, all_gained}
 use Rattle.fy_world.proofs.Parts.{but_notes, tell_all}
+use Rattle.fy_world.proofs.Stopping.{none_told}
 
 -- the run of which the input was taken is within the limit, too
 few_taken : (end : Ending) (n : ℕ) → taken_after end n ≤ n
@@ -113,8 +114,8 @@ gained_part before now output gained = subst (λ x. GainedPart before x output) 
 -- a part of what is due was done, where the run made n steps or more
 part_done : (p : Tree) (limit n : ℕ) (input : Bytes) (h c : Contents) (stop : Stop) → IsNeverStuck p → n ≤ limit → IsGoingBelow p input n → IsHeldBelow p input n → ForSome h.input (λ left. input ≡ left)
     → IsLeftBy (of_phrase (copying_by p limit input)) h.input c.input → GainedPart h.output c.output (copy_after p input n).output → c ≡ record h { input = c.input; output = c.output }
-    → (stop ≡ Input → IsUnread (Some (of_phrase (copying_by p limit input))) h.input c.input h.output c.output) → HasCopied p limit h c (Err stop)
-part_done p limit n input h c stop safe le below held told taken output rest unread =
+    → stop ≢ Keep → (stop ≡ Input → StopsAtRead (of_phrase (copying_by p limit input)) None h c []) → (stop ≡ Output → StopsAtPut (of_phrase (copying_by p limit input)) None h c []) → HasCopied p limit h c (Err stop)
+part_done p limit n input h c stop safe le below held told taken output rest no_keep unread unput =
     let copying = copying_by p limit input in
     let w = whole copying n safe le below held in
     let files = ap (λ x. x.files) rest in
@@ -132,7 +133,9 @@ part_done p limit n input h c stop safe le below held told taken output rest unr
         notes = subst (λ x. GainedPart h.notes x (ended_lines (copied copying w.m w.end).notes)) (sym notes) (nothing h.notes _);
         unchanged = λ _. files;
         whole = λ _. record { count = 0; gained = notes ∙ sym (appended-nil h.notes) };
+        unkept = λ keep. absurd (no_keep keep);
         unread = unread;
+        unput = λ output. inl (unput output);
       };
     }
 
@@ -141,7 +144,8 @@ pub copied_unfinished : (p : Tree) (limit : ℕ) (h c : Contents) (stop : Stop) 
     → HasCopied p limit h c (Err stop)
 copied_unfinished p limit h c stop safe memory part rest =
     part_done p limit part.made part.fed h c stop safe part.within part.going part.held part.told (record { steps = part.made; within = part.within; rest = part.rest }) (gained_part h.output c.output _ part.output) rest
-    (λ input. absurd (let clash : Memory ≡ Input = sym memory ∙ input in cc))
+    (λ keep. let clash : Memory ≡ Keep = sym memory ∙ keep in cc) (λ input. absurd (let clash : Memory ≡ Input = sym memory ∙ input in cc))
+    (λ output. absurd (let clash : Memory ≡ Output = sym memory ∙ output in cc))
 
 -- a step that reads puts nothing
 read_puts_none : (p : Tree) (input : Bytes) (n : ℕ) → AsksAt p input n → (copy_after p input n).output ≡ (copy_after p input (n - 1)).output
@@ -160,13 +164,17 @@ copied_unread p limit h c done safe is le r rest =
     let asks = subst (λ e. EndsSo e p r.fed done.steps limit) is r.end in
     let output = subst (λ e. HasPut e h.output c.output (copy_after p r.fed done.steps).output) is r.output in
     part_done p limit done.steps r.fed h c Input safe le asks.below r.held r.told (left_by p limit h c done le r) (gained_part h.output c.output _ output) rest
+    (λ clash. cc)
     (λ _. record {
       steps = done.steps;
       within = le;
       reads = (asks, r.held);
+      files = ap (λ (x : Contents). x.files) rest;
       rest = r.rest ∙ ap (λ e. option_map (λ _. (copy_after p r.fed (taken_after e done.steps)).input) h.input) is;
       output = output ∙ ap (λ bytes. appended h.output bytes) (read_puts_none p r.fed done.steps asks);
+      notes = none_told h.notes c.notes (ap (λ (x : Contents). x.notes) rest);
     })
+    (λ clash. absurd (let no : Input ≡ Output = clash in cc))
 
 -- a put failed
 pub copied_unwritten : (p : Tree) (limit : ℕ) (h c : Contents) (done : CopyRun) → IsNeverStuck p → done.end ≡ ends.OutputFault → done.steps ≤ limit → Ran p limit done h c → c ≡ record h { input = c.input; output = c.output }
@@ -175,7 +183,16 @@ copied_unwritten p limit h c done safe is le r rest =
     let put = subst (λ e. EndsSo e p r.fed done.steps limit) is r.end in
     let output = subst (λ e. HasPut e h.output c.output (copy_after p r.fed done.steps).output) is r.output in
     part_done p limit done.steps r.fed h c Output safe le put.below r.held r.told (left_by p limit h c done le r) output rest
-    (λ clash. absurd (let no : Output ≡ Input = clash in cc))
+    (λ clash. cc) (λ clash. absurd (let no : Output ≡ Input = clash in cc))
+    (λ _. record {
+      steps = done.steps;
+      within = le;
+      puts = (put, r.held);
+      files = ap (λ (x : Contents). x.files) rest;
+      rest = r.rest ∙ ap (λ e. option_map (λ _. (copy_after p r.fed (taken_after e done.steps)).input) h.input) is;
+      output = let since = r.unput is in record { part = since.part; gained = since.gained; begins = since.begins; reads = λ k few reads. since.reads k few reads.0 };
+      notes = none_told h.notes c.notes (ap (λ (x : Contents). x.notes) rest);
+    })
 
 -- ---- runs that no fault of the outside ended
 
@@ -268,6 +285,8 @@ copied_untold p limit h c d done stop safe is no_input no_output le r rest other
         notes = subst (λ n. GainedPart n d.notes (ended_lines due.notes)) notes (subst (λ ls. GainedPart c.notes d.notes (ended_lines (texts ls))) e.notes_are (part e.own.by e.own.is));
         unchanged = λ _. files;
         whole = λ memory. absurd (let clash : Notes ≡ Memory = sym stop_is ∙ memory in cc);
+        unkept = λ keep. absurd (let clash : Notes ≡ Keep = sym stop_is ∙ keep in cc);
         unread = λ input. absurd (let clash : Notes ≡ Input = sym stop_is ∙ input in cc);
+        unput = λ output. absurd (let clash : Notes ≡ Output = sym stop_is ∙ output in cc);
       };
     }

@@ -1,5 +1,6 @@
 -- The run of a machine over the objects of a call.
-use Rattle.std.proofs.Common.{◌≡◌, ◌≢◌, ℕ, ◌-◌, ◌+◌, ◌<◌, ◌≤◌, List, ◌++◌, sym, ap, ◌∙◌, refl, subst, arith, Some, None}
+use Rattle.std.proofs.Common.{◌≡◌, ◌≢◌, ℕ, ◌-◌, ◌+◌, ◌<◌, ◌≤◌, List, [], ◌++◌, sym, ap, ◌∙◌, refl, subst, inl, inr, arith, Some, None}
+use Rattle.std.specs.Prelude.{◌⊎◌}
 use Rattle.std.specs.Option.{ForSome, option_map}
 use Rattle.std.specs.declared.option.Option.{Option}
 use Rattle.std.specs.declared.result.Result.{Result}
@@ -19,12 +20,13 @@ use Rattle.rv_machine.proofs.Runs.{run_none, run_more}
 use Rattle.fy_world.specs.World.{Contents}
 use Rattle.fy_world.specs.Note.{texts, ended_lines}
 use Rattle.fy_world.specs.Runs.{Running, of_machine, IsRun, run_status, end_notes, traced, ran}
-use Rattle.fy_world.specs.Did.{IsLeftBy, IsUnread, WholeLines}
+use Rattle.fy_world.specs.Did.{IsLeftBy, StopsAtRead, StopsAtPut, WholeLines}
 use Rattle.fy_world.specs.Working.{ToldPart, HasRun}
 use Rattle.fy_world.specs.declared.world.Stop.{Stop}
-use Rattle.fy_world.specs.declared.world.Stop.TheVariants.{Input, Notes, Memory}
+use Rattle.fy_world.specs.declared.world.Stop.TheVariants.{Keep, Input, Output, Notes, Memory}
 use Rattle.fy_world.proofs.Contents.{nothing, all_gained}
 use Rattle.fy_world.proofs.Parts.{but_notes, tell_all}
+use Rattle.fy_world.proofs.Stopping.{StoppedBy, not_keep, not_memory, by_input, by_output, none_told}
 use Rattle.fy_world.proofs.WholeRuns.{whole_run, whole_stays}
 
 -- ---- what a run leaves of its input
@@ -63,24 +65,49 @@ read_puts_none program first n at =
     ap (λ (w : World). w.output) more ∙ ap (λ e. (settled e (instruction_step program world.core).core world).output) at.asks
 
 -- a run that a failed read stopped
-unread_by : (program : Program) (first : World) (n limit : ℕ) (end : Ending) (left left_now before now : Option Bytes) → n ≤ limit → EndsSo end program first n limit
-    → left_now ≡ option_map (λ _. (run program (taken_after end n) first).input) left → HasPut end before now (run program n first).output → end ≡ ends.InputFault
-    → IsUnread (Some (of_machine (record { program = program; first = first; limit = limit }))) left left_now before now
-unread_by program first n limit end left left_now before now le so rest put is =
-    let at = subst (λ e. EndsSo e program first n limit) is so in
-    let gained = subst (λ e. HasPut e before now (run program n first).output) is put in
+unread_by : (program : Program) (core : Core) (limit : ℕ) (done : MachineRun) (after : Core) (h c : Contents) → done.steps ≤ limit → (r : Ran program core limit done after h c) → c ≡ record h { input = c.input; output = c.output } → done.end ≡ ends.InputFault
+    → StopsAtRead (of_machine (running_by program core limit r.fed)) None h c []
+unread_by program core limit done after h c le r others is =
+    let first = going_world core r.fed in
+    let n = done.steps in
+    let at = subst (λ e. EndsSo e program first n limit) is r.end in
+    let gained = subst (λ e. HasPut e h.output c.output (run program n first).output) is r.output in
     record {
       steps = n;
       within = le;
       reads = at;
-      rest = rest ∙ ap (λ e. option_map (λ _. (run program (taken_after e n) first).input) left) is;
-      output = gained ∙ ap (λ bytes. appended before bytes) (read_puts_none program first n at);
+      files = ap (λ (x : Contents). x.files) others;
+      rest = r.rest ∙ ap (λ e. option_map (λ _. (run program (taken_after e n) first).input) h.input) is;
+      output = gained ∙ ap (λ bytes. appended h.output bytes) (read_puts_none program first n at);
+      notes = none_told h.notes c.notes (ap (λ (x : Contents). x.notes) others);
     }
 
+-- a run that a failed put stopped
+unput_by : (program : Program) (core : Core) (limit : ℕ) (done : MachineRun) (after : Core) (h c : Contents) → done.steps ≤ limit → (r : Ran program core limit done after h c) → c ≡ record h { input = c.input; output = c.output } → done.end ≡ ends.OutputFault
+    → StopsAtPut (of_machine (running_by program core limit r.fed)) None h c []
+unput_by program core limit done after h c le r others is =
+    let first = going_world core r.fed in
+    let n = done.steps in
+    let since = r.unput is in
+    record {
+      steps = n;
+      within = le;
+      puts = subst (λ e. EndsSo e program first n limit) is r.end;
+      files = ap (λ (x : Contents). x.files) others;
+      rest = r.rest ∙ ap (λ e. option_map (λ _. (run program (taken_after e n) first).input) h.input) is;
+      output = record { part = since.part; gained = since.gained; begins = since.begins; reads = since.reads };
+      notes = none_told h.notes c.notes (ap (λ (x : Contents). x.notes) others);
+    }
+
+-- what tells lines is stopped by nothing else
+pub telling_only : (stop other : Stop) → (stop ≡ Notes) ⊎ (stop ≡ Memory) → Notes ≢ other → Memory ≢ other → stop ≢ other
+telling_only stop other (inl notes) a b = λ is. a (sym notes ∙ is)
+telling_only stop other (inr memory) a b = λ is. b (sym memory ∙ is)
+
 -- a run that a fault of the outside ended: a part of what is due was done
-pub run_faulted : (program : Program) (core : Core) (limit : ℕ) (trace : Option ℕ) (h c : Contents) (stop : Stop) (done : MachineRun) (after : Core) → (stop ≡ Input → done.end ≡ ends.InputFault) → stop ≢ Memory
+pub run_faulted : (program : Program) (core : Core) (limit : ℕ) (trace : Option ℕ) (h c : Contents) (stop : Stop) (done : MachineRun) (after : Core) → StoppedBy stop done.end
     → done.steps ≤ limit → Ran program core limit done after h c → c ≡ record h { input = c.input; output = c.output } → HasRun program core limit trace None h c (Err stop)
-run_faulted program core limit trace h c stop done after input_only other le r rest =
+run_faulted program core limit trace h c stop done after by le r rest =
     let running = running_by program core limit r.fed in
     let whole = whole_run running refl in
     let stays = whole_stays running whole.n whole.end whole.is_run whole.is_run.within in
@@ -99,8 +126,10 @@ run_faulted program core limit trace h c stop done after input_only other le r r
         output = subst (λ (w : World). GainedPart h.output c.output w.output) stays r.part;
         notes = subst (λ n. GainedPart h.notes n (ended_lines (ran running trace None whole.n whole.end).notes)) (sym notes) (nothing h.notes _);
         unchanged = λ _. files;
-        whole = λ memory. absurd (other memory);
-        unread = λ input. unread_by program running.first done.steps limit done.end h.input c.input h.output c.output le r.end r.rest r.output (input_only input);
+        whole = λ memory. absurd (not_memory stop done.end by memory);
+        unkept = λ keep. absurd (not_keep stop done.end by keep);
+        unread = λ input. unread_by program core limit done after h c le r rest (by_input stop done.end by input);
+        unput = λ output. inl (unput_by program core limit done after h c le r rest (by_output stop done.end by output));
       };
     }
 
@@ -176,8 +205,8 @@ run_told program core limit trace h c d done after lines status machine no_input
 -- a part of the lines was told
 pub run_told_part : (program : Program) (core : Core) (limit : ℕ) (trace : Option ℕ) (h c d : Contents) (done : MachineRun) (after : Core) (lines : RunEnd → List Bytes) (stop : Stop) → IsMachineEnd done.end → done.end ≢ ends.InputFault → done.end ≢ ends.OutputFault → done.steps ≤ limit
     → (r : Ran program core limit done after h c) → c ≡ record h { input = c.input; output = c.output } → ((end : RunEnd) → lines end ≡ traced trace (running_by program core limit r.fed) done.steps ++ texts (end_notes end done.steps))
-    → d ≡ record c { notes = d.notes } → ((end : RunEnd) → done.end ≡ ending_of_run end → ToldPart (lines end) c.notes d.notes stop) → stop ≢ Input → HasRun program core limit trace None h d (Err stop)
-run_told_part program core limit trace h c d done after lines stop machine no_input no_output le r rest lines_are others told no_stop =
+    → d ≡ record c { notes = d.notes } → ((end : RunEnd) → done.end ≡ ending_of_run end → ToldPart (lines end) c.notes d.notes stop) → (stop ≡ Notes) ⊎ (stop ≡ Memory) → HasRun program core limit trace None h d (Err stop)
+run_told_part program core limit trace h c d done after lines stop machine no_input no_output le r rest lines_are others told telling =
     let e = done_but program core limit trace h c done after machine no_input no_output le r rest in
     let running = running_by program core limit r.fed in
     let due = ran running trace None done.steps e.own.by in
@@ -200,7 +229,9 @@ run_told_part program core limit trace h c d done after lines stop machine no_in
         notes = subst (λ n. GainedPart n d.notes (ended_lines due.notes)) notes part.part;
         unchanged = λ _. files;
         whole = λ memory. subst (λ n. WholeLines due.notes n d.notes) notes (part.whole memory);
-        unread = λ input. absurd (no_stop input);
+        unkept = λ keep. absurd (telling_only stop Keep telling (λ clash. cc) (λ clash. cc) keep);
+        unread = λ input. absurd (telling_only stop Input telling (λ clash. cc) (λ clash. cc) input);
+        unput = λ output. absurd (telling_only stop Output telling (λ clash. cc) (λ clash. cc) output);
       };
     }
 
@@ -218,4 +249,4 @@ pub run_untold : (program : Program) (core : Core) (limit : ℕ) (h c d : Conten
     → HasRun program core limit None None h d (Err stop)
 run_untold program core limit h c d done after stop machine no_input no_output le r rest others part is =
     run_told_part program core limit None h c d done after (λ end. texts (end_notes end done.steps)) stop machine no_input no_output le r rest (λ end. refl) others
-    (λ end so. record { part = part end so; whole = λ memory. absurd (let clash : Notes ≡ Memory = sym is ∙ memory in cc) }) (λ input. let clash : Notes ≡ Input = sym is ∙ input in cc)
+    (λ end so. record { part = part end so; whole = λ memory. absurd (let clash : Notes ≡ Memory = sym is ∙ memory in cc) }) (inl is)

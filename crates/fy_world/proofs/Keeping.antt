@@ -18,13 +18,14 @@ use Rattle.fy_world.specs.World.{Contents}
 use Rattle.fy_world.specs.Note.{ended_lines}
 use Rattle.fy_build.specs.Headline.{AreBytes}
 use Rattle.fy_world.specs.Runs.{of_machine, Due, Running, ran}
-use Rattle.fy_world.specs.Did.{files_after, after_all, InputPart, IsUnread, Did}
+use Rattle.fy_world.specs.Did.{files_after, after_all, InputPart, Did}
 use Rattle.fy_world.specs.Working.{IsUnbegun, WasKept, KeepsSuch, Keeps, HasRun, HasKeptAndRun, KeepsAndRuns}
 use Rattle.fy_world.specs.declared.world.Stop.{Stop}
-use Rattle.fy_world.specs.declared.world.Stop.TheVariants.{Keep, Input, Notes, Memory}
+use Rattle.fy_world.specs.declared.world.Stop.TheVariants.{Keep, Input, Output, Notes, Memory}
 use Rattle.fy_world.proofs.Contents.{appended-nil, nothing}
 use Rattle.fy_world.proofs.WholeRuns.{whole_run}
 use Rattle.fy_world.proofs.Executing.{running_by, all_left}
+use Rattle.fy_world.proofs.Stopping.{KeptBefore, unread_behind, unput_behind}
 
 -- what is due where an image is kept and nothing else
 abbrev kept_due : Bytes → Bytes → Due
@@ -49,7 +50,7 @@ was_kept IsSuch name bytes h c status spelled kept none_is = record {
   bytes = bytes;
   spelled = spelled;
   ready = λ e. cc;
-  closed = λ e. cc;
+  only = tt;
   did = (
     none_is,
     kept ∙ (λ i. record { files = files_after h.files (Some (name, bytes)); input = h.input; output = sym (appended-nil h.output) i; notes = sym (appended-nil h.notes) i }),
@@ -65,7 +66,7 @@ not_kept IsSuch name bytes h c stop spelled rest keep unknown =
       bytes = bytes;
       spelled = spelled;
       ready = λ e. other (err_is stop Memory e);
-      closed = λ e. no_input (err_is stop Input e);
+      only = keep;
       did = record {
         files = inr (inr (keep, unknown));
         input = ap (λ (x : Contents). x.input) rest;
@@ -73,7 +74,9 @@ not_kept IsSuch name bytes h c stop spelled rest keep unknown =
         notes = subst (λ n. GainedPart h.notes n []) (sym (ap (λ (x : Contents). x.notes) rest)) (nothing h.notes []);
         unchanged = λ memory. absurd (other memory);
         whole = λ memory. absurd (other memory);
+        unkept = λ _. rest;
         unread = λ input. absurd (no_input input);
+        unput = λ output. absurd (let clash : Keep ≡ Output = sym keep ∙ output in cc);
       };
     }
 
@@ -92,14 +95,15 @@ pub none_gained : (before now : Option Bytes) → GainedPart before now [] → n
 none_gained before now g = g.gained ∙ ap (λ part. appended before part) (empty_part g.part g.begins.rest g.begins.is) ∙ appended-nil before
 
 -- the image wasn't kept, so that nothing ran
-pub kept_none : (image : Image) (program : Program) (limit : ℕ) (name : Bytes) (h c : Contents) (stop : Stop) → IsProgramOf image program → WasKept (IsSpelled Two image) name h c (Err stop) → stop ≢ Memory → stop ≢ Input
+pub kept_none : (image : Image) (program : Program) (limit : ℕ) (name : Bytes) (h c : Contents) (stop : Stop) → IsProgramOf image program → WasKept (IsSpelled Two image) name h c (Err stop) → stop ≡ Keep
     → HasKeptAndRun image limit name h c (Err stop)
-kept_none image program limit name h c stop of was other no_input =
+kept_none image program limit name h c stop of was keep =
     let input = some_input h.input in
     let running = running_by program (start_of image) limit input.0 in
     let whole = whole_run running refl in
     let due = ran running None (Some (name, was.bytes)) whole.n whole.end in
     let p = was.did in
+    let other : stop ≢ Memory = λ memory. let clash : Keep ≡ Memory = sym keep ∙ memory in cc in
     let same_output : c.output ≡ h.output = none_gained h.output c.output p.output in
     let same_notes : c.notes ≡ h.notes = none_gained h.notes c.notes p.notes in
     record {
@@ -122,12 +126,17 @@ kept_none image program limit name h c stop of was other no_input =
             notes = subst (λ n. GainedPart h.notes n (ended_lines due.notes)) (sym same_notes) (nothing h.notes (ended_lines due.notes));
             unchanged = λ memory. absurd (other memory);
             whole = λ memory. absurd (other memory);
-            unread = λ input. absurd (no_input input);
+            unkept = p.unkept;
+            unread = λ input. absurd (let clash : Keep ≡ Input = sym keep ∙ input in cc);
+            unput = λ output. absurd (let clash : Keep ≡ Output = sym keep ∙ output in cc);
           };
         };
       };
       ready = λ memory. other (let same : stop ≡ Memory = cc in same);
     }
+
+kept_before : (running : Running) (name bytes : Bytes) (n : ℕ) (end : RunEnd) (h c : Contents) → c ≡ record h { files = files_after h.files (Some (name, bytes)) } → KeptBefore (ran running None None n end) (ran running None (Some (name, bytes)) n end) h c
+kept_before running name bytes n end h c kept = record { none = refl; output = refl; rest = refl; kept = kept }
 
 did_kept : (running : Running) (name bytes : Bytes) (n : ℕ) (end : RunEnd) (h c d : Contents) (result : Result ℕ Stop) → result ≢ Err Memory → c ≡ record h { files = files_after h.files (Some (name, bytes)) }
     → Did (ran running None None n end) c d result → Did (ran running None (Some (name, bytes)) n end) h d result
@@ -142,7 +151,9 @@ did_kept running name bytes n end h c d (Err stop) ready kept p =
       notes = subst (λ n. GainedPart n d.notes (ended_lines due.notes)) (ap (λ (x : Contents). x.notes) kept) p.notes;
       unchanged = λ memory. absurd (not_memory memory);
       whole = λ memory. absurd (not_memory memory);
-      unread = λ input. subst (λ (x : Contents). IsUnread (Some (of_machine running)) x.input d.input x.output d.output) kept (p.unread input);
+      unkept = λ keep. p.unkept keep ∙ ap (λ (x : Contents). record x { files = d.files }) kept;
+      unread = λ input. unread_behind (of_machine running) (ran running None None n end) due h c d (kept_before running name bytes n end h c kept) (p.unread input);
+      unput = λ output. unput_behind (of_machine running) (ran running None None n end) due h c d (kept_before running name bytes n end h c kept) (p.unput output);
     }
 
 -- the image was kept, and then it ran
@@ -181,7 +192,7 @@ keeps_failed IsSuch name bytes h c stop spelled rest same unknown (inr memory) =
 -- what these bytes are
 pub kept_such : (bytes : Bytes) (IsSuch : Bytes → Type 0) (name : Bytes) (h c : Contents) (result : Result ℕ Stop) → IsSuch bytes → KeepsSuch (λ held. held ≡ bytes) name h c result → KeepsSuch IsSuch name h c result
 kept_such bytes IsSuch name h c result such (inl unbegun) = inl unbegun
-kept_such bytes IsSuch name h c result such (inr was) = inr (record { bytes = was.bytes; spelled = subst IsSuch (sym was.spelled) such; ready = was.ready; closed = was.closed; did = was.did })
+kept_such bytes IsSuch name h c result such (inr was) = inr (record { bytes = was.bytes; spelled = subst IsSuch (sym was.spelled) such; ready = was.ready; only = was.only; did = was.did })
 
 pub ran_kept : (image : Image) (program : Program) (core : Core) (limit : ℕ) (name : Bytes) (h c d : Contents) (status : ℕ) (result : Result ℕ Stop) → IsProgramOf image program → core ≡ start_of image → Keeps image name h c (Ok status)
     → HasRun program core limit None None c d result → result ≢ Err Memory → KeepsAndRuns image limit name h d result
@@ -190,4 +201,4 @@ ran_kept image program core limit name h c d status result of start (inr was) ru
 
 pub ran_unkept : (image : Image) (program : Program) (limit : ℕ) (name : Bytes) (h c : Contents) (stop : Stop) → IsProgramOf image program → Keeps image name h c (Err stop) → KeepsAndRuns image limit name h c (Err stop)
 ran_unkept image program limit name h c stop of (inl unbegun) = inl unbegun
-ran_unkept image program limit name h c stop of (inr was) = inr (kept_none image program limit name h c stop of was (λ e. was.ready (ap (λ s. Err s) e)) (λ e. was.closed (ap (λ s. Err s) e)))
+ran_unkept image program limit name h c stop of (inr was) = inr (kept_none image program limit name h c stop of was was.only)

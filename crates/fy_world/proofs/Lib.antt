@@ -4,6 +4,7 @@ pub mod Endings
 pub mod Lines
 pub mod WholeRuns
 pub mod Parts
+pub mod Stopping
 pub mod Executing
 pub mod Copying
 pub mod Tracing

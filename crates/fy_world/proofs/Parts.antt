@@ -1,12 +1,13 @@
 -- Doing what is due, or a part of it.
-use Rattle.std.proofs.Common.{◌≡◌, ◌≢◌, ℕ, [], sym, ap, ◌∙◌, refl, subst, Some, None, Ok, Err}
+use Rattle.std.proofs.Common.{◌≡◌, ◌≢◌, ℕ, List, [], sym, ap, ◌∙◌, refl, subst, Some, None, Ok, Err}
 use Rattle.std.specs.declared.option.Option.{Option}
 use Rattle.std.specs.FinMap.{get}
 use Rattle.fy_base.specs.Outside.{Bytes, Folder, GainedPart, appended, Tells}
 use Rattle.fy_world.specs.World.{Contents}
-use Rattle.fy_world.specs.Note.{ended_lines}
+use Rattle.fy_world.specs.Note.{texts, ended_lines}
+use Rattle.fy_world.specs.declared.note.Note.{Note}
 use Rattle.fy_world.specs.declared.world.Stop.{Stop}
-use Rattle.fy_world.specs.declared.world.Stop.TheVariants.{Input, Output, Memory}
+use Rattle.fy_world.specs.declared.world.Stop.TheVariants.{Keep, Input, Output, Notes, Memory}
 use Rattle.fy_world.specs.Runs.{Due, told, written}
 use Rattle.fy_world.specs.Did.{after_all, Part, Did}
 use Rattle.fy_world.proofs.Contents.{appended-nil, nothing}
@@ -25,7 +26,9 @@ part_none c stop other = record {
   notes = nothing c.notes [];
   unchanged = λ _. refl;
   whole = λ _. record { count = 0; gained = sym (appended-nil c.notes) };
+  unkept = λ keep. refl;
   unread = λ input. absurd (other input);
+  unput = λ output. ap (λ n. record c { notes = n }) (sym (appended-nil c.notes));
 }
 
 -- all but the notes was done
@@ -52,5 +55,22 @@ written_part b c bytes stop rest part stop_is = record {
   notes = subst (λ n. GainedPart b.notes n []) (sym (ap (λ (x : Contents). x.notes) rest)) (nothing b.notes []);
   unchanged = λ _. ap (λ (x : Contents). x.files) rest;
   whole = λ memory. let clash : Output ≡ Memory = sym stop_is ∙ memory in absurd cc;
+  unkept = λ keep. let clash : Output ≡ Keep = sym stop_is ∙ keep in absurd cc;
   unread = λ input. let clash : Output ≡ Input = sym stop_is ∙ input in absurd cc;
+  unput = λ output. rest ∙ ap (λ n. record b { output = c.output; notes = n }) (sym (appended-nil b.notes));
+}
+
+-- ---- what notes tell, and nothing else
+
+pub told_part : (status : ℕ) (notes : List Note) (b c : Contents) (stop : Stop) → c ≡ record b { notes = c.notes } → GainedPart b.notes c.notes (ended_lines (texts notes)) → stop ≡ Notes → Did (told status notes) b c (Err stop)
+told_part status notes b c stop rest part stop_is = record {
+  files = ap (λ (x : Contents). x.files) rest;
+  input = ap (λ (x : Contents). x.input) rest;
+  output = subst (λ o. GainedPart b.output o []) (sym (ap (λ (x : Contents). x.output) rest)) (nothing b.output []);
+  notes = part;
+  unchanged = λ _. ap (λ (x : Contents). x.files) rest;
+  whole = λ memory. let clash : Notes ≡ Memory = sym stop_is ∙ memory in absurd cc;
+  unkept = λ keep. let clash : Notes ≡ Keep = sym stop_is ∙ keep in absurd cc;
+  unread = λ input. let clash : Notes ≡ Input = sym stop_is ∙ input in absurd cc;
+  unput = λ output. let clash : Notes ≡ Output = sym stop_is ∙ output in absurd cc;
 }

@@ -1,10 +1,11 @@
 -- Runs whose output is followed by a summary.
-use Rattle.std.proofs.Common.{◌≡◌, ◌≢◌, ℕ, ◌≤◌, ◌++◌, length, sym, ap, ◌∙◌, subst, append_assoc, Some, None, inl, inr}
+use Rattle.std.specs.Prelude.{◌⊎◌}
+use Rattle.std.proofs.Common.{◌≡◌, ◌≢◌, ℕ, ◌≤◌, [], ◌∷◌, ◌++◌, length, sym, ap, ◌∙◌, refl, subst, append_assoc, Some, None, inl, inr}
 use Rattle.std.specs.Option.{ForSome}
 use Rattle.std.specs.declared.option.Option.{Option}
 use Rattle.std.specs.declared.result.Result.{Result}
 use Rattle.std.specs.declared.result.Result.TheVariants.{Ok, Err}
-use Rattle.fy_base.specs.Outside.{Bytes, appended, Gained, GainedPart}
+use Rattle.fy_base.specs.Outside.{Bytes, appended, Gained, GainedPart, IsPrefix}
 use Rattle.fy_base.specs.declared.data.Ending.TheVariants as ends
 use Rattle.fy_build.specs.Shown.{RunEnd, ending_of_run}
 use Rattle.fy_image.specs.Form.{IsSpelled}
@@ -15,18 +16,21 @@ use Rattle.rv_insn.specs.Program.{Program}
 use Rattle.rv_insn.specs.Step.{Core}
 use Rattle.rv_machine.specs.Start.{IsProgramOf, start_of}
 use Rattle.rv_machine.specs.Ends.{IsMachineEnd}
+use Rattle.rv_machine.specs.Run.{World, run}
 use Rattle.rv_machine.specs.declared.run.MachineRun.{MachineRun}
 use Rattle.fy_world.specs.World.{Contents}
 use Rattle.fy_world.specs.Note.{texts, ended_lines}
 use Rattle.fy_build.specs.Headline.{AreBytes}
 use Rattle.fy_world.specs.Runs.{Running, of_machine, run_status, end_notes, ran, sampled}
-use Rattle.fy_world.specs.Did.{files_after, after_all, InputPart, IsUnread, Did}
+use Rattle.fy_world.specs.Did.{files_after, after_all, InputPart, Did}
 use Rattle.fy_world.specs.Working.{WasKept, Keeps, HasRun, HasSampled, HasKeptAndSampled, KeepsAndSamples, SumsUp}
 use Rattle.fy_world.specs.declared.world.Stop.{Stop}
-use Rattle.fy_world.specs.declared.world.Stop.TheVariants.{Input, Output, Notes, Memory}
+use Rattle.fy_world.specs.declared.world.Stop.TheVariants.{Keep, Input, Output, Notes, Memory}
 use Rattle.fy_world.proofs.Contents.{appended-appended, appended-nil, nothing, all_gained, gained_both}
 use Rattle.fy_world.proofs.Executing.{Ran, done_but, running_by}
 use Rattle.fy_world.proofs.Keeping.{kept_none}
+use Rattle.fy_world.proofs.WholeRuns.{whole_stays}
+use Rattle.fy_world.proofs.Stopping.{KeptBefore, unread_behind, unput_behind, unput_more, none_told}
 
 -- ---- a run
 
@@ -69,9 +73,30 @@ sampled_stopped program core limit kept h c stop r =
         notes = p.notes;
         unchanged = p.unchanged;
         whole = p.whole;
+        unkept = p.unkept;
         unread = p.unread;
+        unput = λ output.
+            unput_more (of_machine (running_by program core limit r.input)) due (sampled due) h c (record { more = summary due.status (length due.output); output = refl; kept = refl; rest = refl }) (p.unput output);
       };
     }
+
+-- there are some bytes
+abbrev AreSome : Bytes → Type 0
+AreSome [] = ⊥
+AreSome (byte ∷ bytes) = Unit {0}
+
+-- what sums up is stopped by nothing else
+abbrev InOrder : Stop → Option Bytes → Option Bytes → Type 0
+InOrder stop before now = ((stop ≡ Output) × (now ≡ before)) ⊎ (stop ≡ Notes)
+
+summing_only : (before now : Option Bytes) (stop other : Stop) → InOrder stop before now → Output ≢ other → Notes ≢ other → stop ≢ other
+summing_only before now stop other (inl output) a b = λ is. a (sym output.0 ∙ is)
+summing_only before now stop other (inr notes) a b = λ is. b (sym notes ∙ is)
+
+-- and where that was the output, no line was told
+quiet_on_output : (before now : Option Bytes) (stop : Stop) → InOrder stop before now → stop ≡ Output → now ≡ before
+quiet_on_output before now stop (inl output) is = output.1
+quiet_on_output before now stop (inr notes) is = absurd (let clash : Notes ≡ Output = sym notes ∙ is in cc)
 
 -- a run that no fault of the outside ended, with its summary
 pub sampled_done : (program : Program) (core : Core) (limit : ℕ) (h c d : Contents) (done : MachineRun) (after : Core) (result : Result ℕ Stop) → IsMachineEnd done.end → done.end ≢ ends.InputFault → done.end ≢ ends.OutputFault → done.steps ≤ limit
@@ -105,6 +130,8 @@ sampled_done program core limit h c d done after (Err stop) machine no_input no_
     let lines = ended_lines (texts (end_notes e.own.by done.steps)) in
     let same : summary (run_status e.own.by) done.bytes ≡ summary (run_status e.own.by) (length due.output) = ap (λ k. summary (run_status e.own.by) k) (r.counted no_output) in
     let files : d.files ≡ h.files = s.files ∙ ap (λ (x : Contents). x.files) rest in
+    let running = running_by program core limit r.fed in
+    let puts : (run program limit running.first).output ≡ due.output = ap (λ (w : World). w.output) (whole_stays running done.steps e.own.by e.is_run le) in
     record {
       input = r.fed;
       fed = r.told;
@@ -118,8 +145,20 @@ sampled_done program core limit h c d done after (Err stop) machine no_input no_
         output = subst (λ t. GainedPart h.output d.output (due.output ++ t)) same (part_behind h.output c.output d.output due.output _ (ap (λ (x : Contents). x.output) e.all) s.output);
         notes = subst (λ n. GainedPart n d.notes lines) (ap (λ (x : Contents). x.notes) rest) s.notes;
         unchanged = λ _. files;
-        whole = λ memory. absurd (s.not_memory memory);
-        unread = λ input. absurd (s.not_input input);
+        whole = λ memory. absurd (summing_only c.notes d.notes stop Memory s.in_order (λ clash. cc) (λ clash. cc) memory);
+        unkept = λ keep. absurd (summing_only c.notes d.notes stop Keep s.in_order (λ clash. cc) (λ clash. cc) keep);
+        unread = λ input. absurd (summing_only c.notes d.notes stop Input s.in_order (λ clash. cc) (λ clash. cc) input);
+        unput = λ output. inr (record {
+          more = summary (run_status e.own.by) (length due.output);
+          some = λ none. subst AreSome none tt;
+          due_is = ap (λ b. b ++ summary (run_status e.own.by) (length due.output)) (sym puts);
+          files = files;
+          rest = s.input ∙ ap (λ (x : Contents). x.input) e.all;
+          part = s.output.part;
+          begins = subst (λ t. IsPrefix s.output.part t) same s.output.begins;
+          output = gained_both h.output c.output d.output due.output s.output.part (ap (λ (x : Contents). x.output) e.all) s.output.gained ∙ ap (λ b. appended h.output (b ++ s.output.part)) (sym puts);
+          notes = none_told h.notes d.notes (quiet_on_output c.notes d.notes stop s.in_order output ∙ ap (λ (x : Contents). x.notes) rest);
+        });
       };
     }
 
@@ -142,8 +181,7 @@ summed_untold h c d done given stop own is put others part stop_is =
       input = ap (λ (x : Contents). x.input) others ∙ ap (λ (x : Contents). x.input) put;
       output = subst (λ s. GainedPart h.output d.output (summary s done.bytes)) is (subst (λ o. GainedPart h.output o sum) (sym output) (all_gained h.output sum));
       notes = subst (λ n. GainedPart n d.notes lines) (ap (λ (x : Contents). x.notes) put) part;
-      not_memory = λ e. let clash : Notes ≡ Memory = sym stop_is ∙ e in cc;
-      not_input = λ e. let clash : Notes ≡ Input = sym stop_is ∙ e in cc;
+      in_order = inr stop_is;
     }
 
 -- or a part of the summary was put
@@ -156,11 +194,14 @@ summed_unput h c done given stop own is rest part stop_is =
       input = ap (λ (x : Contents). x.input) rest;
       output = subst (λ s. GainedPart h.output c.output (summary s done.bytes)) is part;
       notes = subst (λ n. GainedPart h.notes n lines) (sym (ap (λ (x : Contents). x.notes) rest)) (nothing h.notes lines);
-      not_memory = λ e. let clash : Output ≡ Memory = sym stop_is ∙ e in cc;
-      not_input = λ e. let clash : Output ≡ Input = sym stop_is ∙ e in cc;
+      in_order = inl (stop_is, ap (λ (x : Contents). x.notes) rest);
     }
 
 -- ---- an image that is kept and sampled
+
+kept_before : (running : Running) (name bytes : Bytes) (n : ℕ) (end : RunEnd) (h c : Contents) → c ≡ record h { files = files_after h.files (Some (name, bytes)) }
+    → KeptBefore (sampled (ran running None None n end)) (sampled (ran running None (Some (name, bytes)) n end)) h c
+kept_before running name bytes n end h c kept = record { none = refl; output = refl; rest = refl; kept = kept }
 
 did_kept : (running : Running) (name bytes : Bytes) (n : ℕ) (end : RunEnd) (h c d : Contents) (result : Result ℕ Stop) → result ≢ Err Memory → c ≡ record h { files = files_after h.files (Some (name, bytes)) }
     → Did (sampled (ran running None None n end)) c d result → Did (sampled (ran running None (Some (name, bytes)) n end)) h d result
@@ -175,7 +216,9 @@ did_kept running name bytes n end h c d (Err stop) ready kept p =
       notes = subst (λ n. GainedPart n d.notes (ended_lines due.notes)) (ap (λ (x : Contents). x.notes) kept) p.notes;
       unchanged = λ memory. absurd (not_memory memory);
       whole = λ memory. absurd (not_memory memory);
-      unread = λ input. subst (λ (x : Contents). IsUnread (Some (of_machine running)) x.input d.input x.output d.output) kept (p.unread input);
+      unkept = λ keep. p.unkept keep ∙ ap (λ (x : Contents). record x { files = d.files }) kept;
+      unread = λ input. unread_behind (of_machine running) (sampled (ran running None None n end)) due h c d (kept_before running name bytes n end h c kept) (p.unread input);
+      unput = λ output. unput_behind (of_machine running) (sampled (ran running None None n end)) due h c d (kept_before running name bytes n end h c kept) (p.unput output);
     }
 
 kept_and_sampled : (image : Image) (program : Program) (core : Core) (limit : ℕ) (name : Bytes) (h c d : Contents) (status : ℕ) (result : Result ℕ Stop) → IsProgramOf image program → core ≡ start_of image → WasKept (IsSpelled Two image) name h c (Ok status)
@@ -209,7 +252,7 @@ sampled_kept image program core limit name h c d status result of start (inr was
 pub sampled_unkept : (image : Image) (program : Program) (limit : ℕ) (name : Bytes) (h c : Contents) (stop : Stop) → IsProgramOf image program → Keeps image name h c (Err stop) → KeepsAndSamples image limit name h c (Err stop)
 sampled_unkept image program limit name h c stop of (inl unbegun) = inl unbegun
 sampled_unkept image program limit name h c stop of (inr was) =
-    let none = kept_none image program limit name h c stop of was (λ e. was.ready (ap (λ s. Err s) e)) (λ e. was.closed (ap (λ s. Err s) e)) in
+    let none = kept_none image program limit name h c stop of was was.only in
     inr (record {
       bytes = none.bytes;
       spelled = none.spelled;

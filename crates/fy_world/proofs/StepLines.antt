@@ -24,16 +24,17 @@ use Rattle.fy_world.specs.World.{Contents}
 use Rattle.fy_world.specs.Steps.{step_text}
 use Rattle.fy_world.specs.Stepping.{Outer, Exchanged, went, wrote, took, was_over, faulted, stuck_at, lost, refused, StepPart, Turned, TurnStopped, noted, outer_of, step_line, text_of, text_put}
 use Rattle.fy_world.specs.declared.world.Stop.{Stop}
-use Rattle.fy_world.specs.declared.world.Stop.TheVariants.{Input, Output, Notes, Memory}
+use Rattle.fy_world.specs.declared.world.Stop.TheVariants.{Keep, Input, Output, Notes, Memory}
 use Rattle.fy_world.proofs.Contents.{nothing, all_gained}
 use Rattle.fy_world.proofs.Keeping.{none_gained}
+use Rattle.fy_world.proofs.Stopping.{none_told}
 use Rattle.fy_world.proofs.Stepwise.{load_went, load_waits, load_halts}
 
 -- ---- lines
 
 -- memory was wanting before anything was put
 pub none_put : (line text : Bytes) (b : Contents) → StepPart line text b b Memory
-none_put line text b = record { files = refl; input = refl; output = nothing b.output text; notes = nothing b.notes line; whole = λ _. inl refl }
+none_put line text b = record { files = refl; input = refl; output = nothing b.output text; notes = nothing b.notes line; whole = λ _. inl refl; first = λ notes memory. absurd (memory refl); other = λ clash. cc }
 
 -- a line was put
 pub line_told : {T E : Type 0} (result : Result T E) (b c : Contents) (put line : Bytes) → put ≡ line → OnOk result (c ≡ record b { notes = appended b.notes put }) → OnOk result (c ≡ record b { notes = appended b.notes line })
@@ -49,6 +50,8 @@ line_part (Err s) b c put line is rest part stop = record {
   output = subst (λ o. GainedPart b.output o []) (sym (ap (λ (x : Contents). x.output) rest)) (nothing b.output []);
   notes = subst (λ (bytes : Bytes). GainedPart b.notes c.notes bytes) is part;
   whole = λ memory. absurd (let clash : Notes ≡ Memory = sym stop ∙ memory in cc);
+  first = λ notes memory. absurd (notes stop);
+  other = λ keep. let clash : Notes ≡ Keep = sym stop ∙ keep in cc;
 }
 
 -- ---- a datum
@@ -70,6 +73,8 @@ datum_part (Err s) kind v b c put text is written rest part stop = record {
   output = subst (λ (bytes : Bytes). GainedPart b.output c.output bytes) (is ∙ sym (text_is kind v text (sym written))) part;
   notes = subst (λ n. GainedPart b.notes n []) (sym (ap (λ (x : Contents). x.notes) rest)) (nothing b.notes []);
   whole = λ memory. absurd (let clash : Output ≡ Memory = sym stop ∙ memory in cc);
+  first = λ notes memory. none_told b.notes c.notes (ap (λ (x : Contents). x.notes) rest);
+  other = λ keep. let clash : Output ≡ Keep = sym stop ∙ keep in cc;
 }
 
 -- a datum of the kind has a text
@@ -87,6 +92,8 @@ line_stopped line text b c stop p = record {
   output = subst (λ o. GainedPart b.output o text) (sym (none_gained b.output c.output p.output)) (nothing b.output text);
   notes = p.notes;
   whole = p.whole;
+  first = p.first;
+  other = p.other;
 }
 
 -- the text was stopped behind the line
@@ -99,6 +106,8 @@ text_stopped line text b c d stop told p =
       output = subst (λ o. GainedPart o d.output text) (ap (λ (x : Contents). x.output) told) p.output;
       notes = subst (λ n. GainedPart b.notes n line) (sym notes) (all_gained b.notes line);
       whole = λ _. inr notes;
+      first = λ _ _. notes;
+      other = p.other;
     }
 
 -- the text was put behind the line
@@ -111,11 +120,19 @@ byte_told (Ok x) line b c d told rest = rest ∙ ap (λ (x : Contents). record {
 byte_told (Err e) line b c d told rest = tt
 
 -- or it wasn't
-pub byte_stopped : {T : Type 0} (result : Result T Stop) (line : Bytes) (b c d : Contents) → c ≡ record b { notes = appended b.notes line } → OnErr result (d ≡ c) → IfErr result (StepPart line [] b d)
-byte_stopped (Ok x) line b c d told none = tt
-byte_stopped (Err s) line b c d told none =
+pub byte_stopped : {T : Type 0} (result : Result T Stop) (line : Bytes) (b c d : Contents) → c ≡ record b { notes = appended b.notes line } → OnErr result (d ≡ c) → IfErr result (λ stop. stop ≡ Input) → IfErr result (StepPart line [] b d)
+byte_stopped (Ok x) line b c d told none stop = tt
+byte_stopped (Err s) line b c d told none stop =
     let P : Contents → Type 0 = λ x. StepPart line [] b x s in
-    subst P (sym (none ∙ told)) (record { files = refl; input = refl; output = nothing b.output []; notes = all_gained b.notes line; whole = λ _. inr refl })
+    subst P (sym (none ∙ told)) (record {
+      files = refl;
+      input = refl;
+      output = nothing b.output [];
+      notes = all_gained b.notes line;
+      whole = λ _. inr refl;
+      first = λ _ _. refl;
+      other = λ keep. let clash : Input ≡ Keep = sym stop ∙ keep in cc;
+    })
 
 -- what was drawn behind the line
 pub byte_drawn : {E : Type 0} (result : Result (Option ℕ) E) (line : Bytes) (b c d : Contents) (over over' : Bool) → c ≡ record b { notes = appended b.notes line } → IfOk result (λ byte. Drew c.input d.input over over' (option_to_list byte))
@@ -208,28 +225,29 @@ halts_made code old new m none halts = (halts.going, load_halts code old m halts
 
 -- the line was stopped, or the text behind it
 stopped_at : (code : PeCode) (names : List Bytes) (old : Seen) (b c : Contents) (stop : Stop) (address : Option ℕ) (text : Bytes) → address ≡ address_of old.state.focus → IsMade code old → text ≡ text_put (pe_step code old.state)
-    → StepPart (step_text code names address ++ 10 ∷ []) text b c stop → (stop ≡ Input → (go : Option ℕ → PeState) × (pe_step code old.state ≡ takes go)) → TurnStopped code names old b c stop
-stopped_at code names old b c stop address text is made text_is part asks =
+    → StepPart (step_text code names address ++ 10 ∷ []) text b c stop → (stop ≡ Input → (go : Option ℕ → PeState) × (pe_step code old.state ≡ takes go))
+    → (stop ≡ Output → (put : Bytes) × (next : PeState) × (pe_step code old.state ≡ puts put next)) → TurnStopped code names old b c stop
+stopped_at code names old b c stop address text is made text_is part asks put =
     let P : Bytes → Type 0 = λ line. StepPart line (text_put (pe_step code old.state)) b c stop in
     let Q : Bytes → Type 0 = λ t. StepPart (step_text code names address ++ 10 ∷ []) t b c stop in
-    record { going = made.0; inside = made.1; part = subst P (line_is code names old address is) (subst Q text_is part); asks = asks }
+    record { going = made.0; inside = made.1; part = subst P (line_is code names old address is) (subst Q text_is part); asks = asks; puts = put }
 
 pub stopped_told : (result : Result (Option Ending) Stop) (code : PeCode) (names : List Bytes) (old : Seen) (b c : Contents) (address : Option ℕ) → address ≡ address_of old.state.focus → IsMade code old → IfErr result (StepPart (step_text code names address ++ 10 ∷ []) [] b c)
-    → IfErr result (λ stop. stop ≢ Input) → IfErr result (TurnStopped code names old b c)
-stopped_told (Ok x) code names old b c address is made part other = tt
-stopped_told (Err stop) code names old b c address is made part other =
-    stopped_at code names old b c stop address (text_put (pe_step code old.state)) is made refl (line_stopped (step_text code names address ++ 10 ∷ []) (text_put (pe_step code old.state)) b c stop part) (λ input. absurd (other input))
+    → IfErr result (λ stop. stop ≢ Input) → IfErr result (λ stop. stop ≢ Output) → IfErr result (TurnStopped code names old b c)
+stopped_told (Ok x) code names old b c address is made part other unput = tt
+stopped_told (Err stop) code names old b c address is made part other unput =
+    stopped_at code names old b c stop address (text_put (pe_step code old.state)) is made refl (line_stopped (step_text code names address ++ 10 ∷ []) (text_put (pe_step code old.state)) b c stop part) (λ input. absurd (other input)) (λ output. absurd (unput output))
 
 pub stopped_put : (result : Result (Option Ending) Stop) (code : PeCode) (names : List Bytes) (old new : Seen) (b c : Contents) (address : Option ℕ) (kind : PutKind) (v : Datum) → address ≡ address_of old.state.focus
     → Wrote kind v (pe_step code old.state) old new → IfErr result (StepPart (step_text code names address ++ 10 ∷ []) (text_of kind v) b c) → IfErr result (λ stop. stop ≢ Input) → IfErr result (TurnStopped code names old b c)
 stopped_put (Ok x) code names old new b c address kind v is w part other = tt
 stopped_put (Err stop) code names old new b c address kind v is w part other =
-    stopped_at code names old b c stop address (text_of kind v) is (wrote_made code old new kind v w) (text_is kind v w.text w.text_is ∙ sym (ap text_put w.went.move_is)) part (λ input. absurd (other input))
+    stopped_at code names old b c stop address (text_of kind v) is (wrote_made code old new kind v w) (text_is kind v w.text w.text_is ∙ sym (ap text_put w.went.move_is)) part (λ input. absurd (other input)) (λ _. (w.text, new.state, w.went.move_is))
 
 pub stopped_take : (code : PeCode) (names : List Bytes) (old mid : Seen) (b c : Contents) (stop : Stop) (address : Option ℕ) → address ≡ address_of old.state.focus → Waits (pe_step code old.state) old mid
-    → StepPart (step_text code names address ++ 10 ∷ []) [] b c stop → TurnStopped code names old b c stop
-stopped_take code names old mid b c stop address is waits part =
-    stopped_at code names old b c stop address [] is (waits_made code old mid waits) (sym (ap text_put waits.move_is)) part (λ _. (given mid.state, waits.move_is))
+    → StepPart (step_text code names address ++ 10 ∷ []) [] b c stop → stop ≢ Output → TurnStopped code names old b c stop
+stopped_take code names old mid b c stop address is waits part unput =
+    stopped_at code names old b c stop address [] is (waits_made code old mid waits) (sym (ap text_put waits.move_is)) part (λ _. (given mid.state, waits.move_is)) (λ output. absurd (unput output))
 
 -- ---- the last step
 

@@ -12,26 +12,26 @@ use Rattle.fy_base.specs.declared.data.Ending.{Ending}
 use Rattle.fy_base.specs.declared.data.Ending.TheVariants as ends
 use Rattle.pe_code.specs.declared.code.PeCode.{PeCode}
 use Rattle.pe_machine.specs.States.{PeState}
-use Rattle.pe_machine.specs.Step.{takes, pe_step}
+use Rattle.pe_machine.specs.Step.{takes, puts, pe_step}
 use Rattle.pe_machine.specs.Run.{Standing, going, ended, faulted, stuck, gone, pe_after, load_after}
 use Rattle.pe_machine.specs.Seen.{Seen, address_of}
-use Rattle.pe_machine.specs.Ends.{IsGoingBelow, IsWithin, EndsSo}
+use Rattle.pe_machine.specs.Ends.{IsGoingBelow, IsWithin, EndsSo, PutsAt}
 use Rattle.fy_world.specs.World.{Contents}
 use Rattle.fy_world.specs.Note.{texts, ended_lines}
 use Rattle.fy_world.specs.Steps.{Stepping, StepEnd, ending_of_steps, step_status, step_note, IsSteppedRun, step_text, step_lines, step_words}
 use Rattle.fy_world.specs.Steps as step_ends
-use Rattle.fy_world.specs.Runs.{stepped}
-use Rattle.fy_world.specs.Did.{WholeLines}
+use Rattle.fy_world.specs.Runs.{stepped, of_code}
+use Rattle.fy_world.specs.Did.{WholeLines, GainedSinceRead}
 use Rattle.fy_world.specs.Working.{ToldPart}
 use Rattle.fy_world.specs.Stepping.{IsNeverLost, IsStepEnd, IsLastEnd, HasEnded, HasStopped, HasStepped, Turned, TurnStopped, begun, noted, outer_of, step_line, text_put}
 use Rattle.fy_world.specs.declared.note.Note.{Note}
 use Rattle.fy_world.specs.declared.world.Stop.{Stop}
-use Rattle.fy_world.specs.declared.world.Stop.TheVariants.{Input, Notes, Memory}
+use Rattle.fy_world.specs.declared.world.Stop.TheVariants.{Keep, Input, Output, Notes, Memory}
 use Rattle.fy_world.proofs.Contents.{appended-appended, appended-nil, all_gained, gained_both}
 use Rattle.fy_world.proofs.Keeping.{none_gained}
 use Rattle.fy_world.proofs.Lines.{ended-append}
 use Rattle.fy_world.proofs.Tracing.{told_part_more}
-use Rattle.fy_world.proofs.Stepwise.{Reached, RunsOn, lines_with, lines_at, reached_start, reached_next, runs_end, runs_out, stops_in, part_put, asks_in, outputs_grow, lines_grow, part_longer, below_next, inside_next}
+use Rattle.fy_world.proofs.Stepwise.{Reached, RunsOn, lines_with, lines_at, reached_start, reached_next, runs_end, runs_out, stops_in, begins_in, asks_in, puts_in, untaken_in, outputs_grow, lines_grow, part_longer, below_next, inside_next}
 
 -- ---- the steps so far
 
@@ -162,10 +162,18 @@ told_stop stop code names n limit s first over now next lt told stopped =
       inside = stops.inside;
       files = p.files ∙ told.files;
       rest = p.input ∙ stops.rest;
-      output = part_put code names s.state told.lines n first.input now.input first.output now.output next.output stops p.output;
+      part = p.output.part;
+      output = gained_both first.output now.output next.output _ p.output.part stops.output p.output.gained;
+      begins = begins_in code names s.state told.lines n first.input now.input first.output now.output next.output stops p.output;
       told = told_part told.lines _ (step_text code names (address_of s.state.focus)) first.notes now.notes next.notes stop stops.lines_are told.notes p.notes p.whole;
+      first = λ notes memory.
+          line_behind first.notes now.notes next.notes told.lines (step_text code names (address_of s.state.focus)) told.notes (p.first notes memory)
+          ∙ ap (λ ls. appended first.notes (ended_lines ls)) (sym stops.lines_are);
       asks = λ input. let a = stopped.asks input in asks_in code names s.state told.lines n first.input now.input first.output now.output stops a.0 a.1;
       unput = λ input. let a = stopped.asks input in read_puts_none code s.state now.output next.output p.output a.0 a.1 ∙ stops.output;
+      puts = λ output. let a = stopped.puts output in puts_in code names s.state told.lines n first.input now.input first.output now.output stops a.0 a.1 a.2;
+      untaken = λ output. let a = stopped.puts output in untaken_in code names s.state told.lines n first.input now.input first.output now.output stops a.0 a.1 a.2;
+      other = p.other;
     }
 
 -- ---- how a run ends
@@ -230,6 +238,28 @@ due_part stepping n m end before now stop le told =
     let P : List Bytes → Type 0 = λ ls. ToldPart ls before now stop in
     subst P (sym same) (told_part_more first (more.0 ++ last) before now stop told)
 
+-- all that was put before the step that was stopped, and so before each that reads
+since_read : (code : PeCode) (names : List Bytes) (limit : ℕ) (b c : Contents) (stop : Stop) (h : HasStopped code names limit b c stop) → PutsAt code h.input (h.n + 1)
+    → GainedSinceRead (of_code (stepping_by code names limit h.input)) (h.n + 1) b.output c.output
+since_read code names limit b c stop h at = record {
+  part = (pe_after code h.input h.n).output ++ h.part;
+  gained = h.output;
+  begins = h.begins;
+  reads = λ k few reads. elim (cases_lt k (h.n + 1)) [
+    | inl less ↦ (
+        let grows = outputs_grow code h.input k h.n (omega arith) in
+        record {
+          rest = grows.rest ++ h.part;
+          is = ap (λ b. b ++ h.part) grows.is ∙ append_assoc (pe_after code h.input k).output grows.rest h.part;
+        }
+        )
+    | inr more ↦ (
+        let same : k - 1 ≡ (h.n + 1) - 1 = omega arith in
+        absurd (let clash : puts at.text at.then_state ≡ takes reads.0.go = sym at.puts ∙ ap (λ j. pe_step code (pe_after code h.input j).state) (sym same) ∙ reads.0.asks in cc)
+        )
+  ];
+}
+
 -- the run was stopped
 pub stepped_part : (code : PeCode) (names : List Bytes) (limit : ℕ) (b c : Contents) (stop : Stop) → IsNeverLost code → HasStopped code names limit b c stop → HasStepped code names limit b c (Err stop)
 stepped_part code names limit b c stop safe h =
@@ -247,17 +277,34 @@ stepped_part code names limit b c stop safe h =
       did = record {
         files = h.files;
         input = record { steps = h.n; within = let lt = h.few in omega arith; rest = h.rest };
-        output = part_longer b.output c.output (pe_after code h.input (h.n + 1)).output (pe_after code h.input w.m).output h.output (outputs_grow code h.input (h.n + 1) w.m w.more);
+        output = part_longer b.output c.output (pe_after code h.input (h.n + 1)).output (pe_after code h.input w.m).output
+            (record { part = (pe_after code h.input h.n).output ++ h.part; gained = h.output; begins = h.begins }) (outputs_grow code h.input (h.n + 1) w.m w.more);
         notes = told.part;
         unchanged = λ _. h.files;
         whole = told.whole;
+        unkept = λ keep. absurd (h.other keep);
         unread = λ input. record {
           steps = h.n + 1;
           within = few;
           reads = (h.asks input, h.inside);
+          files = h.files;
           rest = h.rest ∙ ap (λ k. option_map (λ _. (pe_after code h.input k).input) b.input) before_it;
           output = h.unput input ∙ ap (λ k. appended b.output (pe_after code h.input k).output) before_it;
+          notes =
+              h.first (λ notes. let clash : Input ≡ Notes = sym input ∙ notes in cc) (λ memory. let clash : Input ≡ Memory = sym input ∙ memory in cc)
+              ∙ ap (λ t. appended b.notes t) (sym (append-nil _));
         };
+        unput = λ output. inl (record {
+          steps = h.n + 1;
+          within = few;
+          puts = (h.puts output, h.inside);
+          files = h.files;
+          rest = h.rest ∙ ap (λ left. option_map (λ _. left) b.input) (sym (h.untaken output));
+          output = since_read code names limit b c stop h (h.puts output);
+          notes =
+              h.first (λ notes. let clash : Output ≡ Notes = sym output ∙ notes in cc) (λ memory. let clash : Output ≡ Memory = sym output ∙ memory in cc)
+              ∙ ap (λ t. appended b.notes t) (sym (append-nil _));
+        });
       };
     }
 
@@ -330,6 +377,8 @@ stepped_untold code names limit b c d end found stop safe h others told found_is
         };
         unchanged = λ _. files;
         whole = λ memory. absurd (let clash : Notes ≡ Memory = sym stop_is ∙ memory in cc);
+        unkept = λ keep. absurd (let clash : Notes ≡ Keep = sym stop_is ∙ keep in cc);
         unread = λ input. absurd (let clash : Notes ≡ Input = sym stop_is ∙ input in cc);
+        unput = λ output. absurd (let clash : Notes ≡ Output = sym stop_is ∙ output in cc);
       };
     }

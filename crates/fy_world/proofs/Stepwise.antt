@@ -14,7 +14,7 @@ use Rattle.pe_machine.specs.Step.{PeMove, goes, puts, takes, faults, sticks, los
 use Rattle.pe_machine.specs.Run.{PeRun, Standing, going, ended, faulted, stuck, gone, standing_of, settled, ticked, tick, after_more, pe_start, start_run, pe_after, load_after}
 use Rattle.pe_machine.specs.Seen.{Seen, WentOn, Waits, Halts, Refused, address_of, given, went_on_with}
 use Rattle.pe_machine.specs.declared.events.Phase.TheVariants as phase
-use Rattle.pe_machine.specs.Ends.{IsGoingBelow, IsWithin, StandsAt, EndsSo, AsksAt}
+use Rattle.pe_machine.specs.Ends.{IsGoingBelow, IsWithin, StandsAt, EndsSo, AsksAt, PutsAt}
 use Rattle.fy_world.specs.Steps.{line_after, step_text, step_lines, step_words}
 use Rattle.fy_world.specs.Stepping.{IsStepEnd, IsLastEnd, Outer, Exchanged, went, wrote, took, was_over, faulted as faulted_by, stuck_at, lost, refused, begun, text_put}
 use Rattle.fy_world.proofs.Contents.{appended-appended, appended-nil}
@@ -112,16 +112,6 @@ gained_none held = sym (appended-nil held)
 
 pub gained_more : (before held now : Option Bytes) (output bytes : Bytes) → Gained before held output → Gained held now bytes → Gained before now (output ++ bytes)
 gained_more before held now output bytes first next = next ∙ ap (λ o. appended o bytes) first ∙ appended-appended before output bytes
-
-part_more : (before held now : Option Bytes) (output bytes : Bytes) → Gained before held output → GainedPart held now bytes → GainedPart before now (output ++ bytes)
-part_more before held now output bytes first next = record {
-  part = output ++ next.part;
-  gained = gained_more before held now output next.part first next.gained;
-  begins = record {
-    rest = next.begins.rest;
-    is = ap (λ b. output ++ b) next.begins.is ∙ sym (append_assoc output next.part next.begins.rest);
-  };
-}
 
 gave_none : (left : Option Bytes) → Gave left left []
 gave_none None = refl
@@ -499,6 +489,7 @@ pub record StopsIn (code : PeCode) (names : List Bytes) (s : PeState) (lines : L
   pub rest : left_now ≡ option_map (λ _. (pe_after code fed n).input) left
   pub output : Gained before now (pe_after code fed n).output
   pub put : (pe_after code fed (n + 1)).output ≡ (pe_after code fed n).output ++ text_put (pe_step code s)
+  pub next : pe_after code fed (n + 1) ≡ settled (pe_step code s) (pe_after code fed n)
 
 put_by : (m : PeMove) (r : PeRun) → (settled m r).output ≡ r.output ++ text_put m
 put_by (goes s) r = sym (append-nil r.output)
@@ -524,14 +515,15 @@ stops_in code names n s lines first o reached goes_on le =
       rest = rest_left reached.given first.left o.left _ reached.gave stands.shows.input_is;
       output = stands.shows.output_is;
       put = ap (λ r. r.output) next ∙ put_by (pe_step code s.state) (pe_after code fed n);
+      next = next;
     }
 
 -- a part of its text was put
-pub part_put : (code : PeCode) (names : List Bytes) (s : PeState) (lines : List Bytes) (n : ℕ) (left left_now before held now : Option Bytes) (stops : StopsIn code names s lines n left left_now before held) → GainedPart held now (text_put (pe_step code s))
-    → GainedPart before now (pe_after code stops.fed (n + 1)).output
-part_put code names s lines n left left_now before held now stops part =
-    let P : Bytes → Type 0 = λ b. GainedPart before now b in
-    subst P (sym stops.put) (part_more before held now (pe_after code stops.fed n).output (text_put (pe_step code s)) stops.output part)
+pub begins_in : (code : PeCode) (names : List Bytes) (s : PeState) (lines : List Bytes) (n : ℕ) (left left_now before held now : Option Bytes) (stops : StopsIn code names s lines n left left_now before held) (put : GainedPart held now (text_put (pe_step code s)))
+    → IsPrefix ((pe_after code stops.fed n).output ++ put.part) (pe_after code stops.fed (n + 1)).output
+begins_in code names s lines n left left_now before held now stops put =
+    let output = (pe_after code stops.fed n).output in
+    record { rest = put.begins.rest; is = stops.put ∙ ap (λ b. output ++ b) put.begins.is ∙ sym (append_assoc output put.part put.begins.rest) }
 
 pub asks_in : (code : PeCode) (names : List Bytes) (s : PeState) (lines : List Bytes) (n : ℕ) (left left_now before now : Option Bytes) (stops : StopsIn code names s lines n left left_now before now) (go : Option ℕ → PeState) → pe_step code s ≡ takes go
     → AsksAt code stops.fed (n + 1)
@@ -543,3 +535,20 @@ asks_in code names s lines n left left_now before now stops go asks =
       go = go;
       asks = ap (λ k. pe_step code (pe_after code stops.fed k).state) same ∙ ap (λ t. pe_step code t) stops.state_is ∙ asks;
     }
+
+pub puts_in : (code : PeCode) (names : List Bytes) (s : PeState) (lines : List Bytes) (n : ℕ) (left left_now before now : Option Bytes) (stops : StopsIn code names s lines n left left_now before now) (text : Bytes) (next : PeState) → pe_step code s ≡ puts text next
+    → PutsAt code stops.fed (n + 1)
+puts_in code names s lines n left left_now before now stops text next step =
+    let same : (n + 1) - 1 ≡ n = omega arith in
+    record {
+      some = omega arith;
+      below = stops.going;
+      text = text;
+      then_state = next;
+      puts = ap (λ k. pe_step code (pe_after code stops.fed k).state) same ∙ ap (λ t. pe_step code t) stops.state_is ∙ step;
+    }
+
+-- a step that puts takes none
+pub untaken_in : (code : PeCode) (names : List Bytes) (s : PeState) (lines : List Bytes) (n : ℕ) (left left_now before now : Option Bytes) (stops : StopsIn code names s lines n left left_now before now) (text : Bytes) (next : PeState) → pe_step code s ≡ puts text next
+    → (pe_after code stops.fed (n + 1)).input ≡ (pe_after code stops.fed n).input
+untaken_in code names s lines n left left_now before now stops text next step = ap (λ r. r.input) stops.next ∙ ap (λ m. (settled m (pe_after code stops.fed n)).input) step

@@ -11,7 +11,7 @@ use Rattle.std.specs.declared.option.Option.{Option}
 use Rattle.std.specs.declared.result.Result.{Result}
 use Rattle.std.specs.declared.result.Result.TheVariants.{Ok, Err}
 use Rattle.circular_buffer.specs.Buffer.{Buffer, buffer, keep_last}
-use Rattle.std.specs.Prelude.{min, OnOk, OnErr, IfErr}
+use Rattle.std.specs.Prelude.{◌⊎◌, min, OnOk, OnErr, IfErr}
 use Rattle.fy_base.specs.Outside.{Bytes, appended, GainedPart}
 use Rattle.rv_insn.specs.declared.instructions.Insn.{Insn}
 use Rattle.rv_insn.specs.Encoding.{IsReadingOf}
@@ -226,6 +226,11 @@ told_both A B b c d (Err stop) first told part stop_is = record {
   };
   whole = λ memory. absurd (let clash : Notes ≡ Memory = sym stop_is ∙ memory in cc);
 }
+
+-- what only the notes stop, they or want of memory do
+pub notes_alone : (result : Result (Unit {0}) Stop) → IfErr result (λ stop. stop ≡ Notes) → IfErr result (λ stop. (stop ≡ Notes) ⊎ (stop ≡ Memory))
+notes_alone (Ok done) stop = tt
+notes_alone (Err other) stop = inl stop
 
 -- the words of a trace that began empty
 pub trace_is : (program : Program) (world : World) (n count : ℕ) (before : Buffer Fetched) (now : List Fetched) → before ≡ buffer [] count → now ≡ keep_last before.capacity (before.items ++ fetches program world n) → now ≡ keep_last count (fetches program world n)

@@ -4,7 +4,7 @@ use Rattle.std.specs.Option.{option_map, option_to_list, ForSome}
 use Rattle.std.specs.declared.option.Option.{Option}
 use Rattle.std.specs.declared.result.Result.{Result}
 use Rattle.fy_base.specs.Arithmetic.{written_text}
-use Rattle.fy_base.specs.Outside.{Bytes, Drew, Gained, GainedPart, appended}
+use Rattle.fy_base.specs.Outside.{Bytes, Drew, Gained, GainedPart, IsPrefix, appended}
 use Rattle.fy_base.specs.declared.data.Datum.{Datum}
 use Rattle.fy_base.specs.declared.data.FaultKind.{FaultKind}
 use Rattle.fy_base.specs.declared.data.Place.{Place}
@@ -17,7 +17,7 @@ use Rattle.pe_machine.specs.Step.{PeMove, goes, puts, takes, faults, sticks, los
 use Rattle.pe_machine.specs.Run.{going, ended, stuck, gone, standing_of, load_after, pe_start, pe_after}
 use Rattle.pe_machine.specs.Seen.{Seen, WentOn, Waits, Halts, Refused, WasOver, address_of, went_on_with}
 use Rattle.pe_machine.specs.declared.events.Phase.TheVariants as phase
-use Rattle.pe_machine.specs.Ends.{IsGoingBelow, IsWithin, EndsSo, AsksAt}
+use Rattle.pe_machine.specs.Ends.{IsGoingBelow, IsWithin, EndsSo, AsksAt, PutsAt}
 use Rattle.fy_world.specs.World.{Contents}
 use Rattle.fy_world.specs.Steps.{StepEnd, IsSteppedRun, step_text, step_lines, step_words}
 use Rattle.fy_world.specs.Note.{ended_lines}
@@ -25,7 +25,7 @@ use Rattle.fy_world.specs.Runs.{stepped}
 use Rattle.fy_world.specs.Did.{Did}
 use Rattle.fy_world.specs.Working.{ToldPart}
 use Rattle.fy_world.specs.declared.world.Stop.{Stop}
-use Rattle.fy_world.specs.declared.world.Stop.TheVariants.{Input, Memory}
+use Rattle.fy_world.specs.declared.world.Stop.TheVariants.{Keep, Input, Output, Notes, Memory}
 
 -- the text of a datum, or nothing where it isn't of the kind
 abbrev pub text_of : PutKind → Datum → Bytes
@@ -97,13 +97,15 @@ pub record Turned (code : PeCode) (names : List Bytes) (old new : Seen) (over ov
   pub files : now.files ≡ before.files
   pub notes : now.notes ≡ noted end before.notes (step_line code names old.state)
 
--- what was told and put of a step that was stopped: its line or a part of it, and a part of its text
+-- what was told and put of a step that was stopped: its line or a part of it, and a part of its text; all of its line where it was stopped later than that
 pub record StepPart (line text : Bytes) (before now : Contents) (stop : Stop) : Type 0 where
   pub files : now.files ≡ before.files
   pub input : now.input ≡ before.input
   pub output : GainedPart before.output now.output text
   pub notes : GainedPart before.notes now.notes line
   pub whole : stop ≡ Memory → (now.notes ≡ before.notes) ⊎ Gained before.notes now.notes line
+  pub first : stop ≢ Notes → stop ≢ Memory → Gained before.notes now.notes line
+  pub other : stop ≢ Keep
 
 -- a step of the run was stopped
 pub record TurnStopped (code : PeCode) (names : List Bytes) (old : Seen) (before now : Contents) (stop : Stop) : Type 0 where
@@ -111,6 +113,7 @@ pub record TurnStopped (code : PeCode) (names : List Bytes) (old : Seen) (before
   pub inside : load_after (pe_step code old.state) ≤ old.limit
   pub part : StepPart (step_line code names old.state) (text_put (pe_step code old.state)) before now stop
   pub asks : stop ≡ Input → (go : Option ℕ → PeState) × (pe_step code old.state ≡ takes go)
+  pub puts : stop ≡ Output → (text : Bytes) × (then_state : PeState) × (pe_step code old.state ≡ puts text then_state)
 
 -- ---- runs
 
@@ -133,7 +136,7 @@ pub record HasEnded (code : PeCode) (names : List Bytes) (limit : ℕ) (before n
   pub output : now.output ≡ appended before.output (pe_after code input n).output
   pub notes : now.notes ≡ appended before.notes (ended_lines (step_lines code names input n))
 
--- the step behind n others was stopped; what was taken is what those took, and where its read failed, what was put is what those put
+-- the step behind n others was stopped; what was taken is what those took, and what was put is what those put, and a part of what it puts; where its read or its put failed, all the lines were told
 pub record HasStopped (code : PeCode) (names : List Bytes) (limit : ℕ) (before now : Contents) (stop : Stop) : Type 0 where
   pub input : Bytes
   pub fed : ForSome before.input (λ left. input ≡ left)
@@ -143,10 +146,16 @@ pub record HasStopped (code : PeCode) (names : List Bytes) (limit : ℕ) (before
   pub inside : IsWithin code input step_words (n + 1)
   pub files : now.files ≡ before.files
   pub rest : now.input ≡ option_map (λ _. (pe_after code input n).input) before.input
-  pub output : GainedPart before.output now.output (pe_after code input (n + 1)).output
+  pub part : Bytes
+  pub output : Gained before.output now.output ((pe_after code input n).output ++ part)
+  pub begins : IsPrefix ((pe_after code input n).output ++ part) (pe_after code input (n + 1)).output
   pub told : ToldPart (step_lines code names input (n + 1)) before.notes now.notes stop
+  pub first : stop ≢ Notes → stop ≢ Memory → Gained before.notes now.notes (ended_lines (step_lines code names input (n + 1)))
   pub asks : stop ≡ Input → AsksAt code input (n + 1)
   pub unput : stop ≡ Input → Gained before.output now.output (pe_after code input n).output
+  pub puts : stop ≡ Output → PutsAt code input (n + 1)
+  pub untaken : stop ≡ Output → (pe_after code input (n + 1)).input ≡ (pe_after code input n).input
+  pub other : stop ≢ Keep
 
 -- code ran on an input that explains it, and what is due for its run was done, or a part
 pub record HasStepped (code : PeCode) (names : List Bytes) (limit : ℕ) (before now : Contents) (result : Result ℕ Stop) : Type 0 where

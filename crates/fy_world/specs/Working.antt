@@ -1,5 +1,5 @@
 -- What the parts of the work on images, runs and lines did.
-use Rattle.std.specs.Prelude.{◌≡◌, ◌≢◌, ◌⊎◌, ℕ, List, [], Some, None, Option, MatchResult, All}
+use Rattle.std.specs.Prelude.{◌≡◌, ◌≢◌, ◌⊎◌, ℕ, List, [], Some, None, Option, MatchResult, IfErr, All}
 use Rattle.std.specs.Option.{ForSome}
 use Rattle.std.specs.declared.result.Result.{Result}
 use Rattle.std.specs.declared.result.Result.TheVariants.{Err}
@@ -26,7 +26,7 @@ use Rattle.fy_build.specs.Headline.{AreBytes}
 use Rattle.fy_world.specs.Runs.{Due, IsRun, run_status, end_notes, ran, sampled, CopyEnd, IsCopyRun, copied, written}
 use Rattle.fy_world.specs.Did.{Did, WholeLines}
 use Rattle.fy_world.specs.declared.world.Stop.{Stop}
-use Rattle.fy_world.specs.declared.world.Stop.TheVariants.{Input, Memory}
+use Rattle.fy_world.specs.declared.world.Stop.TheVariants.{Keep, Output, Notes, Memory}
 
 -- memory was wanting before anything was done
 pub record IsUnbegun (before now : Contents) (result : Result ℕ Stop) : Type 0 where
@@ -51,7 +51,7 @@ pub record WasKept (IsSuch : Bytes → Type 0) (name : Bytes) (before now : Cont
   pub bytes : Bytes
   pub spelled : IsSuch bytes
   pub ready : result ≢ Err Memory
-  pub closed : result ≢ Err Input
+  pub only : IfErr result (λ stop. stop ≡ Keep)
   pub did : Did (record { status = 0; output = []; notes = []; kept = Some (name, bytes); rest = None; running = None }) before now result
 
 abbrev pub KeepsSuch : (Bytes → Type 0) → Bytes → Contents → Contents → Result ℕ Stop → Type 0
@@ -114,8 +114,8 @@ pub record SummedPart (sum lines : Bytes) (before now : Contents) (stop : Stop) 
   pub input : now.input ≡ before.input
   pub output : GainedPart before.output now.output sum
   pub notes : GainedPart before.notes now.notes lines
-  pub not_memory : stop ≢ Memory
-  pub not_input : stop ≢ Input
+  -- where all of the summary wasn't put, none of the lines was
+  pub in_order : ((stop ≡ Output) × (now.notes ≡ before.notes)) ⊎ (stop ≡ Notes)
 
 -- the same of a machine's run that ended so
 abbrev pub SumsUp : MachineRun → RunEnd → Contents → Contents → Result ℕ Stop → Type 0

@@ -48,7 +48,7 @@ pub fn execute<W: World>(
     ensures executes { Executes image.now steps trace (W.holds world.old) (W.holds world.new) result }
     ensures own { IfOk result IsOwn }
     ensures counted { Counted [] [] (W.counts world.old) (W.counts world.new) result }
-    ensures ready { trace ≡ None → result ≡ Err Stop.Memory → (W.holds world.new).output ≡ (W.holds world.old).output }
+    ensures ready { trace ≡ None → result ≡ Err Stop.Memory → W.holds world.new ≡ W.holds world.old }
     ensures same { W.names world.new ≡ W.names world.old }
 {
     let mut machine = match load(alloc, image) {

@@ -96,7 +96,7 @@ fn tell_trace<W: World>(alloc: Global, mut trace: Trace, world: &mut W) -> Resul
     ensures told { (program : Program) → AreFetched program trace.words.items → TellsLines (map (shown program) trace.words.items) (W.holds world.old) (W.holds world.new) result }
     ensures rest { W.holds world.new ≡ record (W.holds world.old) { notes = (W.holds world.new).notes } }
     ensures counted { Counted [] [] (W.counts world.old) (W.counts world.new) result }
-    ensures input { result ≢ Err Stop.Input }
+    ensures stop { IfErr result (λ stop. (stop ≡ Stop.Notes) ⊎ (stop ≡ Stop.Memory)) }
     ensures same { W.names world.new ≡ W.names world.old }
 {
     while let Some(fetched) = trace.pop() {
@@ -195,7 +195,7 @@ fn tell_traced<W: World>(
         → TellsLines (map (shown program) trace.words.items ++ texts (end_notes own run.steps)) (W.holds world.old) (W.holds world.new) result }
     ensures rest { W.holds world.new ≡ record (W.holds world.old) { notes = (W.holds world.new).notes } }
     ensures counted { Counted [] [] (W.counts world.old) (W.counts world.new) result }
-    ensures input { result ≢ Err Stop.Input }
+    ensures stop { IfErr result (λ stop. (stop ≡ Stop.Notes) ⊎ (stop ≡ Stop.Memory)) }
     ensures same { W.names world.new ≡ W.names world.old }
 {
     match tell_trace(alloc, trace, world) {

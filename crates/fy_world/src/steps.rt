@@ -77,6 +77,7 @@ fn tell_step<W: World>(
     ensures told { OnOk result (W.holds world.new ≡ record (W.holds world.old) { notes = appended (W.holds world.old).notes (step_text code.now names.now address ++ 10 ∷ []) }) }
     ensures part { IfErr result (StepPart (step_text code.now names.now address ++ 10 ∷ []) [] (W.holds world.old) (W.holds world.new)) }
     ensures stop { IfErr result (λ stop. stop ≢ Stop.Input) }
+    ensures unput { IfErr result (λ stop. stop ≢ Stop.Output) }
     ensures counted { Counted [] [] (W.counts world.old) (W.counts world.new) result }
     ensures same { W.names world.new ≡ W.names world.old }
 {
@@ -99,6 +100,7 @@ fn end_told<W: World>(
     ensures told { OnOk result (W.holds world.new ≡ record (W.holds world.old) { notes = appended (W.holds world.old).notes (step_text code.now names.now address ++ 10 ∷ []) }) }
     ensures part { IfErr result (StepPart (step_text code.now names.now address ++ 10 ∷ []) [] (W.holds world.old) (W.holds world.new)) }
     ensures stop { IfErr result (λ stop. stop ≢ Stop.Input) }
+    ensures unput { IfErr result (λ stop. stop ≢ Stop.Output) }
     ensures counted { Counted [] [] (W.counts world.old) (W.counts world.new) result }
     ensures same { W.names world.new ≡ W.names world.old }
 {
@@ -170,6 +172,7 @@ fn take_told<W: World>(
     ensures over { IfOk result (λ byte. over.new ≡ is_none byte) }
     ensures told { OnOk result (W.holds world.new ≡ record (W.holds world.old) { input = (W.holds world.new).input; notes = appended (W.holds world.old).notes (step_text code.now names.now address ++ 10 ∷ []) }) }
     ensures part { IfErr result (StepPart (step_text code.now names.now address ++ 10 ∷ []) [] (W.holds world.old) (W.holds world.new)) }
+    ensures unput { IfErr result (λ stop. stop ≢ Stop.Output) }
     ensures counted { Counted [] [] (W.counts world.old) (W.counts world.new) result }
     ensures same { W.names world.new ≡ W.names world.old }
 {

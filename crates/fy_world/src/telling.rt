@@ -35,8 +35,10 @@ pub fn refuse<W: World>(status: u8, why: Note, world: &mut W) -> Result<u8, Stop
     ensures memory { result ≢ Err Stop.Memory }
     ensures same { W.names world.new ≡ W.names world.old }
 {
-    tell(&[why], world)?;
-    Ok(status)
+    match tell(&[why], world) {
+        Ok(()) => Ok(status),
+        Err(stop) => Err(stop),
+    }
 }
 
 /// Writes bytes to output.

@@ -1,4 +1,4 @@
-use Rattle.std.proofs.Common.{◌≡◌, ◌∙◌, refl}
+use Rattle.std.proofs.Common.{◌∙◌, refl, inl, inr}
 use Rattle.fy_world.specs.Note.{texts}
 use Rattle.fy_world.specs.Runs.{end_notes}
 use Rattle.fy_world.specs.declared.world.Stop.TheVariants.{Input, Output, Memory}
@@ -9,11 +9,11 @@ use Rattle.fy_world.proofs.runs.run_machine.Goals as goal
 
 pub returns-in-InputFault-clause-run : goal.returns-in-InputFault-clause-run
 returns-in-InputFault-clause-run g c =
-    run_faulted _ _ c.args.steps None _ (g.W.World.holds c.run-run.new.self) Input c.run-run.result _ (λ _. c.in-InputFault.is) (λ e. cc) c.run-run.ensures.steps c.run-run.ensures.did.runs c.run-run.ensures.rest
+    run_faulted _ _ c.args.steps None _ (g.W.World.holds c.run-run.new.self) Input c.run-run.result _ (inl (refl, c.in-InputFault.is)) c.run-run.ensures.steps c.run-run.ensures.did.runs c.run-run.ensures.rest
 
 pub returns-in-OutputFault-clause-run : goal.returns-in-OutputFault-clause-run
 returns-in-OutputFault-clause-run g c =
-    run_faulted _ _ c.args.steps None _ (g.W.World.holds c.run-run.new.self) Output c.run-run.result _ (λ e. absurd (let clash : Output ≡ Input = e in cc)) (λ e. cc) c.run-run.ensures.steps c.run-run.ensures.did.runs c.run-run.ensures.rest
+    run_faulted _ _ c.args.steps None _ (g.W.World.holds c.run-run.new.self) Output c.run-run.result _ (inr (refl, c.in-OutputFault.is)) c.run-run.ensures.steps c.run-run.ensures.did.runs c.run-run.ensures.rest
 
 pub returns-in-Err : goal.returns-in-Err
 returns-in-Err g c = record {

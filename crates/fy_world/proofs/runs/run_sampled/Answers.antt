@@ -1,4 +1,4 @@
-use Rattle.std.proofs.Common.{◌≡◌, None}
+use Rattle.std.proofs.Common.{refl, inl, inr, None}
 use Rattle.fy_world.specs.declared.world.Stop.TheVariants.{Input, Output}
 use Rattle.fy_world.proofs.Executing.{run_faulted}
 use Rattle.fy_world.proofs.Sampling.{sampled_done, sampled_stopped}
@@ -7,12 +7,12 @@ use Rattle.fy_world.proofs.runs.run_sampled.Goals as goal
 pub returns-in-InputFault-clause-run : goal.returns-in-InputFault-clause-run
 returns-in-InputFault-clause-run g c =
     sampled_stopped _ _ c.args.steps None _ (g.W.World.holds c.run-run.new.self) Input
-    (run_faulted _ _ c.args.steps None _ (g.W.World.holds c.run-run.new.self) Input c.run-run.result _ (λ _. c.in-InputFault.is) (λ e. cc) c.run-run.ensures.steps c.run-run.ensures.did.runs c.run-run.ensures.rest)
+    (run_faulted _ _ c.args.steps None _ (g.W.World.holds c.run-run.new.self) Input c.run-run.result _ (inl (refl, c.in-InputFault.is)) c.run-run.ensures.steps c.run-run.ensures.did.runs c.run-run.ensures.rest)
 
 pub returns-in-OutputFault-clause-run : goal.returns-in-OutputFault-clause-run
 returns-in-OutputFault-clause-run g c =
     sampled_stopped _ _ c.args.steps None _ (g.W.World.holds c.run-run.new.self) Output
-    (run_faulted _ _ c.args.steps None _ (g.W.World.holds c.run-run.new.self) Output c.run-run.result _ (λ e. absurd (let clash : Output ≡ Input = e in cc)) (λ e. cc) c.run-run.ensures.steps c.run-run.ensures.did.runs c.run-run.ensures.rest)
+    (run_faulted _ _ c.args.steps None _ (g.W.World.holds c.run-run.new.self) Output c.run-run.result _ (inr (refl, c.in-OutputFault.is)) c.run-run.ensures.steps c.run-run.ensures.did.runs c.run-run.ensures.rest)
 
 pub returns-in_default-clause-run : goal.returns-in_default-clause-run
 returns-in_default-clause-run g c =

@@ -1,4 +1,4 @@
-use Rattle.std.proofs.Common.{◌≡◌, ◌∙◌, ◌++◌, sym, ap, subst, map, Some, inr, List}
+use Rattle.std.proofs.Common.{◌∙◌, ◌++◌, refl, sym, ap, subst, map, Some, inl, inr, List}
 use Rattle.fy_base.specs.Outside.{Bytes}
 use Rattle.fy_build.specs.Shown.{RunEnd}
 use Rattle.rv_machine.specs.Run.{going_world}
@@ -11,16 +11,15 @@ use Rattle.fy_world.specs.declared.world.Stop.TheVariants.{Input, Output}
 use Rattle.fy_world.proofs.Counting.{faulted_after}
 use Rattle.fy_world.proofs.Executing.{run_faulted, run_told, run_told_part}
 use Rattle.fy_world.proofs.Tracing.{trace_is, are_fetched}
-use Rattle.std.proofs.Common.{Err}
 use Rattle.fy_world.proofs.runs.run_traced.Goals as goal
 
 pub returns-in-InputFault-clause-run : goal.returns-in-InputFault-clause-run
 returns-in-InputFault-clause-run g c =
-    inr (run_faulted _ _ c.args.steps (Some c.args.count) _ (g.W.World.holds c.run-run.new.self) Input c.run-run.result _ (λ _. c.in-InputFault.is) (λ e. cc) c.run-run.ensures.steps c.run-run.ensures.did.runs c.run-run.ensures.rest)
+    inr (run_faulted _ _ c.args.steps (Some c.args.count) _ (g.W.World.holds c.run-run.new.self) Input c.run-run.result _ (inl (refl, c.in-InputFault.is)) c.run-run.ensures.steps c.run-run.ensures.did.runs c.run-run.ensures.rest)
 
 pub returns-in-OutputFault-clause-run : goal.returns-in-OutputFault-clause-run
 returns-in-OutputFault-clause-run g c =
-    inr (run_faulted _ _ c.args.steps (Some c.args.count) _ (g.W.World.holds c.run-run.new.self) Output c.run-run.result _ (λ e. absurd (let clash : Output ≡ Input = e in cc)) (λ e. cc) c.run-run.ensures.steps c.run-run.ensures.did.runs c.run-run.ensures.rest)
+    inr (run_faulted _ _ c.args.steps (Some c.args.count) _ (g.W.World.holds c.run-run.new.self) Output c.run-run.result _ (inr (refl, c.in-OutputFault.is)) c.run-run.ensures.steps c.run-run.ensures.did.runs c.run-run.ensures.rest)
 
 pub returns-in-Ok-tell_traced : goal.returns-in-Ok-tell_traced
 returns-in-Ok-tell_traced g c =
@@ -52,7 +51,7 @@ returns-in-Err-tell_traced g c =
     let lines : RunEnd → List Bytes = λ end. map (shown program) words ++ texts (end_notes end n) in
     record {
       run = inr (run_told_part program _ c.args.steps (Some c.args.count) _ (g.W.World.holds c.run-run.new.self) (g.W.World.holds c.tell_traced.new.world) c.run-run.result _ lines c.in-Err-tell_traced.stop c.run-run.ensures.end c.in_default.not-InputFault c.in_default.not-OutputFault c.run-run.ensures.steps
-          r c.run-run.ensures.rest (λ end. ap (λ ws. map (shown program) ws ++ texts (end_notes end n)) are) c.in-Err-tell_traced.ensures.rest (λ end is. c.in-Err-tell_traced.ensures.told program end fetched is) (λ e. c.in-Err-tell_traced.ensures.input (ap (λ s. Err s) e)));
+          r c.run-run.ensures.rest (λ end. ap (λ ws. map (shown program) ws ++ texts (end_notes end n)) are) c.in-Err-tell_traced.ensures.rest (λ end is. c.in-Err-tell_traced.ensures.told program end fetched is) c.in-Err-tell_traced.ensures.stop);
       own = tt;
       counted = faulted_after _ _ _ _ _ _ (c.run-run.ensures.quiet c.in_default.not-InputFault c.in_default.not-OutputFault) c.in-Err-tell_traced.ensures.counted;
       same = c.in-Err-tell_traced.ensures.same ∙ c.run-run.ensures.same;

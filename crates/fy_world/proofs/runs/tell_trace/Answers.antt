@@ -1,4 +1,4 @@
-use Rattle.std.proofs.Common.{◌∙◌, refl, sym, ap}
+use Rattle.std.proofs.Common.{◌∙◌, refl, sym, ap, inl, inr}
 use Rattle.fy_world.specs.World.{Contents}
 use Rattle.fy_world.specs.declared.world.Stop.TheVariants.{Memory}
 use Rattle.fy_world.proofs.Tracing.{told_first, told_next, told_short, told_part, told_all, none_left}
@@ -28,3 +28,9 @@ loop-fetched-preserved g c = record {
 pub returns-clause-told : goal.returns-clause-told
 returns-clause-told g c = λ program f.
     told_all program c.args.trace.words.items c.loop-fetched.trace.words.items _ _ (none_left c.loop-fetched.trace.words.items (sym c.pop.ensures.word ∙ c.in_default.is)) (c.loop-fetched.invariant.told program f)
+
+pub returns-in-Err-clause-stop : goal.returns-in-Err-clause-stop
+returns-in-Err-clause-stop g c = inr refl
+
+pub returns-in-Err-note-clause-stop : goal.returns-in-Err-note-clause-stop
+returns-in-Err-note-clause-stop g c = inl c.in-Err-note.ensures.stop

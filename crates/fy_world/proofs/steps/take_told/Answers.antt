@@ -18,4 +18,4 @@ returns-in-Ok-clause-told g c =
 
 pub returns-in-Ok-clause-part : goal.returns-in-Ok-clause-part
 returns-in-Ok-clause-part g c =
-    byte_stopped c.take.result (step_text c.args.code.now c.args.names.now c.args.address ++ 10 ∷ []) _ (g.W.World.holds c.tell_step.new.world) (g.W.World.holds c.take.new.self) c.in-Ok.ensures.told c.take.ensures.none
+    byte_stopped c.take.result (step_text c.args.code.now c.args.names.now c.args.address ++ 10 ∷ []) _ (g.W.World.holds c.tell_step.new.world) (g.W.World.holds c.take.new.self) c.in-Ok.ensures.told c.take.ensures.none c.take.ensures.stop

@@ -13,7 +13,7 @@ returns-in-Going-clause-turned g c =
 pub returns-in-Going-clause-stopped : goal.returns-in-Going-clause-stopped
 returns-in-Going-clause-stopped g c =
     stopped_told c.end_told.result c.args.code.now c.args.names.now (seen c.args.state.now) _ (g.W.World.holds c.end_told.new.world) c.address-address.result c.address-address.ensures (went_made c.args.code.now _ _ c.in-Going.ensures) c.end_told.ensures.part
-    c.end_told.ensures.stop
+    c.end_told.ensures.stop c.end_told.ensures.unput
 
 pub returns-in-Put-clause-turned : goal.returns-in-Put-clause-turned
 returns-in-Put-clause-turned g c =
@@ -32,7 +32,7 @@ returns-in-Ok-clause-turned g c =
 
 pub returns-in-Err-clause-stopped : goal.returns-in-Err-clause-stopped
 returns-in-Err-clause-stopped g c =
-    stopped_take c.args.code.now c.args.names.now (seen c.args.state.now) (seen c.step.new.self) _ (g.W.World.holds c.take_told.new.world) c.in-Err.stop c.address-address.result c.address-address.ensures c.in-WantByte.ensures c.in-Err.ensures.part
+    stopped_take c.args.code.now c.args.names.now (seen c.args.state.now) (seen c.step.new.self) _ (g.W.World.holds c.take_told.new.world) c.in-Err.stop c.address-address.result c.address-address.ensures c.in-WantByte.ensures c.in-Err.ensures.part c.in-Err.ensures.unput
 
 pub returns-in-Ended-clause-turned : goal.returns-in-Ended-clause-turned
 returns-in-Ended-clause-turned g c = turned_none ends.Ended c.args.code.now c.args.names.now (seen c.args.state.now) (seen c.step.new.self) c.args.over.now _ (over_so c.args.code.now _ _ c.in-Ended.ensures) refl
@@ -48,7 +48,7 @@ returns-in-Fault-clause-turned g c =
 pub returns-in-Fault-clause-stopped : goal.returns-in-Fault-clause-stopped
 returns-in-Fault-clause-stopped g c =
     stopped_told c.end_told-in-Fault.result c.args.code.now c.args.names.now (seen c.args.state.now) _ (g.W.World.holds c.end_told-in-Fault.new.world) c.address-address.result c.address-address.ensures
-    (halts_made c.args.code.now _ (seen c.step.new.self) (faults c.in-Fault.kind c.in-Fault.place) refl c.in-Fault.ensures) c.end_told-in-Fault.ensures.part c.end_told-in-Fault.ensures.stop
+    (halts_made c.args.code.now _ (seen c.step.new.self) (faults c.in-Fault.kind c.in-Fault.place) refl c.in-Fault.ensures) c.end_told-in-Fault.ensures.part c.end_told-in-Fault.ensures.stop c.end_told-in-Fault.ensures.unput
 
 pub returns-in-Gone-clause-turned : goal.returns-in-Gone-clause-turned
 returns-in-Gone-clause-turned g c =
@@ -58,7 +58,7 @@ returns-in-Gone-clause-turned g c =
 pub returns-in-Gone-clause-stopped : goal.returns-in-Gone-clause-stopped
 returns-in-Gone-clause-stopped g c =
     stopped_told c.end_told-in-Gone.result c.args.code.now c.args.names.now (seen c.args.state.now) _ (g.W.World.holds c.end_told-in-Gone.new.world) c.address-address.result c.address-address.ensures
-    (halts_made c.args.code.now _ (seen c.step.new.self) loses refl c.in-Gone.ensures) c.end_told-in-Gone.ensures.part c.end_told-in-Gone.ensures.stop
+    (halts_made c.args.code.now _ (seen c.step.new.self) loses refl c.in-Gone.ensures) c.end_told-in-Gone.ensures.part c.end_told-in-Gone.ensures.stop c.end_told-in-Gone.ensures.unput
 
 pub returns-in-Stuck-clause-turned : goal.returns-in-Stuck-clause-turned
 returns-in-Stuck-clause-turned g c =
@@ -68,4 +68,4 @@ returns-in-Stuck-clause-turned g c =
 pub returns-in-Stuck-clause-stopped : goal.returns-in-Stuck-clause-stopped
 returns-in-Stuck-clause-stopped g c =
     stopped_told c.end_told-in-Stuck.result c.args.code.now c.args.names.now (seen c.args.state.now) _ (g.W.World.holds c.end_told-in-Stuck.new.world) c.address-address.result c.address-address.ensures
-    (halts_made c.args.code.now _ (seen c.step.new.self) sticks refl c.in-Stuck.ensures) c.end_told-in-Stuck.ensures.part c.end_told-in-Stuck.ensures.stop
+    (halts_made c.args.code.now _ (seen c.step.new.self) sticks refl c.in-Stuck.ensures) c.end_told-in-Stuck.ensures.part c.end_told-in-Stuck.ensures.stop c.end_told-in-Stuck.ensures.unput
