@@ -11,9 +11,12 @@ use Rattle.fy_world.specs.declared.world.Stop.{Stop}
 use Rattle.fy_world.specs.declared.world.Stop.TheVariants.{Fetch, Keep, Input, Output, Notes, Memory}
 use Rattle.fy_words.specs.Order.{Order}
 use Rattle.fy_world.specs.Runs.{Due}
-use Rattle.fy_world.specs.Did.{FilesPart, InputPart, IsUnread, Part}
+use Rattle.fy_world.specs.Did.{FilesPart, InputPart, Part}
+use Rattle.fy_tool.specs.Due.{Sources}
+use Rattle.fy_tool.specs.Fetched.{IsUnfetched}
 use Rattle.fy_tool.specs.Answers.{Serves, Concludes, last_line, IsLastLine, all_reads_of, all_keeps_of, Answers}
 use Rattle.fy_world.proofs.Contents.{gained_both}
+use Rattle.fy_world.proofs.Stopping.{unkept_told, unread_told, unput_told}
 use Rattle.fy_world.proofs.Counting.{later_more, later_counted, caused_later, others_later}
 
 -- the last note touches nothing else
@@ -25,9 +28,6 @@ part_output due b c d stop e p = subst (λ o. GainedPart b.output o due.output) 
 
 part_input : (due : Due) (b c d : Contents) (stop : Stop) → d ≡ record c { notes = d.notes } → Part due b c stop → InputPart due.running b.input d.input
 part_input due b c d stop e p = subst (λ i. InputPart due.running b.input i) (sym (ap (λ (x : Contents). x.input) e)) p.input
-
-part_unread : (due : Due) (b c d : Contents) (stop : Stop) → d ≡ record c { notes = d.notes } → Part due b c stop → stop ≡ Input → IsUnread due.running b.input d.input b.output d.output
-part_unread due b c d stop e p input = subst (λ (x : Contents). IsUnread due.running b.input x.input b.output x.output) (sym e) (p.unread input)
 
 -- and where memory was wanting, the files are as before
 lost_files : (due : Due) (b c d : Contents) → d ≡ record c { notes = d.notes } → Part due b c Memory → FilesPart due.kept Notes b.files d.files
@@ -51,6 +51,16 @@ failed stop = Err stop
 abbrev done : ℕ → Result ℕ Stop
 done code = Ok code
 
+-- a count that rose did so up to each later one
+rose_later : (a b c : ℕ) → b ≤ c → Rose a b → Rose a c
+rose_later a b c h r = omega arith
+
+-- what wasn't fetched was due also after the last line
+unfetched_later : (order : Option Order) (sources : Sources) (due : Due) (k k1 k2 : Counts) → Later k1 k2 → IsUnfetched order sources due k k1 → IsUnfetched order sources due k k2
+unfetched_later None sources due k k1 k2 l was = was
+unfetched_later (Some order) sources due k k1 k2 l was =
+    let name = was.1.0 in (was.0, (name, was.1.1, rose_later (k.fetches name) (k1.fetches name) (k2.fetches name) (l.fetches name) was.1.2))
+
 -- a stop that isn't want of memory
 answer_outside : (order : Option Order) (b c d : Contents) (k k1 k2 : Counts) (stop : Stop) (status : ℕ) → stop ≢ Memory → Serves order b c k k1 (Err stop) → Concludes (Err stop) c d k1 k2 status → Answers order b d k k2 status
 answer_outside order b c d k k1 k2 stop status other w e =
@@ -60,6 +70,7 @@ answer_outside order b c d k k1 k2 stop status other w e =
       explained = w.explained;
       stop = stop;
       caused = λ _. (other, caused_later (all_reads_of order w.explained.sources) (all_keeps_of order) stop k k1 k2 e.later w.counted.caused);
+      fetched = λ _ is. unfetched_later order w.explained.sources w.due k k1 k2 e.later (w.fetched (ap failed is));
       others = λ _. others_later stop k k1 k2 e.others w.counted.others;
       quiet = λ not_seven. absurd (not_seven last.0);
       due_done = λ not_seven _. absurd (not_seven last.0);
@@ -68,7 +79,6 @@ answer_outside order b c d k k1 k2 stop status other w e =
           record {
             files = part_files w.due b c d stop e.rest p;
             input = part_input w.due b c d stop e.rest p;
-            unread = part_unread w.due b c d stop e.rest p;
             output = part_output w.due b c d stop e.rest p;
             notes = record {
               first = p.notes.part;
@@ -77,6 +87,9 @@ answer_outside order b c d k k1 k2 stop status other w e =
               begins = inl p.notes.begins;
               ends = last_line_of last.1.bytes stop k k1 k2 (later_counted (all_reads_of order w.explained.sources) (all_keeps_of order) k k1 (failed stop) w.counted) last.1.is;
             };
+            unkept = λ keep. unkept_told b c d last.1.bytes e.rest last.1.gained (p.unkept keep);
+            unread = λ input. unread_told w.due.running w.due.kept b c d last.1.bytes e.rest last.1.gained (p.unread input);
+            unput = λ output. unput_told w.due.running w.due b c d last.1.bytes e.rest last.1.gained (p.unput output);
           };
       memory = λ nine. absurd (let seven : status ≡ 7 = last.0 in omega arith);
       ready = λ _ nine. absurd (let seven : status ≡ 7 = last.0 in omega arith);
@@ -92,6 +105,7 @@ answer_done order b c d k k1 k2 code status w e =
       explained = w.explained;
       stop = Notes;
       caused = λ seven. absurd (w.own.0 (sym last.0 ∙ seven));
+      fetched = λ seven. absurd (w.own.0 (sym last.0 ∙ seven));
       others = λ seven. absurd (w.own.0 (sym last.0 ∙ seven));
       quiet = λ _. last.2 ∙ w.counted;
       due_done = λ _ _. (last.0 ∙ w.did.0, e.rest ∙ ap (λ n. record { files = c.files; input = c.input; output = c.output; notes = n }) last.1 ∙ w.did.1);
@@ -109,6 +123,7 @@ answer_memory order b c d k k1 k2 status w e =
       explained = w.explained;
       stop = Notes;
       caused = λ seven. (λ clash. cc, rose_earlier _ _ _ w.counted.later.notes (e.lost refl seven).0);
+      fetched = λ seven is. absurd cc;
       others = λ seven. others_later Notes k k1 k2 e.others (ap (λ (c : Counts). record c { notes = k1.notes }) w.counted.others);
       quiet = λ not_seven. (e.memory refl not_seven).2 ∙ w.counted.others;
       due_done = λ not_seven not_nine. absurd (not_nine (e.memory refl not_seven).0);
@@ -119,7 +134,6 @@ answer_memory order b c d k k1 k2 status w e =
           record {
             files = lost_files w.due b c d e.rest p;
             input = part_input w.due b c d Memory e.rest p;
-            unread = λ clash. cc;
             output = part_output w.due b c d Memory e.rest p;
             notes = record {
               first = ended_lines (take whole.count w.due.notes) ++ lost.part;
@@ -134,6 +148,9 @@ answer_memory order b c d k k1 k2 status w e =
               );
               ends = inl refl;
             };
+            unkept = λ clash. absurd cc;
+            unread = λ clash. absurd cc;
+            unput = λ clash. absurd cc;
           };
       memory = λ nine.
           let p = w.did in
@@ -147,7 +164,11 @@ answer_memory order b c d k k1 k2 status w e =
             count = whole.count;
             notes = gained_both b.notes c.notes d.notes _ (last_line Memory) whole.gained last;
           };
-      ready = λ first nine. ap (λ (x : Contents). x.output) e.rest ∙ w.ready first refl;
+      ready = λ first nine.
+          let not_seven : status ≢ 7 = (λ seven. omega arith) in
+          let last = (e.memory refl not_seven).1 in
+          e.rest ∙ ap (λ n. record { files = c.files; input = c.input; output = c.output; notes = n }) last
+          ∙ ap (λ (x : Contents). record { files = x.files; input = x.input; output = x.output; notes = appended x.notes (last_line Memory) }) (w.ready first refl);
       never_less = later_more k k1 k2 (later_counted (all_reads_of order w.explained.sources) (all_keeps_of order) k k1 (failed Memory) w.counted) e.later;
     }
 

@@ -197,7 +197,7 @@ not_shaped P text p d shaping.OutOfMemory result is memory found = found_so P (I
 
 -- the derivation of a program is in use
 abbrev pub in_use : {text : Bytes} {program : ProgramOfText} → IsOfText text program → IsInUse (reads program.phrase) (plain_derivation program.derivation)
-in_use {text} {program} is = record { accepted = is.derived; table = program.table; just = is.table_is; limits = is.table_limits }
+in_use {text} {program} is = record { accepted = is.derived; within = is.limits; table = program.table; just = is.table_is; limits = is.table_limits }
 
 pub is_accepted : {text : Bytes} {program : ProgramOfText} → IsOfText text program → IsAccepted text
 is_accepted {text} {program} is = record { phrase = reads program.phrase; is_program = is.is_program; derivation = plain_derivation program.derivation; in_use = in_use is }

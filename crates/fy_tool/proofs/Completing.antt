@@ -1,6 +1,6 @@
 -- What is within the limits is taken, and a run whose bounds fit comes to its end.
-use Rattle.std.proofs.Common.{◌≡◌, ◌≢◌, ℕ, zero, suc, ◌+◌, ◌<◌, ◌≤◌, max, List, [], inl, inr, sym, ◌∙◌, refl, subst, arith, All}
-use Rattle.std.specs.Prelude.{◌⊎◌, Any}
+use Rattle.std.proofs.Common.{◌≡◌, ◌≢◌, ℕ, zero, suc, ◌+◌, ◌<◌, ◌≤◌, max, List, [], inl, inr, sym, ap, ◌∙◌, refl, subst, arith, All, Some}
+use Rattle.std.specs.Prelude.{◌⊎◌, Any, Ok, Err}
 use Rattle.std.proofs.lemmas.Bool.{cases_lt}
 use Rattle.std.proofs.lemmas.Nat.{mul-le}
 use Rattle.fy_base.specs.Outside.{Bytes}
@@ -12,10 +12,13 @@ use Rattle.fy_types.specs.Paths.{PlainPaths}
 use Rattle.fy_types.specs.Limits.{IsWithinLimits, IsTooLarge}
 use Rattle.fy_types.specs.Types.{atom}
 use Rattle.fy_types.specs.declared.types.Atom.TheVariants.{Comm}
-use Rattle.fy_expand.proofs.JudgedLemmas.{one_phrase, phrase_or_refusal}
+use Rattle.fy_expand.specs.Judged.{IsJudged}
+use Rattle.fy_expand.specs.Judged as judged
+use Rattle.fy_expand.proofs.JudgedLemmas.{one_phrase, one_refusal, phrase_or_refusal}
 use Rattle.fy_derive.specs.Least.{visits}
 use Rattle.fy_derive.specs.Shapes.{table_words, thunks}
 use Rattle.fy_derive.specs.Typing.{HasType}
+use Rattle.fy_least.specs.Blame.{blame_of}
 use Rattle.fy_least.specs.Limits.{KeepTypeLimits, PassTypeLimits}
 use Rattle.fy_image.specs.Machine.{machine_after}
 use Rattle.rv_insn.specs.declared.events.Event.{Event}
@@ -28,9 +31,10 @@ use Rattle.fy_build.specs.Headline.{IsSameEnd, both_ended, both_faulted, IsOverS
 use Rattle.fy_words.specs.Order.{steps_wanted}
 use Rattle.fy_world.specs.Runs.{running_of}
 use Rattle.fy_world.specs.declared.refusal.Refusal.{Refusal}
+use Rattle.fy_world.specs.declared.refusal.Refusal.TheVariants as refusal
 use Rattle.fy_world.proofs.WholeRuns.{whole_stays}
-use Rattle.fy_tool.specs.Checked.{IsProgramText, IsLeastShape, IsLeastPair, IsRefusedFor, not_judged, too_large, no_command, many_shapes, many_entries, large_tables}
-use Rattle.fy_tool.specs.Complete.{LeastShapesFit, AcceptedWhereLimitsHold, RunCompletes}
+use Rattle.fy_tool.specs.Checked.{IsProgramText, IsLeastShape, IsLeastPair, IsRefusedFor, told_as, not_judged, too_large, no_command, many_shapes, many_entries, large_tables}
+use Rattle.fy_tool.specs.Complete.{LeastShapesFit, AcceptedWhereLimitsHold, PassesLeastShapes, of_shapes, of_pairs, of_words, AreByShapes, AcceptedTextIsRefusedByShapesAlone, TextIsRefusedOneWay, RunCompletes}
 use Rattle.fy_tool.specs.Given.{by_text}
 use Rattle.fy_tool.proofs.Pigeons.{many_few, many_counted}
 
@@ -52,32 +56,78 @@ keep_or_pass p keep (inr many) = let few = keep.together in omega arith
 pub words_grow : (p : Tree) (m n : ℕ) → m ≤ n → table_words p m ≤ table_words p n
 words_grow p m n le = mul-le m (4 + thunks p) n (4 + thunks p) le (omega arith)
 
-not_refused : (text : Bytes) (p : Tree) → IsProgramText text p → LeastShapesFit p → (why : Refusal) → IsRefusedFor text why → ⊥
-not_refused text p is fit why (not_judged cause judged told) = phrase_or_refusal text p cause is.is_judged judged
-not_refused text p is fit why (too_large q judged passes) =
-    let same = one_phrase text q p judged is.is_judged in
-    keep_or_pass p is.within (subst (λ x. PassTypeLimits (visits 0 [] x)) same passes)
-not_refused text p is fit why (no_command q judged keep none) =
-    let same = one_phrase text p q is.is_judged judged in
-    none (subst (λ x. HasType [] x (atom Comm)) same is.is_command)
-not_refused text p is fit why (many_shapes q d shown many least) =
-    let same = one_phrase text q p shown.is_program.is_judged is.is_judged in
-    let le = many_few (most_shapes + 1) most_shapes (IsLeastShape p) (subst (λ x. HasMany (most_shapes + 1) (IsLeastShape x)) same least) fit.shapes in
-    omega arith
-not_refused text p is fit why (many_entries q d shown few many least) =
-    let same = one_phrase text q p shown.is_program.is_judged is.is_judged in
-    let le = many_few (most_pairs + 1) most_pairs (IsLeastPair p) (subst (λ x. HasMany (most_pairs + 1) (IsLeastPair x)) same least) fit.pairs in
-    omega arith
-not_refused text p is fit why (large_tables q d shown passes few least) =
-    let same = one_phrase text q p shown.is_program.is_judged is.is_judged in
-    let le = many_counted passes.shapes fit.count (IsLeastShape p) (subst (λ x. HasMany passes.shapes (IsLeastShape x)) same least) fit.counted in
-    let grown = words_grow p passes.shapes fit.count le in
-    let large = subst (λ x. most_words < table_words x passes.shapes) same passes.large in
+-- which stage refuses a text with this phrase
+abbrev StageOf : Bytes → Tree → Refusal → Type 0
+StageOf text p why = (PassTypeLimits (visits 0 [] p) × (why ≡ refusal.LeastSize)) ⊎ (KeepTypeLimits (visits 0 [] p) × (¬ HasType [] p (atom Comm)) × (why ≡ refusal.NoType (blame_of [] p)))
+    ⊎ (IsProgramText text p × PassesLeastShapes p why)
+
+-- a text is refused as one with no phrase, or at a stage of its phrase
+staged : (text : Bytes) (why : Refusal) → IsRefusedFor text why → ((cause : judged.Refusal) × IsJudged text (Err cause) × (told_as cause ≡ Some why)) ⊎ ((p : Tree) × IsJudged text (Ok p) × StageOf text p why)
+staged text why (not_judged cause is told) = inl (cause, is, told)
+staged text why (too_large p is passes) = inr (p, is, inl (passes, refl))
+staged text why (no_command p is keep none) = inr (p, is, inr (inl (keep, none, refl)))
+staged text why (many_shapes p d shown many least) = inr (p, shown.is_program.is_judged, inr (inr (shown.is_program, of_shapes least)))
+staged text why (many_entries p d shown few many least) = inr (p, shown.is_program.is_judged, inr (inr (shown.is_program, of_pairs least)))
+staged text why (large_tables p d shown passes few least) = inr (p, shown.is_program.is_judged, inr (inr (shown.is_program, of_words passes.shapes least passes.large)))
+
+-- the stage that refuses the text of a command is that of shapes
+by_shapes_alone : (text : Bytes) (p : Tree) → IsProgramText text p → (why : Refusal) → StageOf text p why → PassesLeastShapes p why
+by_shapes_alone text p is why (inl (passes, told)) = absurd (keep_or_pass p is.within passes)
+by_shapes_alone text p is why (inr (inl (keep, none, told))) = absurd (none is.is_command)
+by_shapes_alone text p is why (inr (inr (program, passes))) = passes
+
+-- the text of a command is refused for shapes alone
+shapes_alone : (text : Bytes) (p : Tree) → IsProgramText text p → (why : Refusal) → IsRefusedFor text why → PassesLeastShapes p why
+shapes_alone text p is why refused = of (staged text why refused)
+  where
+    of : ((cause : judged.Refusal) × IsJudged text (Err cause) × (told_as cause ≡ Some why)) ⊎ ((q : Tree) × IsJudged text (Ok q) × StageOf text q why) → PassesLeastShapes p why
+    of (inl (cause, unjudged, told)) = absurd (phrase_or_refusal text p cause is.is_judged unjudged)
+    of (inr (q, is_judged, at)) = by_shapes_alone text p is why (subst (λ (x : Tree). StageOf text x why) (one_phrase text q p is_judged is.is_judged) at)
+
+pub accepted_alone : AcceptedTextIsRefusedByShapesAlone
+accepted_alone text is why refused = shapes_alone text is.phrase is.is_program why refused
+
+-- two stages of one phrase tell the same, or are that of shapes
+one_stage : (text : Bytes) (p : Tree) (why other : Refusal) → StageOf text p why → StageOf text p other → (why ≡ other) ⊎ (PassesLeastShapes p why × PassesLeastShapes p other)
+one_stage text p why other (inl (passes, told)) (inl (passes', told')) = inl (told ∙ sym told')
+one_stage text p why other (inl (passes, told)) (inr (inl (keep, none, told'))) = absurd (keep_or_pass p keep passes)
+one_stage text p why other (inl (passes, told)) (inr (inr (program, shapes))) = absurd (keep_or_pass p program.within passes)
+one_stage text p why other (inr (inl (keep, none, told))) (inl (passes, told')) = absurd (keep_or_pass p keep passes)
+one_stage text p why other (inr (inl (keep, none, told))) (inr (inl (keep', none', told'))) = inl (told ∙ sym told')
+one_stage text p why other (inr (inl (keep, none, told))) (inr (inr (program, shapes))) = absurd (none program.is_command)
+one_stage text p why other (inr (inr (program, shapes))) (inl (passes, told)) = absurd (keep_or_pass p program.within passes)
+one_stage text p why other (inr (inr (program, shapes))) (inr (inl (keep, none, told))) = absurd (none program.is_command)
+one_stage text p why other (inr (inr (program, shapes))) (inr (inr (program', shapes'))) = inr (shapes, shapes')
+
+told_one : (cause other : judged.Refusal) (why told : Refusal) → cause ≡ other → told_as cause ≡ Some why → told_as other ≡ Some told → why ≡ told
+told_one cause other why told same is is' = let e : Some why ≡ Some told = sym is ∙ ap told_as same ∙ is' in cc
+
+at_shapes : (text : Bytes) (p : Tree) (why other : Refusal) → IsJudged text (Ok p) → (why ≡ other) ⊎ (PassesLeastShapes p why × PassesLeastShapes p other) → (why ≡ other) ⊎ AreByShapes text why other
+at_shapes text p why other is (inl alike) = inl alike
+at_shapes text p why other is (inr (one, another)) = inr (record { phrase = p; is_judged = is; one = one; other_one = another })
+
+pub refused_one_way : TextIsRefusedOneWay
+refused_one_way text why other refused refused' = both (staged text why refused) (staged text other refused')
+  where
+    both : ((cause : judged.Refusal) × IsJudged text (Err cause) × (told_as cause ≡ Some why)) ⊎ ((p : Tree) × IsJudged text (Ok p) × StageOf text p why)
+        → ((cause : judged.Refusal) × IsJudged text (Err cause) × (told_as cause ≡ Some other)) ⊎ ((p : Tree) × IsJudged text (Ok p) × StageOf text p other) → (why ≡ other) ⊎ AreByShapes text why other
+    both (inl (cause, is, told)) (inl (cause', is', told')) = inl (told_one cause cause' why other (one_refusal text cause cause' is is') told told')
+    both (inl (cause, is, told)) (inr (p, is', at)) = absurd (phrase_or_refusal text p cause is' is)
+    both (inr (p, is, at)) (inl (cause, is', told)) = absurd (phrase_or_refusal text p cause is is')
+    both (inr (p, is, at)) (inr (q, is', at')) = at_shapes text p why other is (one_stage text p why other at (subst (λ (x : Tree). StageOf text x other) (one_phrase text q p is' is) at'))
+
+-- what fits passes no limit
+fits_none : (p : Tree) → LeastShapesFit p → (why : Refusal) → PassesLeastShapes p why → ⊥
+fits_none p fit why (of_shapes least) = let le = many_few (most_shapes + 1) most_shapes (IsLeastShape p) least fit.shapes in omega arith
+fits_none p fit why (of_pairs least) = let le = many_few (most_pairs + 1) most_pairs (IsLeastPair p) least fit.pairs in omega arith
+fits_none p fit why (of_words count least large) =
+    let le = many_counted count fit.count (IsLeastShape p) least fit.counted in
+    let grown = words_grow p count fit.count le in
     let words = fit.words in
     omega arith
 
 pub accepted_where : AcceptedWhereLimitsHold
-accepted_where text p is fit written status why (by_text _ refusal refused) = not_refused text p is fit refusal refused
+accepted_where text p is fit written status why (by_text _ told refused) = fits_none p fit told (shapes_alone text p is told refused)
 
 -- ---- runs
 

@@ -1,9 +1,9 @@
 -- Derivations that are named, and what they show of texts.
-use Rattle.std.proofs.Common.{◌≡◌, ℕ, ◌<◌, ◌≤◌, List, [], ◌∷◌, length, subst, sym, Some, None}
-use Rattle.std.specs.Prelude.{IfOk, Ok, Err}
+use Rattle.std.proofs.Common.{◌≡◌, ◌∙◌, ℕ, ◌<◌, ◌≤◌, List, [], ◌∷◌, length, refl, subst, sym, Some, None}
+use Rattle.std.specs.Prelude.{IfOk, IfErr, Ok, Err}
 use Rattle.std.specs.declared.option.Option.{Option}
 use Rattle.std.specs.declared.result.Result.{Result}
-use Rattle.fy_base.specs.Outside.{Bytes, Folder, Tells}
+use Rattle.fy_base.specs.Outside.{Bytes, Folder, Rose, Tells}
 use Rattle.fy_derive.specs.Derivations.{PlainDerivation}
 use Rattle.fy_derive.specs.Judging.{conclusion_of, refusal}
 use Rattle.fy_derive.specs.Limits.{KeepsLimits}
@@ -21,17 +21,19 @@ use Rattle.fy_world.proofs.Parts.{content_of}
 use Rattle.fy_world.specs.World.{Counts}
 use Rattle.fy_world.specs.Counted.{Faulted}
 use Rattle.fy_world.specs.declared.world.Stop.{Stop}
+use Rattle.fy_world.specs.declared.world.Stop.TheVariants.{Fetch, Memory}
 use Rattle.fy_world.proofs.Counting.{counted_behind, faulted_after}
 use Rattle.fy_world.specs.declared.note.Note.{Note}
 use Rattle.fy_world.specs.declared.note.Note.TheVariants as note
 use Rattle.fy_world.specs.declared.refusal.Refusal.{Refusal}
 use Rattle.fy_tool.specs.Checked.{IsRefusedFor}
 use Rattle.fy_tool.specs.Given.{Spells, handed, unread, wrong, too_long, by_text, before_typing, by_derivation, by_shapes}
-use Rattle.fy_tool.specs.Working.{IsCore, IsOfText, IsUnjudged, ReadFrom, Tables, ChecksGiven, GivenBy, WasGiven}
+use Rattle.fy_tool.specs.Working.{IsCore, IsOfText, IsUnjudged, ReadFrom, Tables, ChecksGiven, GivenBy, WasGiven, IsUngiven, no_text, no_derivation}
 use Rattle.fy_tool.specs.declared.given.TurnedDown.{TurnedDown}
 use Rattle.fy_tool.specs.declared.texts.Core.{Core}
 use Rattle.fy_tool.specs.declared.texts.Program.{Program}
 use Rattle.fy_tool.proofs.ImageCommands.{given_found}
+use Rattle.fy_tool.proofs.ReadUnits.{the_one}
 
 -- what a derivation that spells from a text's names shows of the text
 spells : (text written : Bytes) (core : Core) (after : List Bytes) (d : PlainDerivation) → length written ≤ 16777216 → IsCore text core → NumbersFields core.names after d written → KeepsLimits d → KeepsThroughout written → Spells text written d
@@ -49,6 +51,7 @@ given_in_use core written after program short read same accepted tabled = λ tex
       is_judged = moved.0;
       given = handed name written moved.0 spelled;
       derived = moved.1;
+      limits = read.1;
       table_is = moved.2;
       table_limits = moved.3;
     }
@@ -112,3 +115,25 @@ failed stop = Err stop
 -- the second file wasn't fetched
 pub second_faulted : (file name : Bytes) (k k1 k2 : Counts) (stop : Stop) → k1 ≡ k → Faulted (name ∷ []) [] stop k1 k2 → Faulted (file ∷ name ∷ []) [] stop k k2
 second_faulted file name k k1 k2 stop same fault = faulted_after (file ∷ name ∷ []) [] stop k k1 k2 same (counted_behind file (name ∷ []) [] k1 k2 (failed stop) fault)
+
+-- ---- what wasn't fetched
+
+rose_of : (name : Bytes) (k k1 : Counts) (stop : Stop) → Faulted (name ∷ []) [] stop k k1 → stop ≡ Fetch → Rose (k.fetches name) (k1.fetches name)
+rose_of name k k1 stop fault is =
+    let of : Faulted (name ∷ []) [] Fetch k k1 = subst (λ (s : Stop). Faulted (name ∷ []) [] s k k1) is fault in
+    the_one (λ name. Rose (k.fetches name) (k1.fetches name)) name of.caused
+
+-- the text
+pub text_unfetched : (file : Bytes) (named : Option Bytes) (files : Option Folder) (k k1 : Counts) (stop : Stop) → Faulted (file ∷ []) [] stop k k1 → stop ≡ Fetch → IsUngiven file named files k k1
+text_unfetched file named files k k1 stop fault is = no_text (rose_of file k k1 stop fault is)
+
+-- the derivation, behind a text with a core phrase
+pub derivation_unfetched : (file name text : Bytes) (files : Option Folder) (core : Core) (k k1 k2 : Counts) (stop : Stop) → Tells files file (Some text) → IsCore text core → k1 ≡ k → Faulted (name ∷ []) [] stop k1 k2 → stop ≡ Fetch
+    → IsUngiven file (Some name) files k k2
+derivation_unfetched file name text files core k k1 k2 stop told is same fault fetch =
+    no_derivation name text (reads core.phrase) refl told is.is_judged (rose_of name k k2 stop (faulted_after (name ∷ []) [] stop k k1 k2 same fault) fetch)
+
+-- behind both nothing is fetched
+pub all_fetched : (file name : Bytes) (files : Option Folder) (k k1 : Counts) (result : Result (Result Program TurnedDown) Stop) → IfErr result (λ stop. stop ≡ Memory) → IfErr result (λ stop. stop ≡ Fetch → IsUngiven file (Some name) files k k1)
+all_fetched file name files k k1 (Ok found) memory = tt
+all_fetched file name files k k1 (Err stop) memory = λ is. let clash : Memory ≡ Fetch = sym memory ∙ is in absurd cc

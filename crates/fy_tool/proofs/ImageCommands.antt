@@ -48,17 +48,18 @@ given_found text written program is = record {
   is_judged = is.is_program.is_judged;
   given = found written is.is_program;
   derived = is.derived;
+  limits = is.limits;
   table_is = is.table_is;
   table_limits = is.table_limits;
 }
 
 -- and a program of which images are built
 pub buildable : (text : Bytes) (named written : Option Bytes) (program : Program) → IsGivenFor text named written program → IsBuildable program
-buildable text named written program is = record { names = first_names; text = text; is_judged = is.is_judged; derived = is.derived; table_is = is.table_is; table_limits = is.table_limits }
+buildable text named written program is = record { names = first_names; text = text; is_judged = is.is_judged; derived = is.derived; limits = is.limits; table_is = is.table_is; table_limits = is.table_limits }
 
 pub by_image : (program : Program) (stack : ℕ) (image : Image) → IsBuildable program → IsImageFor program stack image → IsImageBy (reads program.phrase) (plain_derivation program.derivation) stack image
 by_image program stack image is of = record {
-  in_use = record { accepted = is.derived; table = program.table; just = is.table_is; limits = is.table_limits };
+  in_use = record { accepted = is.derived; within = is.limits; table = program.table; just = is.table_is; limits = is.table_limits };
   stack_is = of.stack_is;
   table_is = of.table_is;
   selected = of.selected;
@@ -189,19 +190,19 @@ serves_no_image order bytes error why b c d k k1 k2 result takes refusal is a re
 
 -- `exec` of an image
 pub serves_exec : (name : Bytes) (steps trace : Option ℕ) (bytes : Bytes) (image : Image) (b c d : Contents) (k k1 k2 : Counts) (result : Result ℕ Stop) → IsImageBytes image bytes → After (exec name steps trace) (only bytes) b c d k k1 k2 result
-    → (trace ≡ None → result ≡ Err Memory → d.output ≡ c.output) → Executes image (steps_wanted steps) trace c d result → Serves (Some (exec name steps trace)) b d k k2 result
+    → (trace ≡ None → result ≡ Err Memory → d ≡ c) → Executes image (steps_wanted steps) trace c d result → Serves (Some (exec name steps trace)) b d k k2 result
 serves_exec name steps trace bytes image b c d k k1 k2 result spelled a ready (inl unbegun) = none_done (exec name steps trace) (only bytes) b c d k k1 k2 result a unbegun
 serves_exec name steps trace bytes image b c d k k1 k2 result spelled a ready (inr e) =
     let r = e.has_run in
     done (exec name steps trace) (only bytes) b c d k k1 k2 result _ r.input a r.fed (λ _. r.bytes) (executes name steps trace bytes image e.program r.n r.end refl spelled e.is_the_images r.is_run) r.did (quiet trace ready)
   where
-    quiet : (trace : Option ℕ) → (trace ≡ None → result ≡ Err Memory → d.output ≡ c.output) → IsReadyFirst (exec name steps trace) → result ≡ Err Memory → d.output ≡ c.output
+    quiet : (trace : Option ℕ) → (trace ≡ None → result ≡ Err Memory → d ≡ c) → IsReadyFirst (exec name steps trace) → result ≡ Err Memory → d ≡ c
     quiet None ready first = ready refl
     quiet (Some count) ready first = absurd first
 
 -- `audit` of an image
 pub serves_audit : (name bytes : Bytes) (image : Image) (b c d : Contents) (k k1 k2 : Counts) (result : Result ℕ Stop) → IsImageBytes image bytes → After (audit name) (only bytes) b c d k k1 k2 result
-    → (result ≡ Err Memory → d.output ≡ c.output) → Audits image c d result → Serves (Some (audit name)) b d k k2 result
+    → (result ≡ Err Memory → d ≡ c) → Audits image c d result → Serves (Some (audit name)) b d k k2 result
 serves_audit name bytes image b c d k k1 k2 result spelled a ready (inl unbegun) = none_done (audit name) (only bytes) b c d k k1 k2 result a unbegun
 serves_audit name bytes image b c d k k1 k2 result spelled a ready (inr (inl was)) =
     done_quietly (audit name) (only bytes) b c d k k1 k2 result _ a (λ input. audits name bytes image refl spelled was.guarded) was.did (λ _ memory. ready memory)

@@ -5,8 +5,9 @@ use Rattle.std.proofs.lemmas.List.Elements.{All-nil}
 use Rattle.std.specs.Prelude.{IfOk, IfErr}
 use Rattle.std.specs.declared.option.Option.{Option}
 use Rattle.std.specs.declared.result.Result.{Result}
-use Rattle.fy_base.specs.Outside.{Bytes, Folder, Tells}
+use Rattle.fy_base.specs.Outside.{Bytes, Folder, Rose, Tells}
 use Rattle.fy_derive.specs.Judging.{conclusion_of, refusal}
+use Rattle.fy_derive.specs.Limits.{KeepsLimits}
 use Rattle.fy_derive.specs.Reading.{plain_derivation}
 use Rattle.fy_derive.specs.Shapes.{shape_table}
 use Rattle.fy_derive.specs.ShapeTables.{HasJustPairs}
@@ -22,16 +23,16 @@ use Rattle.fy_world.specs.declared.note.Note.TheVariants as note
 use Rattle.fy_world.specs.declared.refusal.Refusal.{Refusal}
 use Rattle.fy_world.specs.declared.unlinked.Unlinked.TheVariants as unlinked
 use Rattle.fy_world.specs.declared.world.Stop.{Stop}
-use Rattle.fy_world.specs.declared.world.Stop.TheVariants.{Input, Memory}
+use Rattle.fy_world.specs.declared.world.Stop.TheVariants.{Fetch, Input, Memory}
 use Rattle.fy_world.proofs.Counting.{faulted_after, short_of_memory}
 use Rattle.fy_world.proofs.Parts.{content_of}
 use Rattle.fy_tool.specs.Units.{Listed, names_of, ListsUnits, ListsNone, IsLinkedBy, no_list, no_object, not_linked, PassesShapes}
-use Rattle.fy_tool.specs.Working.{IsBuildable, WasLinked, LinksList, WasUnlisted, CountsList, IsLinkedFrom, IsSomeLinked, ReadsObjects, ShapesLinked, Tables}
+use Rattle.fy_tool.specs.Working.{IsBuildable, WasLinked, LinksList, WasUnlisted, CountsList, IsLinkedFrom, IsSomeLinked, ReadsObjects, HasUnfetched, StopsObjects, ShapesLinked, Tables}
 use Rattle.fy_tool.specs.declared.given.TurnedDown.{TurnedDown}
 use Rattle.fy_tool.specs.declared.link.Together.{Together}
 use Rattle.fy_tool.specs.declared.objects.Objects.{Objects}
 use Rattle.fy_tool.specs.declared.texts.Program.{Program}
-use Rattle.fy_tool.proofs.ReadUnits.{counted_units, found, faulted_before}
+use Rattle.fy_tool.proofs.ReadUnits.{counted_units, faulted_before, the_one}
 use Rattle.fy_tool.proofs.Serving.{none_listed}
 
 -- ---- why nothing is linked
@@ -79,7 +80,18 @@ some_objects list files names objects lists read =
 pub unlisted_fetch : (file : Bytes) (files : Option Folder) (k k1 : Counts) (stop : Stop) → Faulted (file ∷ []) [] stop k k1 → stop ≢ Input → WasUnlisted file files k k1 stop
 unlisted_fetch file files k k1 stop fault other =
     let content = content_of files file in
-    record { list = content.0; told = content.1; units = []; listed = none_listed content.0; units_told = All-nil _; faulted = fault; other = other }
+    record {
+      list = content.0;
+      told = content.1;
+      units = [];
+      listed = none_listed content.0;
+      units_told = All-nil _;
+      faulted = fault;
+      other = other;
+      fetched = λ is.
+          let of : Faulted (file ∷ []) [] Fetch k k1 = subst (λ (s : Stop). Faulted (file ∷ []) [] s k k1) is fault in
+          inl (the_one (λ name. Rose (k.fetches name) (k1.fetches name)) file of.caused);
+    }
 
 pub unlisted_memory : (file : Bytes) (files : Option Folder) (k k1 : Counts) (stop : Stop) → stop ≡ Memory → k1 ≡ k → WasUnlisted file files k k1 stop
 unlisted_memory file files k k1 stop memory same =
@@ -87,9 +99,8 @@ unlisted_memory file files k k1 stop memory same =
 
 -- a file on it wasn't
 pub unlisted_units : (file list : Bytes) (files : Option Folder) (names : List Bytes) (k k1 k2 : Counts) (stop : Stop) → Tells files file (Some list) → ListsUnits list names → k1 ≡ k → Faulted names [] stop k1 k2
-    → stop ≢ Input → WasUnlisted file files k k2 stop
-unlisted_units file list files names k k1 k2 stop holds lists same fault other =
-    let behind = found files names in
+    → stop ≢ Input → StopsObjects names files k1 k2 stop → WasUnlisted file files k k2 stop
+unlisted_units file list files names k k1 k2 stop holds lists same fault other behind =
     record {
       list = Some list;
       told = holds;
@@ -98,6 +109,7 @@ unlisted_units file list files names k k1 k2 stop holds lists same fault other =
       units_told = behind.told;
       faulted = subst (λ (ns : List Bytes). Faulted (ns ++ file ∷ []) [] stop k k2) (sym behind.named) (faulted_before names (file ∷ []) stop k k2 (faulted_after names [] stop k k1 k2 same fault));
       other = other;
+      fetched = λ is. inr (subst (λ (c : Counts). HasUnfetched behind.units c k2) same (behind.fetched is));
     }
 
 pub counts_memory : (file : Bytes) (files : Option Folder) (k k1 : Counts) (result : Result (Result Together TurnedDown) Stop) → IfErr result (λ stop. stop ≡ Memory) → k1 ≡ k → CountsList file files k k1 result
@@ -110,10 +122,10 @@ pub program_linked : (together : Together) (program : Program) → IsSomeLinked 
     → Tables (reads together.linked.phrase) (plain_derivation together.linked.derivation) (Ok program.table) → ShapesLinked together (Ok program)
 program_linked together program some phrase by tabled =
     let is = some.2 in
-    let P : Phrase → Derivation → Type 0 = λ p d. IsJudgedFrom some.0 together.linked.text (Ok (reads p)) × (refusal (conclusion_of (reads p) (plain_derivation d)) ≡ None)
+    let P : Phrase → Derivation → Type 0 = λ p d. IsJudgedFrom some.0 together.linked.text (Ok (reads p)) × (refusal (conclusion_of (reads p) (plain_derivation d)) ≡ None) × KeepsLimits (plain_derivation d)
     × HasJustPairs program.table (shape_table (reads p) (plain_derivation d)) × KeepsShapeLimits (reads p) program.table in
-    let moved = subst (λ p. P p program.derivation) (sym phrase) (subst (λ d. P together.linked.phrase d) (sym by) (is.phrase, is.accepted, tabled.0, tabled.1)) in
-    (phrase, by, record { names = some.0; text = together.linked.text; is_judged = moved.0; derived = moved.1; table_is = moved.2; table_limits = moved.3 })
+    let moved = subst (λ p. P p program.derivation) (sym phrase) (subst (λ d. P together.linked.phrase d) (sym by) (is.phrase, is.accepted, is.few, tabled.0, tabled.1)) in
+    (phrase, by, record { names = some.0; text = together.linked.text; is_judged = moved.0; derived = moved.1; limits = moved.2; table_is = moved.3; table_limits = moved.4 })
 
 pub passes_shapes : {list : Bytes} {units : List Listed} (together : Together) (why : Refusal) → IsLinkedBy list units together.linked → ShapesLinked together (Err why) → PassesShapes list units why
 passes_shapes together why is passed = record { linked = together.linked; is = is; error = passed.0; shaping = passed.1; told = passed.2 }

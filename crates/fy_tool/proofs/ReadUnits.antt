@@ -5,7 +5,7 @@ use Rattle.std.proofs.lemmas.List.Elements.{All-nil, All-cons, All-append, All-p
 use Rattle.std.specs.Borrow.{Bor}
 use Rattle.std.specs.Prelude.{All, Any}
 use Rattle.std.specs.declared.option.Option.{Option}
-use Rattle.fy_base.specs.Outside.{Bytes, Folder, Tells}
+use Rattle.fy_base.specs.Outside.{Bytes, Folder, Rose, Tells}
 use Rattle.fy_lexer.specs.Tokens.{HasAdded}
 use Rattle.fy_link.specs.UnitBytes.{IsUnitRead, IsBadUnit}
 use Rattle.fy_link.specs.Units.{IsUnit}
@@ -21,7 +21,7 @@ use Rattle.fy_world.proofs.Counting.{faulted_after}
 use Rattle.fy_world.proofs.Parts.{content_of}
 use Rattle.fy_tool.specs.Due.{AreTold}
 use Rattle.fy_tool.specs.Units.{most_unit, Listed, names_of, AreUnitsRead, none, one_more, IsBadObject}
-use Rattle.fy_tool.specs.Working.{ReadsObject, ReadsObjects}
+use Rattle.fy_tool.specs.Working.{ReadsObject, ReadsObjects, HasUnfetched, StopsObjects}
 use Rattle.fy_tool.specs.declared.objects.Objects.{Objects}
 use Rattle.fy_tool.proofs.Lists.{all_now, taken_now}
 
@@ -124,7 +124,7 @@ any_at : (P : Bytes → Type 0) (before : List Bytes) (name : Bytes) (behind : L
 any_at P [] name behind p = (0, name, omega arith, refl, p)
 any_at P (x ∷ before) name behind p = let a = any_at P before name behind p in (suc a.0, a.1, omega (arith, a.2), a.3, a.4)
 
-the_one : (P : Bytes → Type 0) (name : Bytes) → Any P (name ∷ []) → P name
+pub the_one : (P : Bytes → Type 0) (name : Bytes) → Any P (name ∷ []) → P name
 the_one P name (zero, x, lt, is, p) = subst P (sym is) p
 the_one P name (suc k, x, lt, is, p) = absurd (omega arith)
 
@@ -216,3 +216,41 @@ pub read_faulted : (files : List (Bor Bytes)) (i : ℕ) (d : Bor Bytes) (stop : 
     → Faulted (map (λ (file : Bor Bytes). file.now) files) [] stop k k2
 read_faulted files i d stop k k1 k2 lt same fault =
     faulted_among (firsts i files) (get_or files i d).now (map (λ (file : Bor Bytes). file.now) (drop (i + 1) files)) _ stop k k2 (all_now files i d lt) (faulted_after _ [] stop k k1 k2 same fault)
+
+-- ---- what stopped the reading
+
+-- memory was wanting
+pub stopped_short : (names : List Bytes) (files : Option Folder) (k k1 : Counts) (stop : Stop) → stop ≡ Memory → StopsObjects names files k k1 stop
+stopped_short names files k k1 stop memory =
+    let all = found files names in
+    record { units = all.units; named = all.named; told = all.told; fetched = λ is. let clash : Memory ≡ Fetch = sym memory ∙ is in absurd cc }
+
+-- a file that wasn't fetched, behind those that hold units
+pub unread_at : (files : Option Folder) (names : List Bytes) (values : List UnitValue) (known : List Bytes) (name : Bytes) (rest all : List Bytes) (k k1 : Counts) (stop : Stop) → ReadSoFar files names values known → all ≡ names ++ name ∷ rest
+    → Faulted (name ∷ []) [] stop k k1 → StopsObjects all files k k1 stop
+unread_at files names values known name rest all k k1 stop so_far are fault =
+    let content = content_of files name in
+    let unit : Listed = record { name = name; content = content.0 } in
+    let behind = found files rest in
+    record {
+      units = so_far.units ++ unit ∷ behind.units;
+      named = map-append (λ (file : Listed). file.name) so_far.units (unit ∷ behind.units) ∙ (λ i. so_far.named i ++ name ∷ behind.named i) ∙ sym are;
+      told = All-append (Holds files) so_far.units (unit ∷ behind.units) so_far.told (All-cons (Holds files) unit behind.units content.1 behind.told);
+      fetched = λ is.
+          let of : Faulted (name ∷ []) [] Fetch k k1 = subst (λ (s : Stop). Faulted (name ∷ []) [] s k k1) is fault in
+          record {
+            read = so_far.units;
+            unit = unit;
+            behind = behind.units;
+            are = refl;
+            values = values;
+            names = known;
+            hold = so_far.read;
+            rose = the_one (λ name. Rose (k.fetches name) (k1.fetches name)) name of.caused;
+          };
+    }
+
+pub read_unfetched : (b : Contents) (files : List (Bor Bytes)) (i : ℕ) (d : Bor Bytes) (values : List UnitValue) (known : List Bytes) (stop : Stop) (k k1 k2 : Counts) → ReadSoFar b.files (firsts i files) values known → i < length files → k1 ≡ k
+    → Faulted ((get_or files i d).now ∷ []) [] stop k1 k2 → StopsObjects (map (λ (file : Bor Bytes). file.now) files) b.files k k2 stop
+read_unfetched b files i d values known stop k k1 k2 so_far lt same fault =
+    unread_at b.files (firsts i files) values known (get_or files i d).now (map (λ (file : Bor Bytes). file.now) (drop (i + 1) files)) _ k k2 stop so_far (all_now files i d lt) (faulted_after _ [] stop k k1 k2 same fault)

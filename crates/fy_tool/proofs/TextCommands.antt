@@ -33,12 +33,12 @@ serves_accepted file text b c d k k1 k2 result is a ready did =
 
 -- `derive` of a program
 pub serves_derived : (file text : Bytes) (program : Program) (b c d : Contents) (k k1 k2 : Counts) (result : Result ℕ Stop) → IsOfText text program → After (derive file) (only text) b c d k k1 k2 result
-    → (result ≡ Err Memory → d.output ≡ c.output) → IsUnbegun c d result ⊎ Did (written (derivation_text program.names (plain_derivation program.derivation))) c d result → Serves (Some (derive file)) b d k k2 result
+    → (result ≡ Err Memory → d ≡ c) → IsUnbegun c d result ⊎ Did (written (derivation_text program.names (plain_derivation program.derivation))) c d result → Serves (Some (derive file)) b d k k2 result
 serves_derived file text program b c d k k1 k2 result is a ready (inl unbegun) = none_done (derive file) (only text) b c d k k1 k2 result a unbegun
 serves_derived file text program b c d k k1 k2 result is a ready (inr did) =
     let by = plain_derivation program.derivation in
     done_quietly (derive file) (only text) b c d k k1 k2 result _ a
-    (λ input. derives file text (reads program.phrase) program.names by refl is.is_program is.named (in_use is) is.limits (printed_is_text program.names by is.printable)) did (λ _ memory. ready memory)
+    (λ input. derives file text (reads program.phrase) program.names by refl is.is_program is.named (in_use is) (printed_is_text program.names by is.printable)) did (λ _ memory. ready memory)
 
 -- `copy` of a program
 pub serves_copied : (file : Bytes) (steps : Option ℕ) (text : Bytes) (program : Program) (b c d : Contents) (k k1 k2 : Counts) (result : Result ℕ Stop) → IsOfText text program → After (copy file steps) (only text) b c d k k1 k2 result

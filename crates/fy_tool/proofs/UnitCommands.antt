@@ -5,7 +5,7 @@ use Rattle.std.proofs.lemmas.List.Elements.{All-nil}
 use Rattle.std.specs.Prelude.{IfOk, MatchResult}
 use Rattle.std.specs.declared.option.Option.{Option}
 use Rattle.std.specs.declared.result.Result.{Result}
-use Rattle.fy_base.specs.Outside.{Bytes, Folder, Tells}
+use Rattle.fy_base.specs.Outside.{Bytes, Folder, Rose, Tells}
 use Rattle.fy_derive.specs.Print.{derivation_text}
 use Rattle.fy_derive.specs.Reading.{plain_derivation}
 use Rattle.fy_phrase.specs.Reads.{reads}
@@ -37,9 +37,10 @@ use Rattle.fy_world.specs.declared.world.Stop.TheVariants.{Input, Memory}
 use Rattle.fy_world.proofs.Counting.{faulted_keeps}
 use Rattle.fy_tool.specs.Checked.{lex_refusal, parse_refusal, expand_refusal}
 use Rattle.fy_tool.specs.Units.{Listed, names_of, IsNoUnit, not_compiled, unit_refusal, IsLinkedBy, IsNotLinked, no_list, no_object, not_linked as not_linked_units, PassesShapes, linked_refusal, link_note}
-use Rattle.fy_tool.specs.Due.{IsImageBy, Sources, TellsSources, AreTold, AreListed, list_of, compiles, no_unit, not_linked, joins, misshapes, links, reads_of, keeps_of}
+use Rattle.fy_tool.specs.Due.{IsImageBy, Sources, TellsSources, AreTold, AreListed, list_of, file_of, compiles, no_unit, not_linked, joins, misshapes, links, reads_of, keeps_of}
+use Rattle.fy_tool.specs.Fetched.{by_name, unit_behind, RoseOfDue}
 use Rattle.fy_tool.specs.Answers.{Serves}
-use Rattle.fy_tool.specs.Working.{AreUnitBytes, Builds, IsBuildable, WasUnlisted}
+use Rattle.fy_tool.specs.Working.{AreUnitBytes, Builds, HasUnfetched, IsBuildable, WasUnlisted}
 use Rattle.fy_tool.specs.declared.texts.Program.{Program}
 use Rattle.fy_tool.proofs.Checking.{Checked, Found, found_so}
 use Rattle.fy_tool.proofs.ImageCommands.{by_image}
@@ -95,12 +96,14 @@ with_units list units = record { file = list; derivation = None; units = units }
 -- an order that takes a list
 pub record TakesList (order : Order) (file : Bytes) : Type 0 where
   pub sources : (list : Option Bytes) (units : List Listed) → list_of order (with_units list units) ≡ list
+  pub first : file_of order ≡ Some file
   pub reads : (list : Option Bytes) (units : List Listed) → reads_of order (with_units list units) ≡ names_of units ++ file ∷ []
   pub tells : (files : Option Folder) (list : Option Bytes) (units : List Listed) → Tells files file list → AreListed list units → AreTold files units → TellsSources order files (with_units list units)
 
 pub join_takes : (file to : Bytes) → TakesList (join file to) file
 join_takes file to = record {
   sources = λ list units. refl;
+  first = refl;
   reads = λ list units. refl;
   tells = λ files list units holds listed hold. record { file = holds; derivation = tt; listed = listed; units = hold };
 }
@@ -108,9 +111,15 @@ join_takes file to = record {
 pub link_takes : (file to : Bytes) (stack : Option ℕ) → TakesList (link file to stack) file
 link_takes file to stack = record {
   sources = λ list units. refl;
+  first = refl;
   reads = λ list units. refl;
   tells = λ files list units holds listed hold. record { file = holds; derivation = tt; listed = listed; units = hold };
 }
+
+-- the list, or a file on it behind those that hold units, was due to be fetched
+rose_listed : (order : Order) (file : Bytes) (list : Option Bytes) (units : List Listed) (k k1 : Counts) → file_of order ≡ Some file → Rose (k.fetches file) (k1.fetches file) ⊎ HasUnfetched units k k1 → RoseOfDue order (with_units list units) k k1
+rose_listed order file list units k k1 named (inl rose) = (file, by_name file named, rose)
+rose_listed order file list units k k1 named (inr was) = (was.unit.name, unit_behind was.read was.unit was.behind was.values was.names was.are was.hold, was.rose)
 
 -- work on the units of a list was stopped
 pub serves_unlisted : (order : Order) (file : Bytes) (b c : Contents) (k k1 : Counts) (stop : Stop) → TakesList order file → c ≡ b → WasUnlisted file b.files k k1 stop → Serves (Some order) b c k k1 (Err stop)
@@ -118,6 +127,7 @@ serves_unlisted order file b c k k1 stop takes same was =
     let sources = with_units was.list was.units in
     serves_stopped order sources b c k k1 stop (takes.tells b.files was.list was.units was.told was.listed was.units_told) same
     (faulted_keeps (reads_of order sources) (keeps_of order) stop k k1 (subst (λ (names : List Bytes). Faulted names [] stop k k1) (sym (takes.reads was.list was.units)) was.faulted)) was.other
+    (λ is. rose_listed order file was.list was.units k k1 takes.first (was.fetched is))
 
 -- the status of units that aren't linked is its own
 own_same : (x y : ℕ × Note) → Some x ≡ Some y → IsOwn x.0 → IsOwn y.0

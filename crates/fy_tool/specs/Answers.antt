@@ -5,18 +5,19 @@ use Rattle.std.specs.declared.option.Option.{Option}
 use Rattle.std.specs.declared.option.Option.TheVariants.{Some, None}
 use Rattle.std.specs.declared.result.Result.{Result}
 use Rattle.std.specs.declared.result.Result.TheVariants.{Ok, Err}
-use Rattle.fy_base.specs.Outside.{Bytes, Folder, Rose, Gained, GainedPart, IsPrefix}
+use Rattle.fy_base.specs.Outside.{Bytes, Folder, Rose, Gained, GainedPart, IsPrefix, appended}
 use Rattle.fy_build.specs.Headline.{AreBytes}
 use Rattle.fy_words.specs.Order.{Order}
 use Rattle.fy_world.specs.World.{Contents, Counts, Later}
 use Rattle.fy_world.specs.Counted.{Caused, OthersStand, Counted}
 use Rattle.fy_world.specs.Note.{texts, ended_lines}
 use Rattle.fy_world.specs.Runs.{Due}
-use Rattle.fy_world.specs.Did.{Did, IsOwn, FilesPart, InputPart, IsUnread, after_all}
+use Rattle.fy_world.specs.Did.{Did, IsOwn, FilesPart, InputPart, IsUnread, IsUnput, after_all}
 use Rattle.fy_world.specs.declared.note.Note.TheVariants as note
 use Rattle.fy_world.specs.declared.world.Stop.{Stop}
 use Rattle.fy_world.specs.declared.world.Stop.TheVariants.{Fetch, Keep, Input, Output, Notes, Memory}
 use Rattle.fy_tool.specs.Due.{IsDue, Sources, TellsSources, reads_of, keeps_of, IsReadyFirst, RunsImage}
+use Rattle.fy_tool.specs.Fetched.{IsUnfetched}
 
 -- what a call reads, keeps, and asks of what is told
 abbrev pub all_reads_of : Option Order → Sources → List Bytes
@@ -55,8 +56,9 @@ pub record Serves (order : Option Order) (before now : Contents) (counts counts'
   pub due : Due
   pub explained : Explains order before.files before.input due
   pub counted : Counted (all_reads_of order explained.sources) (all_keeps_of order) counts counts' result
+  pub fetched : result ≡ Err Fetch → IsUnfetched order explained.sources due counts counts'
   pub did : Did due before now result
-  pub ready : IsAllReadyFirst order → result ≡ Err Memory → now.output ≡ before.output
+  pub ready : IsAllReadyFirst order → result ≡ Err Memory → now ≡ before
 
 -- ---- the end of a call
 
@@ -97,13 +99,15 @@ pub record NotesPart (due : Due) (stop : Stop) (before now : Option Bytes) (coun
   pub begins : IsPrefix first (ended_lines due.notes) ⊎ ((count : ℕ) × IsPrefix first (ended_lines (take count due.notes) ++ last_line Memory))
   pub ends : IsLastLine second stop counts counts'
 
--- status 7: a part of what is due was done
+-- status 7: a part of what is due was done; where a file wasn't kept, nothing else but the last line; where the input or the output failed, a run was stopped where it reads, or puts
 pub record IsOutside (due : Due) (before now : Contents) (counts counts' : Counts) (stop : Stop) : Type 0 where
   pub files : FilesPart due.kept stop before.files now.files
   pub input : InputPart due.running before.input now.input
-  pub unread : stop ≡ Input → IsUnread due.running before.input now.input before.output now.output
   pub output : GainedPart before.output now.output due.output
   pub notes : NotesPart due stop before.notes now.notes counts counts'
+  pub unkept : stop ≡ Keep → now ≡ record before { files = now.files; notes = appended before.notes notes.second }
+  pub unread : stop ≡ Input → IsUnread due.running due.kept before now notes.second
+  pub unput : stop ≡ Output → IsUnput due.running due before now notes.second
 
 -- status 9: no file changed, a part of what is due was done, in whole lines of notes, and then the line `memory`
 pub record IsMemory (due : Due) (before now : Contents) : Type 0 where
@@ -120,11 +124,13 @@ pub record Answers (order : Option Order) (before now : Contents) (counts counts
   pub explained : Explains order before.files before.input due
   pub stop : Stop
   pub caused : status ≡ 7 → (stop ≢ Memory) × Caused (all_reads_of order explained.sources) (all_keeps_of order) stop counts counts'
+  -- where a fetch failed, it was due, and nothing was done but the last line
+  pub fetched : status ≡ 7 → stop ≡ Fetch → IsUnfetched order explained.sources due counts counts'
   pub others : status ≡ 7 → OthersStand stop counts (record counts' { notes = counts.notes })
   pub quiet : status ≢ 7 → counts' ≡ counts
   pub due_done : status ≢ 7 → status ≢ 9 → (status ≡ due.status) × (now ≡ after_all due before)
   pub outside : status ≡ 7 → IsOutside due before now counts counts' stop
   pub memory : status ≡ 9 → IsMemory due before now
-  -- where all memory is taken first, none of it was wanting once a byte was put to output
-  pub ready : IsAllReadyFirst order → status ≡ 9 → now.output ≡ before.output
+  -- where all memory is taken first, none of it was wanting once anything was taken, kept, put or told
+  pub ready : IsAllReadyFirst order → status ≡ 9 → now ≡ record before { notes = appended before.notes (last_line Memory) }
   pub never_less : Later counts counts'

@@ -21,6 +21,7 @@ use Rattle.fy_expand.specs.Judged.{IsJudged, length_refused, tokens_refused, syn
 use Rattle.fy_expand.specs.Judged as judged
 use Rattle.fy_derive.specs.Derivations.{PlainDerivation}
 use Rattle.fy_derive.specs.Judging.{conclusion_of, refusal as refusal_of}
+use Rattle.fy_derive.specs.Limits.{KeepsLimits}
 use Rattle.fy_derive.specs.Typing.{HasType}
 use Rattle.fy_derive.specs.Least.{visits, least_shape_table}
 use Rattle.fy_derive.specs.Shapes.{PlainShape, shape_table}
@@ -89,9 +90,10 @@ pub record IsProgramText (text : Bytes) (p : Tree) : Type 0 where
 
 -- ---- demand shapes
 
--- a derivation that is in use: it shows that the phrase is a command, and the table of its demand shapes keeps the limits
+-- a derivation that is in use: it shows that the phrase is a command, and keeps the limits on derivations, as the table of its demand shapes does those on shapes
 pub record IsInUse (p : Tree) (d : PlainDerivation) : Type 0 where
   pub accepted : refusal_of (conclusion_of p d) ≡ None
+  pub within : KeepsLimits d
   pub table : ShapeTable
   pub just : HasJustPairs table (shape_table p d)
   pub limits : KeepsShapeLimits p table

@@ -12,7 +12,6 @@ use Rattle.pe_right.specs.Direct.{HandsNoConstant}
 use Rattle.pe_right.specs.Right.{IsCodeOf}
 use Rattle.pe_right.specs.Follows.{FollowsCopyRule}
 use Rattle.fy_derive.specs.Derivations.{PlainDerivation}
-use Rattle.fy_derive.specs.Limits.{KeepsLimits}
 use Rattle.fy_derive.specs.Print.{derivation_text}
 use Rattle.fy_derive.specs.Reading.{plain_derivation}
 use Rattle.fy_read.specs.Spelling.{IsTextOf}
@@ -180,7 +179,7 @@ keeps_of (orders.trace file steps) = []
 keeps_of (orders.list file) = []
 keeps_of (orders.audit image) = []
 
--- an order that takes all its memory before it puts a byte to output
+-- an order that takes all its memory before it takes, keeps, puts or tells anything
 abbrev pub IsReadyFirst : Order → Type 0
 IsReadyFirst (orders.exec image steps (Some count)) = ⊥
 IsReadyFirst (orders.exec image steps None) = Unit {0}
@@ -286,7 +285,7 @@ pub data IsDue (sources : Sources) (input : Bytes) : Option Order → Due → Ty
   accepts : (file text : Bytes) → sources.file ≡ Some text → IsAccepted text → IsDue sources input (Some (orders.check file)) accepted
   -- `derive` writes the text of the derivation in use, which shows that the phrase is a command; it can be read back, since it is one of that derivation, which keeps the limits
   derives : (file text : Bytes) (p : Tree) (names : List Bytes) (d : PlainDerivation) → sources.file ≡ Some text → IsProgramText text p → HasNames text names → IsInUse p d
-      → KeepsLimits d → IsTextOf names d (derivation_text names d) → IsDue sources input (Some (orders.derive file)) (written (derivation_text names d))
+      → IsTextOf names d (derivation_text names d) → IsDue sources input (Some (orders.derive file)) (written (derivation_text names d))
   -- `build` keeps the image's bytes, in version 2
   builds : (file name : Bytes) (stack : Option ℕ) (named : Option Bytes) (text : Bytes) (image : Image) (bytes : Bytes) → sources.file ≡ Some text
       → IsBuilt text named sources.derivation (stack_wanted stack) image → IsSpelled Two image bytes

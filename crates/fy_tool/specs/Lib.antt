@@ -2,6 +2,7 @@ pub mod Checked
 pub mod Given
 pub mod Units
 pub mod Due
+pub mod Fetched
 pub mod Answers
 pub mod Working
 pub mod Audited

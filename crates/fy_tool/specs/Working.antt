@@ -5,7 +5,7 @@ use Rattle.std.specs.declared.alloc.Global.{Global}
 use Rattle.std.specs.declared.option.Option.{Option}
 use Rattle.std.specs.declared.result.Result.{Result}
 use Rattle.std.specs.declared.vec.Vec.{Vec}
-use Rattle.fy_base.specs.Outside.{Bytes, Folder, Tells}
+use Rattle.fy_base.specs.Outside.{Bytes, Folder, Rose, Tells}
 use Rattle.fy_phrase.specs.Tree.{Tree}
 use Rattle.fy_phrase.specs.Reads.{reads}
 use Rattle.fy_phrase.specs.Sizes.{depth}
@@ -57,7 +57,7 @@ use Rattle.fy_world.specs.Working.{IsUnbegun, Keeps, KeepsAndRuns, KeepsAndSampl
 use Rattle.fy_world.specs.declared.note.Note.{Note}
 use Rattle.fy_world.specs.declared.refusal.Refusal.{Refusal}
 use Rattle.fy_world.specs.declared.world.Stop.{Stop}
-use Rattle.fy_world.specs.declared.world.Stop.TheVariants.{Input}
+use Rattle.fy_world.specs.declared.world.Stop.TheVariants.{Fetch, Input}
 use Rattle.fy_tool.specs.Checked.{IsProgramText, IsRefusedFor, HasNames, told_as, shapes_refusal}
 use Rattle.fy_tool.specs.Given.{IsGiven, IsTurnedDown}
 use Rattle.fy_tool.specs.Due.{IsRightCode, TellsNamed, AreListed, AreTold}
@@ -99,6 +99,7 @@ pub record IsGivenFor (text : Bytes) (named written : Option Bytes) (program : P
   pub is_judged : IsJudged text (Ok (reads program.phrase))
   pub given : IsGiven text (reads program.phrase) (plain_derivation program.derivation) named written
   pub derived : refusal (conclusion_of (reads program.phrase) (plain_derivation program.derivation)) ≡ None
+  pub limits : KeepsLimits (plain_derivation program.derivation)
   pub table_is : HasJustPairs program.table (shape_table (reads program.phrase) (plain_derivation program.derivation))
   pub table_limits : KeepsShapeLimits (reads program.phrase) program.table
 
@@ -112,6 +113,7 @@ pub record IsBuildable (program : Program) : Type 0 where
   pub text : Bytes
   pub is_judged : IsJudgedFrom names text (Ok (reads program.phrase))
   pub derived : refusal (conclusion_of (reads program.phrase) (plain_derivation program.derivation)) ≡ None
+  pub limits : KeepsLimits (plain_derivation program.derivation)
   pub table_is : HasJustPairs program.table (shape_table (reads program.phrase) (plain_derivation program.derivation))
   pub table_limits : KeepsShapeLimits (reads program.phrase) program.table
 
@@ -136,6 +138,12 @@ pub record WasGiven (file : Bytes) (named : Option Bytes) (files : Option Folder
 
 abbrev pub ChecksGiven : Bytes → Option Bytes → Option Folder → Result (Result Program TurnedDown) Stop → Type 0
 ChecksGiven file named files result = IfOk result (WasGiven file named files)
+
+-- the file of a text wasn't fetched, or, behind a text with a core phrase, that of the derivation
+pub data IsUngiven (file : Bytes) (named : Option Bytes) (files : Option Folder) (before now : Counts) : Type 0 where
+  no_text : Rose (before.fetches file) (now.fetches file) → IsUngiven file named files before now
+  no_derivation : (name text : Bytes) (p : Tree) → named ≡ Some name → Tells files file (Some text) → IsJudged text (Ok p) → Rose (before.fetches name) (now.fetches name)
+      → IsUngiven file named files before now
 
 -- a sample program, or why its text is none
 abbrev pub IsSampleOf : ℕ → ℕ → Result Program Refusal → Type 0
@@ -271,6 +279,24 @@ pub record ReadsObjects (names : List Bytes) (files : Option Folder) (found : Re
   pub told : AreTold files units
   pub is : MatchResult found (λ objects. AreUnitsRead units objects.units objects.names × All (IsUnit objects.names) objects.units × (length objects.names ≤ 3000000000)) (IsBadObject units)
 
+-- a file of these wasn't fetched, and those before it hold units
+pub record HasUnfetched (units : List Listed) (before now : Counts) : Type 0 where
+  pub read : List Listed
+  pub unit : Listed
+  pub behind : List Listed
+  pub are : units ≡ read ++ unit ∷ behind
+  pub values : List UnitValue
+  pub names : List Bytes
+  pub hold : AreUnitsRead read values names
+  pub rose : Rose (before.fetches unit.name) (now.fetches unit.name)
+
+-- reading the files with these names was stopped
+pub record StopsObjects (names : List Bytes) (files : Option Folder) (before now : Counts) (stop : Stop) : Type 0 where
+  pub units : List Listed
+  pub named : names_of units ≡ names
+  pub told : AreTold files units
+  pub fetched : stop ≡ Fetch → HasUnfetched units before now
+
 -- units put together, or why they aren't linked
 abbrev pub IsLinkedFrom : Objects → Result Together TurnedDown → Type 0
 IsLinkedFrom objects found =
@@ -298,6 +324,7 @@ pub record WasUnlisted (file : Bytes) (files : Option Folder) (before now : Coun
   pub units_told : AreTold files units
   pub faulted : Faulted (names_of units ++ file ∷ []) [] stop before now
   pub other : stop ≢ Input
+  pub fetched : stop ≡ Fetch → Rose (before.fetches file) (now.fetches file) ⊎ HasUnfetched units before now
 
 abbrev pub CountsList : Bytes → Option Folder → Counts → Counts → Result (Result Together TurnedDown) Stop → Type 0
 CountsList file files before now result = MatchResult result (λ _. now ≡ before) (WasUnlisted file files before now)

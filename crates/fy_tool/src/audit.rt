@@ -20,7 +20,7 @@ fn audit_image<W: World>(alloc: Global, image: &Image, world: &mut W) -> Result<
     ensures audits { Audits image.now (W.holds world.old) (W.holds world.new) result }
     ensures own { IfOk result IsOwn }
     ensures counted { Counted [] [] (W.counts world.old) (W.counts world.new) result }
-    ensures ready { result ≡ Err Stop.Memory → (W.holds world.new).output ≡ (W.holds world.old).output }
+    ensures ready { result ≡ Err Stop.Memory → W.holds world.new ≡ W.holds world.old }
     ensures same { W.names world.new ≡ W.names world.old }
 {
     match audit(alloc, image) {

@@ -28,7 +28,7 @@ fn write_derivation<W: World>(
         ⊎ Did (written (derivation_text names.now (plain_derivation derivation.now))) (W.holds world.old) (W.holds world.new) result }
     ensures own { IfOk result IsOwn }
     ensures counted { Counted [] [] (W.counts world.old) (W.counts world.new) result }
-    ensures ready { result ≡ Err Stop.Memory → (W.holds world.new).output ≡ (W.holds world.old).output }
+    ensures ready { result ≡ Err Stop.Memory → W.holds world.new ≡ W.holds world.old }
     ensures same { W.names world.new ≡ W.names world.old }
 {
     match print_derivation(alloc, names, derivation) {

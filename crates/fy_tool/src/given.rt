@@ -8,7 +8,7 @@ ghost use Rattle.fy_derive.specs.Reading.{plain_derivation};
 ghost use Rattle.fy_phrase.specs.Reads.{reads};
 ghost use Rattle.fy_phrase.specs.Sizes.{nodes};
 ghost use Rattle.fy_world.specs.Counted.{Counted};
-ghost use Rattle.fy_tool.specs.Working.{ChecksGiven, GivenBy, ReadFrom, Tables};
+ghost use Rattle.fy_tool.specs.Working.{ChecksGiven, GivenBy, IsUngiven, ReadFrom, Tables};
 
 use crate::refused::shapes_refusal;
 use crate::texts::{Core, Program, core_in, program_in};
@@ -131,6 +131,7 @@ fn named_in<W: World>(
     ensures holds { W.holds world.new ≡ W.holds world.old }
     ensures given { ChecksGiven file.now (Some name.now) (W.holds world.old).files result }
     ensures counted { Counted (file.now ∷ name.now ∷ []) [] (W.counts world.old) (W.counts world.new) result }
+    ensures fetched { IfErr result (λ stop. stop ≡ Stop.Fetch → IsUngiven file.now (Some name.now) (W.holds world.old).files (W.counts world.old) (W.counts world.new)) }
     ensures input { IfErr result (λ stop. stop ≢ Stop.Input) }
     ensures same { W.names world.new ≡ W.names world.old }
 {
@@ -166,6 +167,7 @@ fn found_in<W: World>(
     ensures holds { W.holds world.new ≡ W.holds world.old }
     ensures given { ChecksGiven file.now None (W.holds world.old).files result }
     ensures counted { Counted (file.now ∷ []) [] (W.counts world.old) (W.counts world.new) result }
+    ensures fetched { IfErr result (λ stop. stop ≡ Stop.Fetch → IsUngiven file.now None (W.holds world.old).files (W.counts world.old) (W.counts world.new)) }
     ensures input { IfErr result (λ stop. stop ≢ Stop.Input) }
     ensures same { W.names world.new ≡ W.names world.old }
 {
@@ -191,6 +193,7 @@ pub(crate) fn given_in<W: World>(
     ensures holds { W.holds world.new ≡ W.holds world.old }
     ensures given { ChecksGiven file.now (option_map (λ name. name.now) named.entry) (W.holds world.old).files result }
     ensures counted { Counted (file.now ∷ option_to_list (option_map (λ name. name.now) named.entry)) [] (W.counts world.old) (W.counts world.new) result }
+    ensures fetched { IfErr result (λ stop. stop ≡ Stop.Fetch → IsUngiven file.now (option_map (λ name. name.now) named.entry) (W.holds world.old).files (W.counts world.old) (W.counts world.new)) }
     ensures input { IfErr result (λ stop. stop ≢ Stop.Input) }
     ensures same { W.names world.new ≡ W.names world.old }
 {

@@ -3,7 +3,7 @@
 ghost use Rattle.std.specs.Prelude.{◌≡◌, ◌≢◌, ◌≤◌, ◌+◌, [], ◌∷◌, length, map, IfOk, IfErr, OnOk};
 ghost use Rattle.fy_lexer.specs.Tokens.{HasAdded};
 ghost use Rattle.fy_world.specs.Counted.{Counted};
-ghost use Rattle.fy_tool.specs.Working.{ReadsObject, ReadsObjects};
+ghost use Rattle.fy_tool.specs.Working.{ReadsObject, ReadsObjects, StopsObjects};
 
 use fy_base::OutOfMemory;
 use fy_link::{Unit, UnitList, UnitReadError, read_unit};
@@ -59,6 +59,7 @@ pub(crate) fn objects_in<W: World>(
     ensures holds { W.holds world.new ≡ W.holds world.old }
     ensures read { IfOk result (ReadsObjects (map (λ file. file.now) files.now) (W.holds world.old).files) }
     ensures counted { Counted (map (λ file. file.now) files.now) [] (W.counts world.old) (W.counts world.new) result }
+    ensures stopped { IfErr result (StopsObjects (map (λ file. file.now) files.now) (W.holds world.old).files (W.counts world.old) (W.counts world.new)) }
     ensures input { IfErr result (λ stop. stop ≢ Stop.Input) }
     ensures same { W.names world.new ≡ W.names world.old }
 {

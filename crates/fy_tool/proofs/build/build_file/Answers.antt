@@ -4,13 +4,14 @@ use Rattle.fy_words.specs.Order.{build}
 use Rattle.fy_world.proofs.Counting.{counted_keeps}
 use Rattle.fy_tool.specs.Due.{keeps_of}
 use Rattle.fy_tool.specs.Working.{Builds}
-use Rattle.fy_tool.proofs.Serving.{after, down_own, serves_down, serves_unread, tells}
+use Rattle.fy_tool.proofs.Serving.{after, down_own, serves_down, serves_ungiven, tells}
 use Rattle.fy_tool.proofs.ImageCommands.{both, buildable, serves_build, stack_size}
 use Rattle.fy_tool.proofs.build.build_file.Goals as goal
 
 pub returns-in-Err-clause-serves : goal.returns-in-Err-clause-serves
 returns-in-Err-clause-serves g c =
-    serves_unread (build c.args.file.now c.args.name.now c.args.stack (option_map (λ name. name.now) c.args.derivation)) _ _ _ _ c.in-Err.stop c.in-Err.ensures.holds c.in-Err.ensures.counted c.in-Err.ensures.input
+    serves_ungiven (build c.args.file.now c.args.name.now c.args.stack (option_map (λ name. name.now) c.args.derivation)) c.args.file.now _ _ _ _ c.in-Err.stop refl (λ sources. refl) c.in-Err.ensures.holds c.in-Err.ensures.counted c.in-Err.ensures.input
+    c.in-Err.ensures.fetched
 
 pub refuse-requires : goal.refuse-requires
 refuse-requires g c = let h = rw c.in-Ok-Err.field-0-is at c.in-Ok-Err.ensures.given in down_own h.is

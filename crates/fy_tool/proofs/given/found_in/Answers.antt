@@ -1,4 +1,5 @@
-use Rattle.fy_tool.proofs.Derived.{was_found, was_refused}
+use Rattle.std.proofs.Common.{None}
+use Rattle.fy_tool.proofs.Derived.{text_unfetched, was_found, was_refused}
 use Rattle.fy_tool.proofs.given.found_in.Goals as goal
 
 pub returns-in-Ok-Ok-clause-given : goal.returns-in-Ok-Ok-clause-given
@@ -10,3 +11,6 @@ pub returns-in-Ok-Err-clause-given : goal.returns-in-Ok-Err-clause-given
 returns-in-Ok-Err-clause-given g c =
     let h = rw c.in-Ok-Err.field-0-is at c.in-Ok-Err.ensures.read in
     was_refused c.args.file.now _ h.0 c.in-Ok-Err.why h.1 h.2
+
+pub returns-in-Err-clause-fetched : goal.returns-in-Err-clause-fetched
+returns-in-Err-clause-fetched g c = text_unfetched c.args.file.now None _ _ _ c.in-Err.stop c.in-Err.ensures.counted

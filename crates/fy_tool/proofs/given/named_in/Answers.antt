@@ -2,7 +2,7 @@ use Rattle.std.proofs.Common.{subst, Some}
 use Rattle.fy_base.specs.Outside.{Tells}
 use Rattle.fy_phrase.specs.Reads.{reads}
 use Rattle.fy_world.specs.World.{Contents}
-use Rattle.fy_tool.proofs.Derived.{all_given, second_faulted, was_long, was_unjudged}
+use Rattle.fy_tool.proofs.Derived.{all_fetched, all_given, derivation_unfetched, second_faulted, text_unfetched, was_long, was_unjudged}
 use Rattle.fy_tool.proofs.Programs.{judged-nodes}
 use Rattle.fy_tool.proofs.given.named_in.Goals as goal
 
@@ -20,6 +20,17 @@ returns-in-Ok-None-clause-given g c =
 
 pub returns-in-Err-fetch-clause-counted : goal.returns-in-Err-fetch-clause-counted
 returns-in-Err-fetch-clause-counted g c = second_faulted c.args.file.now c.args.name.now _ _ _ c.in-Err-fetch.stop c.in-Ok-Ok.ensures.counted c.in-Err-fetch.ensures.counted
+
+pub returns-in-Err-clause-fetched : goal.returns-in-Err-clause-fetched
+returns-in-Err-clause-fetched g c = text_unfetched c.args.file.now (Some c.args.name.now) _ _ _ c.in-Err.stop c.in-Err.ensures.counted
+
+pub returns-in-Err-fetch-clause-fetched : goal.returns-in-Err-fetch-clause-fetched
+returns-in-Err-fetch-clause-fetched g c =
+    let h = rw c.in-Ok-Ok.field-0-is at c.in-Ok-Ok.ensures.read in
+    derivation_unfetched c.args.file.now c.args.name.now h.0 _ c.in-Ok-Ok.core _ _ _ c.in-Err-fetch.stop h.1 h.2 c.in-Ok-Ok.ensures.counted c.in-Err-fetch.ensures.counted
+
+pub returns-clause-fetched : goal.returns-clause-fetched
+returns-clause-fetched g c = all_fetched c.args.file.now c.args.name.now _ _ _ c.given_by.result c.given_by.ensures.memory
 
 pub given_by-requires-clause-nodes : goal.given_by-requires-clause-nodes
 given_by-requires-clause-nodes g c =

@@ -3,7 +3,7 @@ use Rattle.std.specs.Borrow.{Bor}
 use Rattle.fy_base.specs.Outside.{Bytes}
 use Rattle.fy_world.specs.World.{Contents}
 use Rattle.fy_tool.specs.Units.{ListsUnits}
-use Rattle.fy_tool.specs.Working.{ReadsObjects, WasLinked}
+use Rattle.fy_tool.specs.Working.{ReadsObjects, StopsObjects, WasLinked}
 use Rattle.fy_tool.specs.declared.given.TurnedDown.{TurnedDown}
 use Rattle.fy_tool.proofs.Lists.{none_long}
 use Rattle.fy_tool.proofs.Linking.{counts_memory, links_list, some_objects, unlisted_fetch, unlisted_memory, unlisted_units, was_bad, was_no_list}
@@ -65,4 +65,6 @@ returns-clause-counted g c =
     let content = rw c.in-Ok-Some.field-0-is at c.in-Ok-Some.ensures.content in
     let lists = rw (c.in-Ok-Some-names_on.field-0-is, c.as_slice.ensures.value) at c.in-Ok-Some-names_on.ensures in
     let fault = rw c.deref.ensures.value at c.in-Err-objects_in.ensures.counted in
+    let stopped = rw c.deref.ensures.value at c.in-Err-objects_in.ensures.stopped in
     unlisted_units c.args.file.now c.in-Ok-Some.bytes.items _ _ _ _ _ c.in-Err-objects_in.stop content.0 lists c.in-Ok-Some.ensures.counted fault c.in-Err-objects_in.ensures.input
+    (subst (λ (x : Contents). StopsObjects (map (λ (name : Bor Bytes). name.now) c.in-Ok-Some-names_on.files.items) x.files (g.W.World.counts c.fetch.new.self) (g.W.World.counts c.objects_in.new.world) c.in-Err-objects_in.stop) c.in-Ok-Some.ensures.holds stopped)

@@ -1,5 +1,5 @@
 use Rattle.std.proofs.Common.{refl, ap, ◌∙◌, length, arith}
-use Rattle.fy_tool.proofs.ReadUnits.{few_known, none_read, few_values, read_end, read_faulted, read_step, read_stop}
+use Rattle.fy_tool.proofs.ReadUnits.{few_known, none_read, few_values, read_end, read_faulted, read_step, read_stop, read_unfetched, stopped_short}
 use Rattle.fy_tool.proofs.objects.objects_in.Goals as goal
 
 pub loop-file-init : goal.loop-file-init
@@ -36,3 +36,13 @@ overflow_cast-result g c =
     let few = few_values _ c.loop-file.file-index c.args.files.now c.loop-file.units.items _ c.requires c.loop-file.invariant.read in
     let same = ap length c.as_slice.ensures.value in
     omega arith
+
+pub returns-in-Err-clause-stopped : goal.returns-in-Err-clause-stopped
+returns-in-Err-clause-stopped g c = stopped_short _ _ _ _ _ refl
+
+pub returns-in-Err-object_in-clause-stopped : goal.returns-in-Err-object_in-clause-stopped
+returns-in-Err-object_in-clause-stopped g c =
+    read_unfetched (g.W.World.holds c.args.world.now) c.args.files.now c.loop-file.file-index _ c.loop-file.units.items _ c.in-Err-object_in.stop _ _ _ c.loop-file.invariant.read c.loop-file-test.true c.loop-file.invariant.counts c.in-Err-object_in.ensures.counted
+
+pub returns-in-Err-push-clause-stopped : goal.returns-in-Err-push-clause-stopped
+returns-in-Err-push-clause-stopped g c = stopped_short _ _ _ _ _ refl

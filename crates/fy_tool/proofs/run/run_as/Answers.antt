@@ -6,13 +6,14 @@ use Rattle.fy_world.specs.Counted.{Counted}
 use Rattle.fy_world.proofs.Counting.{counted_keeps}
 use Rattle.fy_tool.specs.Due.{keeps_of}
 use Rattle.fy_tool.specs.Working.{BuildsAndRuns}
-use Rattle.fy_tool.proofs.Serving.{after, down_own, serves_down, serves_unread, tells}
+use Rattle.fy_tool.proofs.Serving.{after, down_own, serves_down, serves_ungiven, tells}
 use Rattle.fy_tool.proofs.ImageCommands.{both, buildable, serves_run, stack_size}
 use Rattle.fy_tool.proofs.run.run_as.Goals as goal
 
 pub returns-in-Err-clause-serves : goal.returns-in-Err-clause-serves
 returns-in-Err-clause-serves g c =
-    serves_unread (run c.args.file.now c.args.steps c.args.stack (option_map (λ name. name.now) c.args.derivation) (option_map (λ name. name.now) c.args.image)) _ _ _ _ c.in-Err.stop c.in-Err.ensures.holds c.in-Err.ensures.counted c.in-Err.ensures.input
+    serves_ungiven (run c.args.file.now c.args.steps c.args.stack (option_map (λ name. name.now) c.args.derivation) (option_map (λ name. name.now) c.args.image)) c.args.file.now _ _ _ _ c.in-Err.stop refl (λ sources. refl) c.in-Err.ensures.holds
+    c.in-Err.ensures.counted c.in-Err.ensures.input c.in-Err.ensures.fetched
 
 pub refuse-requires : goal.refuse-requires
 refuse-requires g c = let h = rw c.in-Ok-Err.field-0-is at c.in-Ok-Err.ensures.given in down_own h.is
