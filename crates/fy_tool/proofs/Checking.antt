@@ -44,6 +44,7 @@ use Rattle.pe_shapes.specs.declared.error.ShapeError.TheVariants as shaping
 use Rattle.fy_tool.specs.Checked.{lex_refusal, parse_refusal, expand_refusal, find_refusal, shapes_refusal, IsProgramText, IsInUse, IsShownBy, IsLeastShape, IsLeastPair, IsAccepted, IsRefusedFor, not_judged, too_large, no_command, many_shapes, many_entries, large_tables, HasNames}
 use Rattle.fy_tool.specs.declared.texts.Program.{Program as ProgramOfText}
 use Rattle.fy_tool.specs.Working.{IsOfText, IsUnjudged}
+use Rattle.fy_tool.proofs.Alike.{many_more}
 use Rattle.fy_world.specs.declared.refusal.Refusal.{Refusal}
 use Rattle.fy_world.specs.declared.refusal.Refusal.TheVariants as refusal
 use Rattle.fy_world.specs.declared.world.Stop.{Stop}
@@ -169,9 +170,6 @@ is_program text p d is within accepted = record { is_judged = is; within = withi
 -- ---- demand shapes
 
 -- what many have, many have that it implies
-many_more : {X : Type 0} (n : ℕ) (F G : X → Type 0) → ((x : X) → F x → G x) → HasMany n F → HasMany n G
-many_more n F G f many = record { members = many.members; number = many.number; distinct = many.distinct; each = λ x here. f x (many.each x here) }
-
 counted_more : {X : Type 0} (n : ℕ) (F G : X → Type 0) → ((x : X) → F x → G x) → IsCount F n → HasMany n G
 counted_more n F G f count = record { members = count.members; number = count.number; distinct = count.distinct; each = λ x here. f x (count.each x here) }
 
@@ -200,4 +198,4 @@ abbrev pub in_use : {text : Bytes} {program : ProgramOfText} → IsOfText text p
 in_use {text} {program} is = record { accepted = is.derived; within = is.limits; table = program.table; just = is.table_is; limits = is.table_limits }
 
 pub is_accepted : {text : Bytes} {program : ProgramOfText} → IsOfText text program → IsAccepted text
-is_accepted {text} {program} is = record { phrase = reads program.phrase; is_program = is.is_program; derivation = plain_derivation program.derivation; in_use = in_use is }
+is_accepted {text} {program} is = record { phrase = reads program.phrase; is_program = is.is_program; derivation = plain_derivation program.derivation; in_use = in_use is; full = is.full }

@@ -46,7 +46,7 @@ use Rattle.fy_tool.proofs.Serving.{holding, After, done, done_quietly, none_done
 pub given_found : (text : Bytes) (written : Option Bytes) (program : Program) → IsOfText text program → IsGivenFor text None written program
 given_found text written program is = record {
   is_judged = is.is_program.is_judged;
-  given = found written is.is_program;
+  given = found written is.is_program is.full;
   derived = is.derived;
   limits = is.limits;
   table_is = is.table_is;

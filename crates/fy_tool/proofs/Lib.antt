@@ -6,6 +6,7 @@ pub mod ImageCommands
 pub mod ElfCommands
 pub mod Derived
 pub mod Pigeons
+pub mod Alike
 pub mod Completing
 pub mod Named
 pub mod Answering

@@ -1,5 +1,5 @@
 -- Derivations that are named within the limits are accepted.
-use Rattle.std.proofs.Common.{◌≡◌, ℕ, ◌+◌, List, [], ◌∷◌, ◌++◌, inl, inr, sym, ap, ◌∙◌, refl, subst, arith, append_assoc, Some, None}
+use Rattle.std.proofs.Common.{◌≡◌, ℕ, List, [], ◌∷◌, ◌++◌, inl, inr, sym, ap, ◌∙◌, refl, subst, arith, append_assoc, Some, None}
 use Rattle.std.proofs.lemmas.List.{append-nil}
 use Rattle.std.specs.Prelude.{Err}
 use Rattle.fy_base.specs.Outside.{Bytes}
@@ -22,17 +22,13 @@ use Rattle.fy_read.specs.declared.error.ReadError.TheVariants.{BadText, TooLarge
 use Rattle.fy_read.proofs.UniqueLemmas.{unique}
 use Rattle.fy_read.proofs.ValueLemmas.{text_unique}
 use Rattle.fy_read.proofs.PieceLemmas.{after_whole}
-use Rattle.pe_shapes.specs.Shaping.{most_shapes, most_pairs, IsShapeOf, IsPairOf, IsShaping}
-use Rattle.pe_shapes.specs.declared.error.ShapeError.{ShapeError}
-use Rattle.pe_shapes.specs.declared.error.ShapeError.TheVariants as shaping
+use Rattle.pe_shapes.specs.Shaping.{IsShaping}
 use Rattle.fy_world.specs.Note.{read_note}
 use Rattle.fy_world.specs.declared.note.Note.{Note}
-use Rattle.fy_world.specs.declared.refusal.Refusal.{Refusal}
-use Rattle.fy_tool.specs.Checked.{IsInUse, HasNames, shapes_refusal}
+use Rattle.fy_tool.specs.Checked.{IsInUse, HasNames}
 use Rattle.fy_tool.specs.Complete.{NamedDerivationIsAccepted}
 use Rattle.fy_tool.specs.Given.{Spells, IsDerivationRefused, too_long, unread, wrong, before_typing, by_derivation, by_shapes}
-use Rattle.fy_tool.proofs.Completing.{words_grow}
-use Rattle.fy_tool.proofs.Pigeons.{many_few, counted_few, table_shapes, table_pairs}
+use Rattle.fy_tool.proofs.Alike.{shapes_kept}
 
 -- ---- the names of a text
 
@@ -104,24 +100,6 @@ derivation_kept text written p d why s used (unread error why' short fault told)
 derivation_kept text written p d why s used (wrong e node spelled at) =
     let same = same_derivation text written e d spelled s in
     accepted_not_wrong p d node used.accepted (subst (λ x. refusal (conclusion_of p x) ≡ Some node) same at)
-
--- no limit on shapes is passed where a table keeps them
-shapes_kept : (p : Tree) (d : PlainDerivation) (error : ShapeError) (why : Refusal) → IsInUse p d → IsShaping (Err error) p d → shapes_refusal error ≡ Some why → ⊥
-shapes_kept p d shaping.TooManyShapes why used many told =
-    let le = many_few (most_shapes + 1) _ (IsShapeOf p d) many (table_shapes p d used.table used.just) in
-    let few = used.limits.shapes in
-    omega arith
-shapes_kept p d shaping.TooManyEntries why used (few, many) told =
-    let le = many_few (most_pairs + 1) _ (IsPairOf p d) many (table_pairs p d used.table used.just) in
-    let few_pairs = used.limits.pairs in
-    omega arith
-shapes_kept p d shaping.TablesTooLarge why used (passes, few) told =
-    let le = counted_few passes.shapes _ (IsShapeOf p d) passes.counted (table_shapes p d used.table used.just) in
-    let grown = words_grow p passes.shapes _ le in
-    let large = passes.large in
-    let words = used.limits.words in
-    omega arith
-shapes_kept p d shaping.OutOfMemory why used shaping told = absurd cc
 
 pub named_accepted : NamedDerivationIsAccepted
 named_accepted text name written p d is s used status why (before_typing _ _ cause refusal judged told) = phrase_or_refusal text p cause is judged

@@ -38,14 +38,14 @@ serves_derived file text program b c d k k1 k2 result is a ready (inl unbegun) =
 serves_derived file text program b c d k k1 k2 result is a ready (inr did) =
     let by = plain_derivation program.derivation in
     done_quietly (derive file) (only text) b c d k k1 k2 result _ a
-    (λ input. derives file text (reads program.phrase) program.names by refl is.is_program is.named (in_use is) (printed_is_text program.names by is.printable)) did (λ _ memory. ready memory)
+    (λ input. derives file text (reads program.phrase) program.names by refl is.is_program is.named (in_use is) is.full (printed_is_text program.names by is.printable)) did (λ _ memory. ready memory)
 
 -- `copy` of a program
 pub serves_copied : (file : Bytes) (steps : Option ℕ) (text : Bytes) (program : Program) (b c d : Contents) (k k1 k2 : Counts) (result : Result ℕ Stop) → IsOfText text program → After (copy file steps) (only text) b c d k k1 k2 result
     → HasCopied (reads program.phrase) (copy_wanted steps) c d result → Serves (Some (copy file steps)) b d k k2 result
 serves_copied file steps text program b c d k k1 k2 result is a r =
     done (copy file steps) (only text) b c d k k1 k2 result _ r.input a r.fed (λ runs. absurd runs)
-    (copies file steps text (reads program.phrase) (plain_derivation program.derivation) r.n r.end refl is.is_program (in_use is) r.is_run) r.did (λ ready. absurd ready)
+    (copies file steps text (reads program.phrase) (plain_derivation program.derivation) r.n r.end refl is.is_program (in_use is) is.full r.is_run) r.did (λ ready. absurd ready)
 
 -- code ran that is right
 pub traced_by : (program : Program) (code : PeCode) (limit : ℕ) (c d : Contents) (result : Result ℕ Stop) → IsRightCode (reads program.phrase) program.table code → IsUnbegun c d result ⊎ HasStepped code program.names limit c d result
@@ -60,4 +60,4 @@ serves_traced file steps text program b c d k k1 k2 result is a (inl unbegun) = 
 serves_traced file steps text program b c d k k1 k2 result is a (inr t) =
     let r = t.run in
     done (trace file steps) (only text) b c d k k1 k2 result _ r.input a r.fed (λ runs. absurd runs)
-    (traces file steps text (reads program.phrase) program.names (plain_derivation program.derivation) t.code r.n r.end refl is.is_program is.named (in_use is) t.right r.is_run) r.did (λ ready. absurd ready)
+    (traces file steps text (reads program.phrase) program.names (plain_derivation program.derivation) t.code r.n r.end refl is.is_program is.named (in_use is) is.full t.right r.is_run) r.did (λ ready. absurd ready)

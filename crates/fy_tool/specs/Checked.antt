@@ -28,6 +28,7 @@ use Rattle.fy_derive.specs.Shapes.{PlainShape, shape_table}
 use Rattle.fy_derive.specs.ShapeTables.{HasJustPairs}
 use Rattle.fy_least.specs.Blame.{blame_of}
 use Rattle.fy_least.specs.Limits.{KeepTypeLimits, PassTypeLimits}
+use Rattle.fy_least.specs.Pairs.{HasAllPairs}
 use Rattle.fy_least.specs.declared.error.FindError.{FindError}
 use Rattle.fy_least.specs.declared.error.FindError.TheVariants as finding
 use Rattle.pe_shapes.specs.Counts.{HasMany, HasAtMost}
@@ -98,10 +99,11 @@ pub record IsInUse (p : Tree) (d : PlainDerivation) : Type 0 where
   pub just : HasJustPairs table (shape_table p d)
   pub limits : KeepsShapeLimits p table
 
--- the text's core phrase is a command, as the derivation shows
+-- the text's core phrase is a command, as the derivation shows, which has each demand shape that some derivation of the phrase has
 pub record IsShownBy (text : Bytes) (p : Tree) (d : PlainDerivation) : Type 0 where
   pub is_program : IsProgramText text p
   pub accepted : refusal_of (conclusion_of p d) ≡ None
+  pub full : HasAllPairs [] p d
 
 -- a shape of the least types, and a pair of a node and one of them
 abbrev pub IsLeastShape : Tree → PlainShape → Type 0
@@ -112,12 +114,13 @@ IsLeastPair p x = least_shape_table p x.0 x.1
 
 -- ---- texts
 
--- the text's core phrase is a command by a derivation in use
+-- the text's core phrase is a command by a derivation in use, which has each demand shape that some derivation of the phrase has
 pub record IsAccepted (text : Bytes) : Type 0 where
   pub phrase : Tree
   pub is_program : IsProgramText text phrase
   pub derivation : PlainDerivation
   pub in_use : IsInUse phrase derivation
+  pub full : HasAllPairs [] phrase derivation
 
 -- the first stage that refuses the text, and why; typing refuses for its limits before the type. Where a derivation passes a limit on
 -- demand shapes, so do the least types, which have the shapes of every derivation

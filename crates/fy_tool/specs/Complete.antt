@@ -1,5 +1,5 @@
 -- Completeness: what is within the limits is taken, and a run whose bounds fit comes to its end.
-use Rattle.std.specs.Prelude.{◌≡◌, ℕ, ◌+◌, ◌<◌, ◌≤◌, ◌⊎◌, Some, None, Ok}
+use Rattle.std.specs.Prelude.{◌≡◌, ℕ, ◌≤◌, Some, None, Ok}
 use Rattle.std.specs.declared.option.Option.{Option}
 use Rattle.fy_base.specs.Outside.{Bytes}
 use Rattle.fy_phrase.specs.Tree.{Tree}
@@ -13,14 +13,13 @@ use Rattle.fy_image.specs.Refusals.{refusal_of}
 use Rattle.fy_image.specs.declared.error.ImageError.{ImageError}
 use Rattle.fy_image.specs.declared.image.Image.{Image}
 use Rattle.fy_image.specs.Machine.{machine_after}
-use Rattle.pe_shapes.specs.Counts.{HasMany, HasAtMost, IsCount}
+use Rattle.pe_shapes.specs.Counts.{HasAtMost, IsCount}
 use Rattle.pe_shapes.specs.Shaping.{most_shapes, most_pairs, most_words}
 use Rattle.fy_build.specs.Headline.{AreBytes, IsOverStanding, IsSameOver}
 use Rattle.fy_build.specs.Shown.{RunEnd}
 use Rattle.fy_words.specs.Order.{steps_wanted}
 use Rattle.fy_world.specs.declared.note.Note.{Note}
 use Rattle.fy_world.specs.declared.refusal.Refusal.{Refusal}
-use Rattle.fy_world.specs.declared.refusal.Refusal.TheVariants as refusal
 use Rattle.fy_tool.specs.Checked.{IsProgramText, IsInUse, IsAccepted, IsRefusedFor, IsLeastShape, IsLeastPair}
 use Rattle.fy_tool.specs.Given.{Spells, IsTurnedDown}
 use Rattle.fy_tool.specs.Due.{RunsBuilt}
@@ -38,28 +37,15 @@ abbrev pub AcceptedWhereLimitsHold : Type 0
 AcceptedWhereLimitsHold = (text : Bytes) (p : Tree) → IsProgramText text p → LeastShapesFit p
     → (written : Option Bytes) (status : ℕ) (why : Note) → ¬ IsTurnedDown text None written status why
 
--- which limit on demand shapes a phrase's least types pass, and how that is told
-pub data PassesLeastShapes (p : Tree) : Refusal → Type 0 where
-  of_shapes : HasMany (most_shapes + 1) (IsLeastShape p) → PassesLeastShapes p refusal.Shapes
-  of_pairs : HasMany (most_pairs + 1) (IsLeastPair p) → PassesLeastShapes p refusal.Entries
-  of_words : (count : ℕ) → HasMany count (IsLeastShape p) → most_words < table_words p count → PassesLeastShapes p refusal.Tables
+-- a text that a command accepts is refused by none, where no derivation is named
+abbrev pub AcceptedTextIsNeverRefused : Type 0
+AcceptedTextIsNeverRefused = (text : Bytes) → IsAccepted text → (why : Refusal) → ¬ IsRefusedFor text why
 
--- a text that a command accepts is refused, where no derivation is named, by no stage but that of shapes, and then only where the least types pass that very limit
-abbrev pub AcceptedTextIsRefusedByShapesAlone : Type 0
-AcceptedTextIsRefusedByShapesAlone = (text : Bytes) (is : IsAccepted text) (why : Refusal) → IsRefusedFor text why → PassesLeastShapes is.phrase why
-
--- two refusals of a text are by shapes
-pub record AreByShapes (text : Bytes) (why other : Refusal) : Type 0 where
-  pub phrase : Tree
-  pub is_judged : IsJudged text (Ok phrase)
-  pub one : PassesLeastShapes phrase why
-  pub other_one : PassesLeastShapes phrase other
-
--- all commands refuse a text in one way, where no derivation is named, but for those limits on shapes that the least types pass
+-- all commands refuse a text in one way, where no derivation is named
 abbrev pub TextIsRefusedOneWay : Type 0
-TextIsRefusedOneWay = (text : Bytes) (why other : Refusal) → IsRefusedFor text why → IsRefusedFor text other → (why ≡ other) ⊎ AreByShapes text why other
+TextIsRefusedOneWay = (text : Bytes) (why other : Refusal) → IsRefusedFor text why → IsRefusedFor text other → why ≡ other
 
--- nor is one whose named derivation keeps the limits and is accepted for its phrase
+-- a text whose named derivation keeps the limits and is accepted for its phrase isn't turned down
 abbrev pub NamedDerivationIsAccepted : Type 0
 NamedDerivationIsAccepted = (text name written : Bytes) (p : Tree) (d : PlainDerivation) → IsJudged text (Ok p) → Spells text written d → IsInUse p d
     → (status : ℕ) (why : Note) → ¬ IsTurnedDown text (Some name) (Some written) status why

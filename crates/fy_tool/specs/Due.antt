@@ -32,6 +32,7 @@ use Rattle.fy_build.specs.Building.{HasTableWords}
 use Rattle.fy_build.specs.Selected.{IsSelectedBy}
 use Rattle.fy_build.specs.Headline.{AreBytes, RunsAsCopyRule}
 use Rattle.fy_build.specs.Shown.{RunEnd, ShowsCopyRule}
+use Rattle.fy_least.specs.Pairs.{HasAllPairs}
 use Rattle.fy_link.specs.UnitBytes.{unit_bytes}
 use Rattle.fy_link.specs.declared.linking.Linked.{Linked}
 use Rattle.fy_link.specs.declared.unit.Unit.{Unit as UnitValue}
@@ -284,7 +285,7 @@ pub data IsDue (sources : Sources) (input : Bytes) : Option Order → Due → Ty
   -- `check` of a text that is accepted
   accepts : (file text : Bytes) → sources.file ≡ Some text → IsAccepted text → IsDue sources input (Some (orders.check file)) accepted
   -- `derive` writes the text of the derivation in use, which shows that the phrase is a command; it can be read back, since it is one of that derivation, which keeps the limits
-  derives : (file text : Bytes) (p : Tree) (names : List Bytes) (d : PlainDerivation) → sources.file ≡ Some text → IsProgramText text p → HasNames text names → IsInUse p d
+  derives : (file text : Bytes) (p : Tree) (names : List Bytes) (d : PlainDerivation) → sources.file ≡ Some text → IsProgramText text p → HasNames text names → IsInUse p d → HasAllPairs [] p d
       → IsTextOf names d (derivation_text names d) → IsDue sources input (Some (orders.derive file)) (written (derivation_text names d))
   -- `build` keeps the image's bytes, in version 2
   builds : (file name : Bytes) (stack : Option ℕ) (named : Option Bytes) (text : Bytes) (image : Image) (bytes : Bytes) → sources.file ≡ Some text
@@ -308,12 +309,12 @@ pub data IsDue (sources : Sources) (input : Bytes) : Option Order → Due → Ty
       → IsDue sources input (Some (orders.sample number size))
       (sampled (ran (running_of has_run.built.is.runs.program image input (steps_wanted None)) None (Some (codes "sample.img", bytes)) n end))
   -- `copy` runs the phrase by the copy rule
-  copies : (file : Bytes) (steps : Option ℕ) (text : Bytes) (p : Tree) (d : PlainDerivation) (n : ℕ) (end : CopyEnd) → sources.file ≡ Some text → IsProgramText text p → IsInUse p d
+  copies : (file : Bytes) (steps : Option ℕ) (text : Bytes) (p : Tree) (d : PlainDerivation) (n : ℕ) (end : CopyEnd) → sources.file ≡ Some text → IsProgramText text p → IsInUse p d → HasAllPairs [] p d
       → IsCopyRun (record { phrase = p; input = input; limit = copy_wanted steps }) n end
       → IsDue sources input (Some (orders.copy file steps)) (copied (record { phrase = p; input = input; limit = copy_wanted steps }) n end)
   -- `trace` runs the phrase's code by that derivation, with constants handed as data, on a machine with so many words of stack, and tells each step
   traces : (file : Bytes) (steps : Option ℕ) (text : Bytes) (p : Tree) (names : List Bytes) (d : PlainDerivation) (code : PeCode) (n : ℕ) (end : StepEnd) → sources.file ≡ Some text
-      → IsProgramText text p → HasNames text names → (used : IsInUse p d) → IsRightCode p used.table code → IsSteppedRun (stepping_of code names input (trace_steps_wanted steps)) n end
+      → IsProgramText text p → HasNames text names → (used : IsInUse p d) → HasAllPairs [] p d → IsRightCode p used.table code → IsSteppedRun (stepping_of code names input (trace_steps_wanted steps)) n end
       → IsDue sources input (Some (orders.trace file steps)) (stepped (stepping_of code names input (trace_steps_wanted steps)) n end)
   -- `audit` of a guarded image
   audits : (name bytes : Bytes) (image : Image) → sources.file ≡ Some bytes → IsImageBytes image bytes → IsGuarded image → IsDue sources input (Some (orders.audit name)) audited

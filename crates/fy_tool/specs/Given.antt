@@ -1,5 +1,5 @@
 -- Which phrase and which derivation an order works with: the derivation that it names, or else one that the text has; and why it does nothing.
-use Rattle.std.specs.Prelude.{◌≡◌, ℕ, ◌<◌, ◌≤◌, List, length, Some, None, Ok, Err}
+use Rattle.std.specs.Prelude.{◌≡◌, ℕ, ◌<◌, ◌≤◌, List, [], length, Some, None, Ok, Err}
 use Rattle.std.specs.declared.option.Option.{Option}
 use Rattle.fy_base.specs.Outside.{Bytes}
 use Rattle.fy_phrase.specs.Tree.{Tree}
@@ -8,6 +8,7 @@ use Rattle.fy_expand.specs.Judged as judged
 use Rattle.fy_derive.specs.Derivations.{PlainDerivation}
 use Rattle.fy_derive.specs.Judging.{conclusion_of, refusal as refusal_of}
 use Rattle.fy_derive.specs.Limits.{KeepsLimits}
+use Rattle.fy_least.specs.Pairs.{HasAllPairs}
 use Rattle.fy_read.specs.FieldNames.{NumbersFields}
 use Rattle.fy_read.specs.Refusals.{IsReadFault, KeepsThroughout}
 use Rattle.fy_read.specs.declared.error.ReadError.{ReadError}
@@ -39,9 +40,9 @@ pub data IsDerivationRefused (text : Bytes) (p : Tree) (written : Bytes) : Note 
   unread : (error : ReadError) (why : Note) → length written ≤ most_written → IsReadFault written error → read_note error ≡ Some why → IsDerivationRefused text p written why
   wrong : (d : PlainDerivation) (node : ℕ) → Spells text written d → refusal_of (conclusion_of p d) ≡ Some node → IsDerivationRefused text p written (note.DerivationNode node)
 
--- the text has the phrase, and the derivation is the one that is named, or else any that shows it to be a command within the limits on types
+-- the text has the phrase, and the derivation is the one that is named, or else any with each demand shape that some derivation has, where the phrase is a command within the limits on types
 pub data IsGiven (text : Bytes) (p : Tree) (d : PlainDerivation) : Option Bytes → Option Bytes → Type 0 where
-  found : (written : Option Bytes) → IsProgramText text p → IsGiven text p d None written
+  found : (written : Option Bytes) → IsProgramText text p → HasAllPairs [] p d → IsGiven text p d None written
   handed : (name written : Bytes) → IsJudged text (Ok p) → Spells text written d → IsGiven text p d (Some name) (Some written)
 
 -- with which status and note an order on the text does nothing: the text is refused, or the derivation that is named is, or the shapes of that derivation are.

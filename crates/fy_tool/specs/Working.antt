@@ -41,6 +41,7 @@ use Rattle.fy_elf.specs.declared.error.ElfError.{ElfError}
 use Rattle.fy_build.specs.Selected.{IsSelectedBy}
 use Rattle.fy_build.specs.Building.{HasTableWords}
 use Rattle.fy_build.specs.Headline.{RunsAsCopyRule}
+use Rattle.fy_least.specs.Pairs.{HasAllPairs}
 use Rattle.fy_link.specs.Links.{IsLinked, IsUnlinked}
 use Rattle.fy_link.specs.UnitBytes.{IsUnitRead, IsBadUnit, unit_bytes}
 use Rattle.fy_link.specs.Units.{IsUnit}
@@ -83,7 +84,8 @@ pub record IsUnjudged (text : Bytes) (why : Refusal) : Type 0 where
   pub is_judged : IsJudged text (Err cause)
   pub told : told_as cause ≡ Some why
 
--- the program of a text, with its names and a derivation that it is a command, which keeps the limits and can be written under these names, and whose demand shapes keep theirs
+-- the program of a text, with its names and a derivation that it is a command, which keeps the limits and can be written under these names, has each demand shape that some
+-- derivation has, and whose demand shapes keep their limits
 pub record IsOfText (text : Bytes) (program : Program) : Type 0 where
   pub is_program : IsProgramText text (reads program.phrase)
   pub shallow : depth (reads program.phrase) ≤ 1023
@@ -91,6 +93,7 @@ pub record IsOfText (text : Bytes) (program : Program) : Type 0 where
   pub derived : refusal (conclusion_of (reads program.phrase) (plain_derivation program.derivation)) ≡ None
   pub limits : KeepsLimits (plain_derivation program.derivation)
   pub printable : IsPrintable program.names (plain_derivation program.derivation)
+  pub full : HasAllPairs [] (reads program.phrase) (plain_derivation program.derivation)
   pub table_is : HasJustPairs program.table (shape_table (reads program.phrase) (plain_derivation program.derivation))
   pub table_limits : KeepsShapeLimits (reads program.phrase) program.table
 

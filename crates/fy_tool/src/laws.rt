@@ -1,6 +1,6 @@
 //! Laws of completeness, each the contract of a function that does nothing.
 
-ghost use Rattle.fy_tool.specs.Complete.{AcceptedTextIsRefusedByShapesAlone, AcceptedWhereLimitsHold, ImageIsRun, NamedDerivationIsAccepted, RunCompletes, TextIsRefusedOneWay};
+ghost use Rattle.fy_tool.specs.Complete.{AcceptedTextIsNeverRefused, AcceptedWhereLimitsHold, ImageIsRun, NamedDerivationIsAccepted, RunCompletes, TextIsRefusedOneWay};
 
 /// A text whose phrase is a command, and whose types and demand shapes keep their limits, is turned down
 /// by no command for which no derivation is named.
@@ -8,14 +8,12 @@ pub fn texts_within_limits_are_accepted()
     ensures { AcceptedWhereLimitsHold }
 {}
 
-/// A text that one command accepts is refused, where no derivation is named, by no stage but that of the
-/// demand shapes, and then only where the least types of its phrase pass the limit that is told.
-pub fn accepted_texts_are_refused_by_shapes_alone()
-    ensures { AcceptedTextIsRefusedByShapesAlone }
+/// A text that one command accepts is refused by none, where no derivation is named.
+pub fn accepted_texts_are_never_refused()
+    ensures { AcceptedTextIsNeverRefused }
 {}
 
-/// All commands refuse a text in one way where no derivation is named, but for those limits on demand
-/// shapes that the least types of its phrase pass.
+/// All commands refuse a text in one way where no derivation is named.
 pub fn texts_are_refused_one_way()
     ensures { TextIsRefusedOneWay }
 {}

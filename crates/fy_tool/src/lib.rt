@@ -27,8 +27,7 @@ mod wanted;
 
 pub use fy_words::{Command, command_of};
 pub use laws::{
-    accepted_texts_are_refused_by_shapes_alone, images_are_accepted,
-    named_derivations_are_accepted, runs_complete, texts_are_refused_one_way,
-    texts_within_limits_are_accepted,
+    accepted_texts_are_never_refused, images_are_accepted, named_derivations_are_accepted,
+    runs_complete, texts_are_refused_one_way, texts_within_limits_are_accepted,
 };
 pub use top::forsythe;

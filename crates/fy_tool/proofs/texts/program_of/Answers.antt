@@ -36,6 +36,7 @@ returns-in-Ok-shapes_of-clause-checked c =
       derived = found.1;
       limits = c.in-Ok-find.ensures.limits limits;
       printable = c.in-Ok-find.ensures.printable limits full core.names named;
+      full = c.in-Ok-find.ensures.pairs;
       table_is = c.in-Ok-shapes_of.ensures.shaping.0;
       table_limits = c.in-Ok-shapes_of.ensures.shaping.1;
     }
@@ -47,5 +48,5 @@ returns-in-Err-shapes_of-clause-checked c =
     let found = c.in-Ok-find.ensures.found in
     let read = rw c.in-Ok.is at c.in_ok-core.ensures.core in
     not_shaped (IsOfText c.args.text.now) c.args.text.now p d c.in-Err-shapes_of.error c.refused-in-Err-shapes_of.result
-    (record { is_program = is_program c.args.text.now p d read.is_judged found.0 found.1; accepted = found.1 }) c.in-Err-shapes_of.ensures.shaping
+    (record { is_program = is_program c.args.text.now p d read.is_judged found.0 found.1; accepted = found.1; full = c.in-Ok-find.ensures.pairs }) c.in-Err-shapes_of.ensures.shaping
     (rw (← c.shapes_refusal.ensures) c.refused-in-Err-shapes_of.ensures.why)
