@@ -1,5 +1,5 @@
 -- Sources, sinks and files in memory.
-use Rattle.std.specs.Prelude.{◌≡◌, ℕ, ◌+◌, ◌-◌, ◌^◌, ◌<◌, ◌≤◌, ◌==◌, min, Bool, IsTrue, false, List, [], ◌∷◌, length, map, string_bytes, is_some, if◌then◌else◌, IsSomeAnd, Some, None}
+use Rattle.std.specs.Prelude.{◌≡◌, ℕ, ◌+◌, ◌<◌, ◌≤◌, ◌==◌, Bool, IsTrue, false, List, [], ◌∷◌, length, map, string_bytes, is_some, if◌then◌else◌, IsSomeAnd, Some, None}
 use Rattle.std.specs.declared.option.Option.{Option}
 use Rattle.std.specs.declared.result.Result.{Result}
 use Rattle.std.specs.declared.result.Result.TheVariants.{Ok, Err}
@@ -8,7 +8,7 @@ use Rattle.std.specs.declared.vec.Vec.{Vec}
 use Rattle.std.specs.List.{list_any}
 use Rattle.std.specs.Str.{bytes_eq}
 use Rattle.std.specs.FinMap.{from_entries, get}
-use Rattle.fy_base.specs.Outside.{Bytes, Folder}
+use Rattle.fy_base.specs.Outside.{Bytes, Folder, next_count}
 use Rattle.fy_base.specs.declared.memory.Calls.{Calls}
 use Rattle.fy_base.specs.declared.memory.Entry.{Entry}
 use Rattle.fy_base.specs.declared.memory.Fault.{Fault}
@@ -20,10 +20,6 @@ use Rattle.fy_base.specs.declared.outside.KeepError.TheVariants as unkept
 -- whether the call of this number is to fail
 abbrev pub is_to_fail : List ℕ → ℕ → Bool
 is_to_fail failing call = list_any (λ k. k == call) failing
-
--- one more than a counter of 64 bits, which stands still at its last value
-abbrev pub next_count : ℕ → ℕ
-next_count n = min (n + 1) (2 ^ 64 - 1)
 
 -- one more call was made, and the list of those that are to fail stays
 pub record CountsCall (before now : Calls) : Type 0 where

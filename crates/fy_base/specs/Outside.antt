@@ -1,4 +1,4 @@
--- What a call learns of the outside and does to it: sources, sinks and files, and their counts of faults.
+-- What a call learns of the outside and does to it: sources, sinks and files, with their counts of faults and of calls.
 use Rattle.std.specs.Prelude.{◌≡◌, ℕ, ◌+◌, ◌-◌, ◌^◌, ◌<◌, ◌≤◌, min, Bool, IsTrue, List, [], ◌++◌, length, Some, OnOk, OnErr}
 use Rattle.std.specs.Option.{option_map, ForSome}
 use Rattle.std.specs.declared.option.Option.{Option}
@@ -19,6 +19,10 @@ Bytes = List ℕ
 -- files: a finite map from names to contents
 abbrev pub Folder : Type 0
 Folder = FinMap (slice_cmp nat_cmp) Bytes
+
+-- one more than a counter of 64 bits, which stands still at its last value
+abbrev pub next_count : ℕ → ℕ
+next_count n = min (n + 1) (2 ^ 64 - 1)
 
 -- a count of faults is greater than before, or stands at the last value of a counter
 abbrev pub Rose : ℕ → ℕ → Type 0
@@ -103,3 +107,16 @@ UnlessKeepFails (Err unkept.OutOfMemory) P = P
 -- every name's count of faults stands still
 abbrev pub NoneMoves : (Bytes → ℕ) → (Bytes → ℕ) → Type 0
 NoneMoves before now = now ≡ before
+
+-- how often `fetch` and `keep` were called
+pub record FileCalls : Type 0 where
+  pub fetches : ℕ
+  pub keeps : ℕ
+
+-- the counts after one more call of `fetch`, whatever it answered
+abbrev pub once_fetched : FileCalls → FileCalls
+once_fetched calls = record calls { fetches = next_count calls.fetches }
+
+-- the counts after one more call of `keep`, whatever it answered
+abbrev pub once_kept : FileCalls → FileCalls
+once_kept calls = record calls { keeps = next_count calls.keeps }

@@ -2,8 +2,8 @@
 
 ghost use Rattle.std.specs.Prelude.{◌≡◌, ℕ, ◌<◌, ◌≤◌, ◌+◌, ◌↔◌, IsTrue, IsErr, min, List, [], ◌++◌, length, take, drop, Some, false, OnOk, OnErr, IfOk, IsErrOf, vec_capacity, vec_len};
 ghost use Rattle.std.specs.Option.{option_copied, option_map};
-ghost use Rattle.fy_base.specs.Outside.{Bytes, Gave, IsAtEnd, Gained, GainedPart, HasCause, Tells, IsLong, Kept, OthersStay, Rose, NoneFalls, NoneMoves, UnlessFetchFails, UnlessKeepFails};
-ghost use Rattle.fy_base.specs.Memory.{folder_of, pair_of, is_to_fail, faults_of, misses_of, next_count, CountsCall, OneMoreFault, FetchesAsTold, KeepsAsTold};
+ghost use Rattle.fy_base.specs.Outside.{Bytes, Gave, IsAtEnd, Gained, GainedPart, HasCause, Tells, IsLong, Kept, OthersStay, Rose, NoneFalls, NoneMoves, UnlessFetchFails, UnlessKeepFails, next_count, once_fetched, once_kept};
+ghost use Rattle.fy_base.specs.Memory.{folder_of, pair_of, is_to_fail, faults_of, misses_of, CountsCall, OneMoreFault, FetchesAsTold, KeepsAsTold};
 ghost use Rattle.std.specs.FinMap.{get, insert};
 
 use crate::error::OutOfMemory;
@@ -397,6 +397,8 @@ pub struct MemoryFiles {
     calls: Calls,
     fetch_faults: Vec<Fault>,
     keep_faults: Vec<Fault>,
+    fetches: u64,
+    keeps: u64,
 }
 
 impl MemoryFiles {
@@ -404,12 +406,15 @@ impl MemoryFiles {
     pub fn new(alloc: Global, failing: Vec<u64>) -> MemoryFiles
         ensures held { ⟦<MemoryFiles as Files>⟧.held result ≡ Some (folder_of []) }
         ensures failing { (result.calls.failing.items ≡ failing.items) × (result.calls.made ≡ 0) }
+        ensures uncalled { ⟦<MemoryFiles as Files>⟧.calls result ≡ record { fetches = 0; keeps = 0 } }
     {
         MemoryFiles {
             entries: Vec::new(alloc),
             calls: Calls::new(failing),
             fetch_faults: Vec::new(alloc),
             keep_faults: Vec::new(alloc),
+            fetches: 0,
+            keeps: 0,
         }
     }
 
@@ -437,6 +442,8 @@ impl Files for MemoryFiles {
 
     ghost keep_faults = { λ s name. faults_of s.keep_faults.items name };
 
+    ghost calls = { λ s. record { fetches = s.fetches; keeps = s.keeps } };
+
     fn fetch(&mut self, alloc: Global, name: &str, limit: usize) -> Result<Vec<u8>, FetchError>
         ensures content { IfOk result (λ bytes. Tells (⟦<MemoryFiles as Files>⟧.held self.old) name.now (Some bytes.items)) }
         ensures within { IfOk result (λ bytes. length bytes.items ≤ limit) }
@@ -448,12 +455,14 @@ impl Files for MemoryFiles {
         ensures fetches_quiet { UnlessFetchFails result (NoneMoves (⟦<MemoryFiles as Files>⟧.fetch_faults self.old) (⟦<MemoryFiles as Files>⟧.fetch_faults self.new)) }
         ensures keeps_quiet { UnlessFetchFails result (NoneMoves (⟦<MemoryFiles as Files>⟧.keep_faults self.old) (⟦<MemoryFiles as Files>⟧.keep_faults self.new)) }
         ensures files { ⟦<MemoryFiles as Files>⟧.held self.new ≡ ⟦<MemoryFiles as Files>⟧.held self.old }
+        ensures called { ⟦<MemoryFiles as Files>⟧.calls self.new ≡ once_fetched (⟦<MemoryFiles as Files>⟧.calls self.old) }
         ensures as_told { FetchesAsTold (is_to_fail self.old.calls.failing.items self.old.calls.made) (get (folder_of self.old.entries.items) name.now) limit result }
         ensures counted { CountsCall self.old.calls self.new.calls }
         ensures missing_counted { IsErrOf result FetchError.Missing → OneMoreFault (⟦<MemoryFiles as Files>⟧.fetch_faults self.old) (⟦<MemoryFiles as Files>⟧.fetch_faults self.new) name.now }
         ensures failed_counted { IsErrOf result FetchError.Failed → OneMoreFault (⟦<MemoryFiles as Files>⟧.fetch_faults self.old) (⟦<MemoryFiles as Files>⟧.fetch_faults self.new) name.now }
-        ensures rest { self.new ≡ record self.old { calls = self.new.calls; fetch_faults = self.new.fetch_faults } }
+        ensures rest { self.new ≡ record self.old { calls = self.new.calls; fetch_faults = self.new.fetch_faults; fetches = self.new.fetches } }
     {
+        self.fetches = self.fetches.saturating_add(1);
         let fails = self.calls.next_fails();
         let fault = match find(self.entries.as_slice(), name) {
             _ if fails => FetchError::Failed,
@@ -479,8 +488,10 @@ impl Files for MemoryFiles {
         ensures stays { OnErr result (⟦<MemoryFiles as Files>⟧.held self.new ≡ ⟦<MemoryFiles as Files>⟧.held self.old) }
         ensures counted { CountsCall self.old.calls self.new.calls }
         ensures failed_counted { IsErrOf result KeepError.Failed → OneMoreFault (⟦<MemoryFiles as Files>⟧.keep_faults self.old) (⟦<MemoryFiles as Files>⟧.keep_faults self.new) name.now }
-        ensures rest { self.new ≡ record self.old { entries = self.new.entries; calls = self.new.calls; keep_faults = self.new.keep_faults } }
+        ensures called { ⟦<MemoryFiles as Files>⟧.calls self.new ≡ once_kept (⟦<MemoryFiles as Files>⟧.calls self.old) }
+        ensures rest { self.new ≡ record self.old { entries = self.new.entries; calls = self.new.calls; keep_faults = self.new.keep_faults; keeps = self.new.keeps } }
     {
+        self.keeps = self.keeps.saturating_add(1);
         if self.calls.next_fails() {
             return match count_fault(alloc, &mut self.keep_faults, name) {
                 Ok(()) => Err(KeepError::Failed),
@@ -502,6 +513,8 @@ pub struct SteadyFiles {
     kept: Vec<Entry>,
     made_with: Vec<Entry>,
     misses: u64,
+    fetches: u64,
+    keeps: u64,
 }
 
 impl SteadyFiles {
@@ -509,11 +522,14 @@ impl SteadyFiles {
     pub fn new(alloc: Global) -> SteadyFiles
         ensures held { ⟦<SteadyFiles as Files>⟧.held result ≡ Some (folder_of []) }
         ensures none_kept { result.kept.items ≡ [] }
+        ensures uncalled { ⟦<SteadyFiles as Files>⟧.calls result ≡ record { fetches = 0; keeps = 0 } }
     {
         SteadyFiles {
             kept: Vec::new(alloc),
             made_with: Vec::new(alloc),
             misses: 0,
+            fetches: 0,
+            keeps: 0,
         }
     }
 
@@ -542,6 +558,8 @@ impl Files for SteadyFiles {
 
     ghost keep_faults = { λ _ _. 0 };
 
+    ghost calls = { λ s. record { fetches = s.fetches; keeps = s.keeps } };
+
     fn fetch(&mut self, alloc: Global, name: &str, limit: usize) -> Result<Vec<u8>, FetchError>
         ensures content { IfOk result (λ bytes. Tells (⟦<SteadyFiles as Files>⟧.held self.old) name.now (Some bytes.items)) }
         ensures within { IfOk result (λ bytes. length bytes.items ≤ limit) }
@@ -553,11 +571,13 @@ impl Files for SteadyFiles {
         ensures fetches_quiet { UnlessFetchFails result (NoneMoves (⟦<SteadyFiles as Files>⟧.fetch_faults self.old) (⟦<SteadyFiles as Files>⟧.fetch_faults self.new)) }
         ensures keeps_quiet { UnlessFetchFails result (NoneMoves (⟦<SteadyFiles as Files>⟧.keep_faults self.old) (⟦<SteadyFiles as Files>⟧.keep_faults self.new)) }
         ensures files { ⟦<SteadyFiles as Files>⟧.held self.new ≡ ⟦<SteadyFiles as Files>⟧.held self.old }
+        ensures called { ⟦<SteadyFiles as Files>⟧.calls self.new ≡ once_fetched (⟦<SteadyFiles as Files>⟧.calls self.old) }
         ensures as_told { FetchesAsTold false (get (folder_of (self.old.kept.items ++ self.old.made_with.items)) name.now) limit result }
         ensures miss { IsErrOf result FetchError.Missing → self.new.misses ≡ next_count self.old.misses }
         ensures hit { UnlessFetchFails result (self.new.misses ≡ self.old.misses) }
-        ensures rest { self.new ≡ record self.old { misses = self.new.misses } }
+        ensures rest { self.new ≡ record self.old { misses = self.new.misses; fetches = self.new.fetches } }
     {
+        self.fetches = self.fetches.saturating_add(1);
         match find_in_both(self.kept.as_slice(), self.made_with.as_slice(), name) {
             Some(content) => fetched(alloc, content, limit),
             None => {
@@ -577,8 +597,10 @@ impl Files for SteadyFiles {
         ensures fetches_quiet { UnlessKeepFails result (NoneMoves (⟦<SteadyFiles as Files>⟧.fetch_faults self.old) (⟦<SteadyFiles as Files>⟧.fetch_faults self.new)) }
         ensures keeps_quiet { UnlessKeepFails result (NoneMoves (⟦<SteadyFiles as Files>⟧.keep_faults self.old) (⟦<SteadyFiles as Files>⟧.keep_faults self.new)) }
         ensures as_told { KeepsAsTold false result }
-        ensures rest { self.new ≡ record self.old { kept = self.new.kept } }
+        ensures called { ⟦<SteadyFiles as Files>⟧.calls self.new ≡ once_kept (⟦<SteadyFiles as Files>⟧.calls self.old) }
+        ensures rest { self.new ≡ record self.old { kept = self.new.kept; keeps = self.new.keeps } }
     {
+        self.keeps = self.keeps.saturating_add(1);
         let Ok(entry) = entry_of(alloc, name, bytes) else {
             return Err(KeepError::OutOfMemory);
         };

@@ -3,7 +3,7 @@
 ghost use Rattle.std.specs.Prelude.{◌≡◌, ℕ, ◌<◌, ◌≤◌, IsTrue, length, take, is_none, IfOk, OnOk, OnErr, IsErrOf, Some};
 ghost use Rattle.std.specs.Option.{option_to_list};
 ghost use Rattle.std.specs.declared.option.Option.{Option};
-ghost use Rattle.fy_base.specs.Outside.{Bytes, Folder, Rose, HasCause, Gave, IsAtEnd, Drew, Gained, GainedPart, Tells, IsLong, Kept, OthersStay, NoneFalls, NoneMoves, UnlessFetchFails, UnlessKeepFails};
+ghost use Rattle.fy_base.specs.Outside.{Bytes, Folder, Rose, HasCause, Gave, IsAtEnd, Drew, Gained, GainedPart, Tells, IsLong, Kept, OthersStay, NoneFalls, NoneMoves, UnlessFetchFails, UnlessKeepFails, FileCalls, once_fetched, once_kept};
 
 use std::alloc::Global;
 use thiserror::Error;
@@ -112,7 +112,8 @@ pub trait Sink {
         ensures cause { HasCause (faults self.old) (faults self.new) result };
 }
 
-/// Files by name. Each name has a count of faults of `fetch` and one of `keep`.
+/// Files by name. Each name has a count of faults of `fetch` and one of `keep`, and all names
+/// together have a count of calls of either.
 pub trait Files {
     /// The files, where they are told.
     ghost held: { Self → Option Folder };
@@ -121,7 +122,10 @@ pub trait Files {
 
     ghost keep_faults: { Self → Bytes → ℕ };
 
-    /// The content of the named file. Whatever it answers, all files stay.
+    /// How often either was called; a count stands still at 2^64 - 1.
+    ghost calls: { Self → FileCalls };
+
+    /// The content of the named file. Whatever it answers, all files stay, and the call is counted.
     ///
     /// # Errors
     ///
@@ -138,9 +142,10 @@ pub trait Files {
         ensures keeps { NoneFalls (keep_faults self.old) (keep_faults self.new) }
         ensures fetches_quiet { UnlessFetchFails result (NoneMoves (fetch_faults self.old) (fetch_faults self.new)) }
         ensures keeps_quiet { UnlessFetchFails result (NoneMoves (keep_faults self.old) (keep_faults self.new)) }
-        ensures files { held self.new ≡ held self.old };
+        ensures files { held self.new ≡ held self.old }
+        ensures called { calls self.new ≡ once_fetched (calls self.old) };
 
-    /// Makes the named file hold the bytes; all others stay.
+    /// Makes the named file hold the bytes; all others stay. Whatever it answers, the call is counted.
     ///
     /// # Errors
     ///
@@ -155,5 +160,6 @@ pub trait Files {
         ensures fetches { NoneFalls (fetch_faults self.old) (fetch_faults self.new) }
         ensures keeps { NoneFalls (keep_faults self.old) (keep_faults self.new) }
         ensures fetches_quiet { UnlessKeepFails result (NoneMoves (fetch_faults self.old) (fetch_faults self.new)) }
-        ensures keeps_quiet { UnlessKeepFails result (NoneMoves (keep_faults self.old) (keep_faults self.new)) };
+        ensures keeps_quiet { UnlessKeepFails result (NoneMoves (keep_faults self.old) (keep_faults self.new)) }
+        ensures called { calls self.new ≡ once_kept (calls self.old) };
 }

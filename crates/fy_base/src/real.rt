@@ -82,11 +82,18 @@ impl<W: Write> Sink for RealSink<W> {
 pub struct RealFiles<'a, R> {
     system: &'a R,
     faults: u64,
+    fetches: u64,
+    keeps: u64,
 }
 
 impl<'a, R> RealFiles<'a, R> {
     pub fn new(system: &'a R) -> RealFiles<'a, R> {
-        RealFiles { system, faults: 0 }
+        RealFiles {
+            system,
+            faults: 0,
+            fetches: 0,
+            keeps: 0,
+        }
     }
 }
 
@@ -116,7 +123,10 @@ impl<R: System> Files for RealFiles<'_, R> {
 
     ghost keep_faults = { λ s _. s.faults };
 
+    ghost calls = { λ s. record { fetches = s.fetches; keeps = s.keeps } };
+
     fn fetch(&mut self, alloc: Global, name: &str, limit: usize) -> Result<Vec<u8>, FetchError> {
+        self.fetches = self.fetches.saturating_add(1);
         match read_start(self.system, alloc, name, limit) {
             Ok(bytes) if bytes.len() > limit => Err(FetchError::TooLong),
             Ok(bytes) => Ok(bytes),
@@ -132,6 +142,7 @@ impl<R: System> Files for RealFiles<'_, R> {
     }
 
     fn keep(&mut self, _alloc: Global, name: &str, bytes: &[u8]) -> Result<(), KeepError> {
+        self.keeps = self.keeps.saturating_add(1);
         match fs::write(self.system, name, bytes) {
             Ok(()) => Ok(()),
             Err(_) => {

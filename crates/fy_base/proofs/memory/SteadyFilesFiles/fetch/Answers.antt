@@ -13,6 +13,6 @@ returns-in-None-clause-missing c = λ _.
     older_none c.args.self.now.kept.items made name (rw (c.as_slice.ensures.value, c.as_slice-2.ensures.value) at c.in-None.ensures) in
     let counts = λ (n : ℕ). ap (λ o. if is_some o then 0 else n) none in
     let before : misses_of (folder_of made) c.args.self.now.misses name ≡ c.args.self.now.misses = counts c.args.self.now.misses in
-    let now : misses_of (folder_of made) c.saturating_add-self.result name ≡ c.saturating_add-self.result = counts c.saturating_add-self.result in
-    let risen : Rose c.args.self.now.misses c.saturating_add-self.result = omega arith in
-    subst (λ n. Rose n (misses_of (folder_of made) c.saturating_add-self.result name)) (sym before) (subst (λ n. Rose c.args.self.now.misses n) (sym now) risen)
+    let now : misses_of (folder_of made) c.saturating_add-self-in-None.result name ≡ c.saturating_add-self-in-None.result = counts c.saturating_add-self-in-None.result in
+    let risen : Rose c.args.self.now.misses c.saturating_add-self-in-None.result = omega arith in
+    subst (λ n. Rose n (misses_of (folder_of made) c.saturating_add-self-in-None.result name)) (sym before) (subst (λ n. Rose c.args.self.now.misses n) (sym now) risen)
