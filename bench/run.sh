@@ -42,5 +42,5 @@ done
 echo "proved: $(rate "$(least <"$work/proved.times")") ($(tail -n 1 "$work/proved.notes"))"
 echo "plain:  $(rate "$(least <"$work/plain.times")")"
 echo "load of 4,194,304 words of code and the largest stack: proved $(least <"$work/proved.large") s, plain $(least <"$work/plain.large") s"
-echo "what the loop does for a word or a row: $("$here/inline.sh" 2>&1 || true)"
+echo "what the loop does for a word or a pattern: $("$here/inline.sh" 2>&1 || true)"
 "$here/programs.sh" "$rounds"

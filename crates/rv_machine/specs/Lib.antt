@@ -6,4 +6,4 @@ pub mod View
 pub mod Fetch
 pub mod Ends
 pub mod Turn
-pub mod Rows
+pub mod Patterns

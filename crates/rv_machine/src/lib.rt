@@ -8,7 +8,7 @@ mod laws;
 mod machine;
 mod memory;
 mod operations;
-mod rows;
+mod patterns;
 mod run;
 mod services;
 mod step;

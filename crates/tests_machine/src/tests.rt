@@ -5,7 +5,7 @@ mod image;
 mod insn;
 mod machine;
 mod made;
+mod patterns;
 mod pe;
 mod routines;
-mod rows;
 mod shapes;

@@ -11,7 +11,7 @@ use std::alloc::Global;
 use std::process::Abort;
 use std::test::Fail;
 
-// A circle of 29 words with each known row of words once.
+// A circle of 29 words with each known pattern of words once.
 const CIRCLE: [u32; 29] = [
     // addi x5, x2, 16
     0x0101_0293,
@@ -110,10 +110,10 @@ fn goes_on(rt: &impl Abort, alloc: Global, m: &mut Machine, count: u64) -> Resul
     }
 }
 
-// Each row is cut by the limit at each of its words, entered at each, left at each branch that is
+// Each pattern is cut by the limit at each of its words, entered at each, left at each branch that is
 // taken, and cut by the end of the code.
 #[test]
-fn rows_end_where_they_are_cut(rt: HostRuntime) -> Result<(), Fail> {
+fn patterns_end_where_they_are_cut(rt: HostRuntime) -> Result<(), Fail> {
     for count in 0..65 {
         for first in 0..29 {
             let mut m = machine(rt.alloc(), &CIRCLE)?;
@@ -174,9 +174,9 @@ fn runs_as_steps(rt: &impl Abort, alloc: Global, words: &[u32]) -> Result<(), Fa
     Ok(())
 }
 
-// Jumps into each word of each row.
+// Jumps into each word of each pattern.
 #[test]
-fn rows_are_entered_at_each_word(rt: HostRuntime) -> Result<(), Fail> {
+fn patterns_are_entered_at_each_word(rt: HostRuntime) -> Result<(), Fail> {
     for words_on in 1..26 {
         let mut words = CIRCLE;
         words[3] = 0x6f + 0x0040_0000 * words_on;
