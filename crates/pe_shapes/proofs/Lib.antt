@@ -22,3 +22,9 @@ pub mod LoopSteps
 pub mod Arms
 pub mod ShapingLemmas
 pub mod WalkSizes
+pub mod OrderLemmas
+pub mod Sorting
+pub mod PlaceLemmas
+pub mod PairOrder
+pub mod TableLemmas
+pub mod TablesOne

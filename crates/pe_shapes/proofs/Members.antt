@@ -52,7 +52,7 @@ unmapped f (x ∷ xs) (suc i) y e = unmapped f xs i y e
 pub mapped : {X Y : Type 0} (f : X → Y) (xs : List X) (i : ℕ) (x : X) → slice_get xs i ≡ Some x → slice_get (map f xs) i ≡ Some (f x)
 mapped f xs i x e = slice_get-map f xs i ∙ ap (option_map f) e
 
-slice_get-take : {X : Type 0} (n : ℕ) (xs : List X) (i : ℕ) (x : X) → slice_get (take n xs) i ≡ Some x → slice_get xs i ≡ Some x
+pub slice_get-take : {X : Type 0} (n : ℕ) (xs : List X) (i : ℕ) (x : X) → slice_get (take n xs) i ≡ Some x → slice_get xs i ≡ Some x
 slice_get-take zero xs i x e = absurd cc
 slice_get-take (suc n) [] i x e = absurd cc
 slice_get-take (suc n) (y ∷ xs) zero x e = e

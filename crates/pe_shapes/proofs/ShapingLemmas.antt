@@ -1,5 +1,5 @@
 -- The answers of the whole.
-use Rattle.std.proofs.Common.{ℕ, ◌+◌, ◌*◌, ◌^◌, ◌<◌, ◌≤◌, ◌≡◌, ◌⊎◌, length, map, None, Err, refl, sym, ap, ◌∙◌, subst, arith}
+use Rattle.std.proofs.Common.{ℕ, ◌+◌, ◌*◌, ◌^◌, ◌<◌, ◌≤◌, ◌≡◌, ◌⊎◌, length, None, Err, refl, sym, ap, ◌∙◌, subst, arith}
 use Rattle.std.specs.List.{Contains}
 use Rattle.std.proofs.Math.Nat.{mul-le-mul_left}
 use Rattle.fy_types.specs.Types.{PlainType}
@@ -9,14 +9,14 @@ use Rattle.fy_phrase.specs.Sizes.{nodes, greatest_u32}
 use Rattle.fy_derive.specs.Derivations.{PlainDerivation}
 use Rattle.fy_derive.specs.Judging.{Judged, concludes, stops, refusal}
 use Rattle.fy_derive.specs.Shapes.{thunks, shape_table, table_words}
-use Rattle.fy_derive.specs.ShapeTables.{plain_shape}
 use Rattle.pe_shapes.specs.declared.error.ShapeError.{ShapeError}
 use Rattle.pe_shapes.specs.declared.error.ShapeError.TheVariants.{TooManyShapes, TooManyEntries, TablesTooLarge, OutOfMemory}
 use Rattle.pe_shapes.specs.declared.found.Found.{Found}
 use Rattle.pe_shapes.specs.Finding.{used_shapes, IsEmpty, IsWalkStop}
+use Rattle.pe_shapes.specs.Placing.{IsTableFound}
 use Rattle.pe_shapes.specs.Shaping.{IsShapeOf, IsShaping, KeepsLimits}
 use Rattle.pe_shapes.proofs.Members.{HasMany-weaker}
-use Rattle.pe_shapes.proofs.TableMade.{IsWhole, stopped, shapes-counted, shapes-few, pairs-many, pairs-few, table-size}
+use Rattle.pe_shapes.proofs.TableMade.{IsWhole, stopped, shapes-counted, shapes-few, pairs-many, pairs-few}
 use Rattle.pe_shapes.proofs.ThunkLemmas.{thunks-exact}
 
 -- what is refused at no node concludes something
@@ -56,9 +56,9 @@ words-stop p d f words w l e many = (
 )
 
 pub limits-kept : (p : Tree) (d : PlainDerivation) (f : Found) (words : ℕ) (t : ShapeTable) → IsWhole p d f → length f.pairs.keys ≤ 65536 →
-    words ≡ table_words p (length f.used.keys) → words ≤ 1048576 → map plain_shape t.shapes ≡ used_shapes f → t.pairs ≡ f.pairs.keys → KeepsLimits p t
-limits-kept p d f words t w l e few shapes pairs = record {
-  shapes = omega (arith, table-size f t shapes, w.sound.few);
-  pairs = omega (arith, ap length pairs);
-  words = subst (λ n. table_words p n ≤ 1048576) (sym (table-size f t shapes)) (omega (arith, e));
+    words ≡ table_words p (length f.used.keys) → words ≤ 1048576 → IsTableFound f t → KeepsLimits p t
+limits-kept p d f words t w l e few h = record {
+  shapes = omega (arith, h.number, w.sound.few);
+  pairs = omega (arith, h.few, l);
+  words = subst (λ n. table_words p n ≤ 1048576) (sym h.number) (omega (arith, e));
 }

@@ -1,5 +1,5 @@
 -- What all that was found says of the pairs of the derivation.
-use Rattle.std.proofs.Common.{ℕ, ◌<◌, ◌≤◌, ◌≡◌, ◌⊎◌, inl, inr, length, get_or, map, slice_get, Some, refl, sym, ap, ◌∙◌, subst, arith}
+use Rattle.std.proofs.Common.{ℕ, ◌<◌, ◌≤◌, ◌≡◌, ◌⊎◌, inl, inr, length, true, false, get_or, map, slice_get, Some, sym, ap, ◌∙◌, subst, arith}
 use Rattle.std.specs.List.{Contains}
 use Rattle.std.proofs.lemmas.List.{length-map}
 use Rattle.std.proofs.lemmas.List.Elements.{All-contains}
@@ -13,10 +13,15 @@ use Rattle.fy_derive.specs.ShapeTables.{plain_shape, shape_at, HasPairOf, HasJus
 use Rattle.pe_shapes.specs.declared.found.Found.{Found}
 use Rattle.pe_shapes.specs.Counts.{StandOnce, HasMany, HasAtMost, IsCount}
 use Rattle.pe_shapes.specs.Finding.{used_shapes, pair_of, IsRecorded, IsFound, IsEmpty, IsSeen, Adds, NoPair}
+use Rattle.pe_shapes.specs.Order.{comes_before, IsPairBefore}
+use Rattle.pe_shapes.specs.Placing.{IsTableFound}
 use Rattle.pe_shapes.specs.Shaping.{IsShapeOf, IsPairOf}
 use Rattle.pe_shapes.specs.Shown.{shown, all_shown}
-use Rattle.pe_shapes.proofs.Members.{Contains-none, Contains-at, Contains-map, Contains-unmap, place_of, StandOnce-map, HasMany-from}
+use Rattle.pe_shapes.proofs.Members.{Contains-none, Contains-at, Contains-map, Contains-unmap, StandOnce-map, HasMany-from}
+use Rattle.pe_shapes.proofs.OrderLemmas.{before-itself}
+use Rattle.pe_shapes.proofs.Sorting.{StandOnce-ordered}
 use Rattle.pe_shapes.proofs.Standings.{StandOnce-shown}
+use Rattle.pe_shapes.proofs.TableLemmas.{pair-never}
 
 -- what was found is that of the whole derivation
 pub record IsWhole (p : Tree) (d : PlainDerivation) (f : Found) : Type 0 where
@@ -115,50 +120,22 @@ pairs-few p d f w l = record {
 
 -- ---- the table
 
-shape-there : (f : Found) (t : ShapeTable) (n : ℕ) → map plain_shape t.shapes ≡ used_shapes f → shape_at t n ≡ slice_get (used_shapes f) n
-shape-there f t n e = sym (slice_get-map plain_shape t.shapes n) ∙ ap (λ S. slice_get S n) e
+shape-there : (t : ShapeTable) (n : ℕ) (s : PlainShape) → shape_at t n ≡ Some s → slice_get (map plain_shape t.shapes) n ≡ Some s
+shape-there t n s e = slice_get-map plain_shape t.shapes n ∙ e
 
-length-there : (f : Found) (t : ShapeTable) → map plain_shape t.shapes ≡ used_shapes f → length t.shapes ≡ length f.used.keys
-length-there f t e = sym (length-map t.shapes plain_shape) ∙ (ap length e ∙ length-map f.used.keys (shown f.numbers))
-
-recorded-there : (f : Found) (t : ShapeTable) (k : ℕ) (s : PlainShape) → map plain_shape t.shapes ≡ used_shapes f → t.pairs ≡ f.pairs.keys → IsRecorded f k s → HasPairOf t k s
-recorded-there f t k s e g r =
-    let at = place_of f.pairs.keys (pair_of k r.place) r.pair in
-    record {
-      place = at.0;
-      pair = pair_of k r.place;
-      stands = ap (λ ps. slice_get ps at.0) g ∙ at.1;
-      node_is = refl;
-      shape_is = shape-there f t r.place e ∙ r.shape;
-    }
-
-there-recorded : (f : Found) (t : ShapeTable) (k : ℕ) (s : PlainShape) → map plain_shape t.shapes ≡ used_shapes f → t.pairs ≡ f.pairs.keys → HasPairOf t k s → IsRecorded f k s
-there-recorded f t k s e g h = record {
-  place = h.pair.shape;
-  shape = sym (shape-there f t h.pair.shape e) ∙ h.shape_is;
-  pair = subst (λ n. Contains f.pairs.keys (pair_of n h.pair.shape)) h.node_is (Contains-at f.pairs.keys h.place h.pair (ap (λ ps. slice_get ps h.place) (sym g) ∙ h.stands));
-}
-
-pub table-made : (p : Tree) (d : PlainDerivation) (f : Found) (t : ShapeTable) → IsWhole p d f → length f.pairs.keys ≤ 65536 →
-    map plain_shape t.shapes ≡ used_shapes f → t.pairs ≡ f.pairs.keys → HasJustPairs t (shape_table p d)
-table-made p d f t w l e g = record {
+pub table-made : (p : Tree) (d : PlainDerivation) (f : Found) (t : ShapeTable) → IsWhole p d f → length f.pairs.keys ≤ 65536 → IsTableFound f t → HasJustPairs t (shape_table p d)
+table-made p d f t w l h = record {
   sound = record {
-    shapes_once = λ i j s a b. used-once f w.sound i j s (sym (shape-there f t i e) ∙ a) (sym (shape-there f t j e) ∙ b);
-    pairs_once = λ i j q a b. w.sound.pairs_once i j q (ap (λ ps. slice_get ps i) (sym g) ∙ a) (ap (λ ps. slice_get ps j) (sym g) ∙ b);
-    pairs_within = λ i q a. omega (
-      arith,
-      length-there f t e,
-      All-contains (λ p. p.shape < length f.used.keys) f.pairs.keys q w.sound.pairs_in (Contains-at f.pairs.keys i q (ap (λ ps. slice_get ps i) (sym g) ∙ a)),
-    );
+    shapes_once = λ i j s a b. StandOnce-ordered (λ r s. comes_before r s ≡ true) (λ s e. let f : true ≡ false = sym e ∙ before-itself s in cc) (map plain_shape t.shapes) h.ordered.shapes
+        i j s (shape-there t i s a) (shape-there t j s b);
+    pairs_once = StandOnce-ordered IsPairBefore pair-never t.pairs h.ordered.pairs;
+    pairs_within = λ i q a. All-contains (λ p. p.shape < length t.shapes) t.pairs q h.within (Contains-at t.pairs i q a);
     shapes_used = λ n s a.
-        let x = w.used s (Contains-at (used_shapes f) n s (sym (shape-there f t n e) ∙ a)) in
-        (x.0, recorded-there f t x.0 s e g (not_full f x.0 s l (w.seen x.0 s x.1)));
+        let x = w.used s (h.shapes s (Contains-at (map plain_shape t.shapes) n s (shape-there t n s a))) in
+        (x.0, (h.same x.0 s).1 (not_full f x.0 s l (w.seen x.0 s x.1)));
   };
-  same = λ k s. (λ h. w.known k s (there-recorded f t k s e g h), λ h. recorded-there f t k s e g (not_full f k s l (w.seen k s h)));
+  same = λ k s. (λ y. w.known k s ((h.same k s).0 y), λ y. (h.same k s).1 (not_full f k s l (w.seen k s y)));
 }
-
-pub table-size : (f : Found) (t : ShapeTable) → map plain_shape t.shapes ≡ used_shapes f → length t.shapes ≡ length f.used.keys
-table-size f t e = length-there f t e
 
 -- a table with just the pairs of a closed one is closed
 pub closed-table : (p : Tree) (pairs : ℕ → PlainShape → Type 0) (t : ShapeTable) → HasJustPairs t pairs → IsClosed p pairs → IsClosed p (HasPairOf t)

@@ -1,5 +1,6 @@
 pub mod Counts
 pub mod Shaping
+pub mod Order
 pub mod Closed
 pub mod Numbering
 pub mod Shown
@@ -8,3 +9,4 @@ pub mod Parts
 pub mod Origins
 pub mod Standing
 pub mod Finding
+pub mod Placing

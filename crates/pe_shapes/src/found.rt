@@ -2,11 +2,14 @@
 
 ghost use Rattle.std.specs.Prelude.{◌≡◌, ◌^◌, ◌<◌, ◌⊎◌, IfOk, OnOk, Contains, length, map};
 ghost use Rattle.fy_derive.specs.ShapeTables.{plain_shape};
-ghost use Rattle.pe_shapes.specs.Finding.{IsFound, IsEmpty, IsRecording, IsOneRecorded, used_shapes};
+ghost use Rattle.pe_shapes.specs.Finding.{IsFound, IsEmpty, IsRecording, IsOneRecorded};
+ghost use Rattle.pe_shapes.specs.Placing.{IsTableFound};
 ghost use Rattle.pe_shapes.specs.Shown.{total, shown, all_shown, AreIn};
 
 use crate::error::ShapeError;
 use crate::numbers::ShapeNumbers;
+use crate::order::in_order;
+use crate::placing::{placed_pairs, places};
 use crate::types::MOST_SHAPES;
 use fy_base::OutOfMemory;
 use fy_phrase::{Pair, PairList, ShapeList, ShapeTable};
@@ -89,18 +92,32 @@ impl Found {
         self.pairs.len()
     }
 
-    /// The table of the shapes and pairs.
+    /// The table of the shapes in their order, and of the pairs by node and shape.
     pub fn table(&self, alloc: Global) -> Result<ShapeTable, OutOfMemory>
         requires { IsFound self.now }
-        ensures shapes { IfOk result (λ t. map plain_shape t.shapes ≡ used_shapes self.now) }
-        ensures pairs { IfOk result (λ t. t.pairs ≡ self.now.pairs.keys) }
+        ensures { IfOk result (IsTableFound self.now) }
+    {
+        let used = self.used.as_slice();
+        let order = in_order(alloc, &self.numbers, used)?;
+        let shapes = self.shapes(alloc, &order)?;
+        let places = places(alloc, used, &order)?;
+        let pairs = placed_pairs(alloc, &places, self.pairs.as_slice())?;
+        Ok(ShapeTable {
+            shapes,
+            pairs: PairList::from_vec(pairs),
+        })
+    }
+
+    // The shapes with the numbers.
+    fn shapes(&self, alloc: Global, order: &[usize]) -> Result<ShapeList, OutOfMemory>
+        requires { AreIn self.now.numbers order.now }
+        ensures { IfOk result (λ shapes. map plain_shape shapes ≡ all_shown self.now.numbers order.now) }
     {
         let mut shapes = ShapeList::new(alloc);
-        for number in self.used.as_slice() {
+        for number in order {
             let shape = self.numbers.shape(alloc, *number)?;
             shapes.push(shape)?;
         }
-        let pairs = PairList::from_vec(self.pairs.as_slice().to_vec(alloc)?);
-        Ok(ShapeTable { shapes, pairs })
+        Ok(shapes)
     }
 }

@@ -8,7 +8,9 @@ mod found;
 mod laws;
 mod node;
 mod numbers;
+mod order;
 mod parts;
+mod placing;
 mod sets;
 mod shaping;
 mod sizes;
@@ -16,5 +18,5 @@ mod types;
 mod walk;
 
 pub use error::ShapeError;
-pub use laws::shape_tables_are_closed;
+pub use laws::{shape_tables_are_closed, shape_tables_are_one};
 pub use shaping::shapes_of;

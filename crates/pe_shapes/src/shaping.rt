@@ -8,6 +8,7 @@ ghost use Rattle.fy_derive.specs.Judging.{conclusion_of, refusal};
 ghost use Rattle.fy_derive.specs.Reading.{plain_derivation};
 ghost use Rattle.fy_derive.specs.Shapes.{IsClosed};
 ghost use Rattle.fy_derive.specs.ShapeTables.{HasPairOf};
+ghost use Rattle.pe_shapes.specs.Order.{AreInOrder};
 ghost use Rattle.pe_shapes.specs.Shaping.{IsShaping};
 
 use crate::context::Context;
@@ -24,6 +25,7 @@ const MOST_WORDS: u64 = 1_048_576;
 
 /// Which shapes each node of the phrase is asked for: the pairs of a node and the shape of a path of
 /// a type that some node of the derivation concludes for it. Nodes are counted in preorder, from 0.
+/// The shapes stand in their order, and the pairs by node and then by shape.
 /// The derivation is one that [`check`](fy_derive::check) accepts. `TooManyShapes`,
 /// `TooManyEntries` and `TablesTooLarge` tell which limit is passed, in this order; `OutOfMemory` may
 /// always come. What the form of a pair asks of its parts is in the table too.
@@ -33,6 +35,7 @@ pub fn shapes_of(alloc: Global, p: &Phrase, d: &Derivation) -> Result<ShapeTable
     requires shallow { nesting (plain_derivation d.now) ≤ most_nesting }
     requires accepted { refusal (conclusion_of (reads p.now) (plain_derivation d.now)) ≡ None }
     ensures shaping { IsShaping result (reads p.now) (plain_derivation d.now) }
+    ensures ordered { IfOk result AreInOrder }
     ensures closed { IfOk result (λ table. IsClosed (reads p.now) (HasPairOf table)) }
 {
     let mut sizes = Vec::new(alloc);

@@ -57,8 +57,8 @@ returns-clause-shaping c =
     words-exact p (length f.used.keys) _ c.requires.nodes
     (ap (λ n. n * (4 + c.from.result)) c.shape_count.ensures ∙ ap (λ n. length f.used.keys * (4 + n)) (c.from.ensures ∙ c.thunks_of.ensures)) in
     let few : length f.pairs.keys ≤ 65536 = omega (arith, c.pair_count.ensures, c.if-pair_count-gt-MOST_PAIRS.false) in (
-      table-made p d f t w few c.in_ok-table.ensures.shapes c.in_ok-table.ensures.pairs,
-      limits-kept p d f (c.shape_count.result * (4 + c.from.result)) t w few words c.if-words-gt-MOST_WORDS.false c.in_ok-table.ensures.shapes c.in_ok-table.ensures.pairs,
+      table-made p d f t w few c.in_ok-table.ensures,
+      limits-kept p d f (c.shape_count.result * (4 + c.from.result)) t w few words c.if-words-gt-MOST_WORDS.false c.in_ok-table.ensures,
     )
 
 pub returns-clause-closed : goal.returns-clause-closed
@@ -70,5 +70,8 @@ returns-clause-closed c =
     let w = whole p d c.new-found.result f c.new-found.ensures c.in_ok-walk.ensures.stays.sound
     (c.in_ok-walk.ensures.walked [] a.0 (subst (λ bs. AreFit c.new-found.result.numbers bs []) (sym (bounds-empty _ refl)) (AreFit-none c.new-found.result.numbers)) a.1).1 in
     closed-table p (shape_table p d) c.in_ok-table.table
-    (table-made p d f c.in_ok-table.table w (omega (arith, c.pair_count.ensures, c.if-pair_count-gt-MOST_PAIRS.false)) c.in_ok-table.ensures.shapes c.in_ok-table.ensures.pairs)
+    (table-made p d f c.in_ok-table.table w (omega (arith, c.pair_count.ensures, c.if-pair_count-gt-MOST_PAIRS.false)) c.in_ok-table.ensures)
     (tables-closed p d c.requires.accepted)
+
+pub returns-clause-ordered : goal.returns-clause-ordered
+returns-clause-ordered c = c.in_ok-table.ensures.ordered
