@@ -31,7 +31,7 @@ fn a_literal_is_asked_for_a_value_and_the_whole_is_run(rt: HostRuntime) -> Resul
     assert_eq!(rt; table.shapes.len(), 2);
     assert_eq!(rt;
         table.pairs.as_slice(),
-        [Pair { node: 1, shape: 0 }, Pair { node: 0, shape: 1 }].as_slice()
+        [Pair { node: 0, shape: 1 }, Pair { node: 1, shape: 0 }].as_slice()
     );
     Ok(())
 }
