@@ -10,6 +10,7 @@ use Rattle.pe_code.specs.declared.code.PeCode.{PeCode}
 use Rattle.pe_right.specs.Constants.{constant}
 use Rattle.pe_right.specs.Direct.{HandsNoConstant}
 use Rattle.pe_right.specs.Right.{IsCodeOf}
+use Rattle.pe_shapes.specs.Order.{AreInOrder}
 use Rattle.pe_gen.specs.Layout.{IsLaidOut}
 use Rattle.rv_select.specs.Images.{IsSelectionImage}
 
@@ -22,6 +23,6 @@ pub record IsSelectedBy (p : Tree) (table : ShapeTable) (image : Image) : Type 0
   pub selection : IsSelectionImage code image
   pub short : length image.code ≤ 60 * length table.pairs + 4096
 
--- so it is for a table of the pairs of the derivation
+-- so it is for the table of the pairs of the derivation, in order
 abbrev pub IsSelectedFrom : Tree → PlainDerivation → Image → Type 0
-IsSelectedFrom p d image = (table : ShapeTable) × HasJustPairs table (shape_table p d) × IsSelectedBy p table image
+IsSelectedFrom p d image = (table : ShapeTable) × HasJustPairs table (shape_table p d) × AreInOrder table × IsSelectedBy p table image

@@ -12,7 +12,7 @@ image_of-requires-clause-table c = record {
 }
 
 pub returns-clause-selected : goal.returns-clause-selected
-returns-clause-selected c = (c.in_ok-table.table, c.in_ok-table.ensures.shaping.0, c.in_ok-image.ensures.selected)
+returns-clause-selected c = (c.in_ok-table.table, c.in_ok-table.ensures.shaping.0, c.in_ok-table.ensures.ordered, c.in_ok-image.ensures.selected)
 
 pub returns-in_err-table-clause-exact : goal.returns-in_err-table-clause-exact
 returns-in_err-table-clause-exact c =
