@@ -14,6 +14,7 @@ use Rattle.fy_derive.specs.declared.derivation.Derivation.{Derivation}
 use Rattle.fy_expand.specs.Judged.{IsJudged}
 use Rattle.fy_phrase.specs.Reads.{reads}
 use Rattle.fy_phrase.specs.Tree.{Tree}
+use Rattle.pe_shapes.specs.Order.{AreInOrder}
 use Rattle.pe_shapes.specs.Shaping.{KeepsLimits as KeepsShapeLimits}
 use Rattle.fy_read.specs.FieldNames.{NumbersFields}
 use Rattle.fy_read.specs.Refusals.{KeepsThroughout}
@@ -45,8 +46,8 @@ pub given_in_use : (core : Core) (written : Bytes) (after : List Bytes) (program
 given_in_use core written after program short read same accepted tabled = λ text name is.
     let d = plain_derivation program.derivation in
     let spelled = spells text written core after d short is read.0 read.1 read.2 in
-    let P : Tree → Type 0 = λ p. IsJudged text (Ok p) × (refusal (conclusion_of p d) ≡ None) × HasJustPairs program.table (shape_table p d) × KeepsShapeLimits p program.table in
-    let moved = subst P (sym same) (is.is_judged, accepted, tabled.0, tabled.1) in
+    let P : Tree → Type 0 = λ p. IsJudged text (Ok p) × (refusal (conclusion_of p d) ≡ None) × HasJustPairs program.table (shape_table p d) × KeepsShapeLimits p program.table × AreInOrder program.table in
+    let moved = subst P (sym same) (is.is_judged, accepted, tabled.0, tabled.1, tabled.2) in
     record {
       is_judged = moved.0;
       given = handed name written moved.0 spelled;
@@ -54,6 +55,7 @@ given_in_use core written after program short read same accepted tabled = λ tex
       limits = read.1;
       table_is = moved.2;
       table_limits = moved.3;
+      table_ordered = moved.4;
     }
 
 -- judging stops at a node

@@ -51,15 +51,17 @@ given_found text written program is = record {
   limits = is.limits;
   table_is = is.table_is;
   table_limits = is.table_limits;
+  table_ordered = is.table_ordered;
 }
 
 -- and a program of which images are built
 pub buildable : (text : Bytes) (named written : Option Bytes) (program : Program) → IsGivenFor text named written program → IsBuildable program
-buildable text named written program is = record { names = first_names; text = text; is_judged = is.is_judged; derived = is.derived; limits = is.limits; table_is = is.table_is; table_limits = is.table_limits }
+buildable text named written program is = record { names = first_names; text = text; is_judged = is.is_judged; derived = is.derived; limits = is.limits; table_is = is.table_is; table_limits = is.table_limits; table_ordered = is.table_ordered }
 
 pub by_image : (program : Program) (stack : ℕ) (image : Image) → IsBuildable program → IsImageFor program stack image → IsImageBy (reads program.phrase) (plain_derivation program.derivation) stack image
 by_image program stack image is of = record {
   in_use = record { accepted = is.derived; within = is.limits; table = program.table; just = is.table_is; limits = is.table_limits };
+  ordered = is.table_ordered;
   stack_is = of.stack_is;
   table_is = of.table_is;
   selected = of.selected;

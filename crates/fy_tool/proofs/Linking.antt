@@ -15,6 +15,7 @@ use Rattle.fy_derive.specs.declared.derivation.Derivation.{Derivation}
 use Rattle.fy_expand.specs.Judged.{IsJudgedFrom}
 use Rattle.fy_phrase.specs.Reads.{reads}
 use Rattle.fy_phrase.specs.declared.phrase.Phrase.{Phrase}
+use Rattle.pe_shapes.specs.Order.{AreInOrder}
 use Rattle.pe_shapes.specs.Shaping.{KeepsLimits as KeepsShapeLimits}
 use Rattle.fy_link.specs.declared.linking.Linked.{Linked}
 use Rattle.fy_world.specs.World.{Counts}
@@ -123,9 +124,9 @@ pub program_linked : (together : Together) (program : Program) → IsSomeLinked 
 program_linked together program some phrase by tabled =
     let is = some.2 in
     let P : Phrase → Derivation → Type 0 = λ p d. IsJudgedFrom some.0 together.linked.text (Ok (reads p)) × (refusal (conclusion_of (reads p) (plain_derivation d)) ≡ None) × KeepsLimits (plain_derivation d)
-    × HasJustPairs program.table (shape_table (reads p) (plain_derivation d)) × KeepsShapeLimits (reads p) program.table in
-    let moved = subst (λ p. P p program.derivation) (sym phrase) (subst (λ d. P together.linked.phrase d) (sym by) (is.phrase, is.accepted, is.few, tabled.0, tabled.1)) in
-    (phrase, by, record { names = some.0; text = together.linked.text; is_judged = moved.0; derived = moved.1; limits = moved.2; table_is = moved.3; table_limits = moved.4 })
+    × HasJustPairs program.table (shape_table (reads p) (plain_derivation d)) × KeepsShapeLimits (reads p) program.table × AreInOrder program.table in
+    let moved = subst (λ p. P p program.derivation) (sym phrase) (subst (λ d. P together.linked.phrase d) (sym by) (is.phrase, is.accepted, is.few, tabled.0, tabled.1, tabled.2)) in
+    (phrase, by, record { names = some.0; text = together.linked.text; is_judged = moved.0; derived = moved.1; limits = moved.2; table_is = moved.3; table_limits = moved.4; table_ordered = moved.5 })
 
 pub passes_shapes : {list : Bytes} {units : List Listed} (together : Together) (why : Refusal) → IsLinkedBy list units together.linked → ShapesLinked together (Err why) → PassesShapes list units why
 passes_shapes together why is passed = record { linked = together.linked; is = is; error = passed.0; shaping = passed.1; told = passed.2 }

@@ -60,4 +60,4 @@ serves_traced file steps text program b c d k k1 k2 result is a (inl unbegun) = 
 serves_traced file steps text program b c d k k1 k2 result is a (inr t) =
     let r = t.run in
     done (trace file steps) (only text) b c d k k1 k2 result _ r.input a r.fed (λ runs. absurd runs)
-    (traces file steps text (reads program.phrase) program.names (plain_derivation program.derivation) t.code r.n r.end refl is.is_program is.named (in_use is) is.full t.right r.is_run) r.did (λ ready. absurd ready)
+    (traces file steps text (reads program.phrase) program.names (plain_derivation program.derivation) t.code r.n r.end refl is.is_program is.named (in_use is) is.table_ordered is.full t.right r.is_run) r.did (λ ready. absurd ready)

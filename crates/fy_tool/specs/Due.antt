@@ -27,6 +27,7 @@ use Rattle.fy_elf.specs.declared.error.ElfError.{ElfError}
 use Rattle.rv_guard.specs.Guarded.{IsGuarded, IsUnguardedAt}
 use Rattle.rv_insn.specs.Program.{Program}
 use Rattle.rv_machine.specs.Start.{IsProgramOf}
+use Rattle.pe_shapes.specs.Order.{AreInOrder}
 use Rattle.pe_gen.specs.Layout.{IsLaidOut}
 use Rattle.fy_build.specs.Building.{HasTableWords}
 use Rattle.fy_build.specs.Selected.{IsSelectedBy}
@@ -221,10 +222,11 @@ RunsImage (orders.link file to stack) = ⊥
 
 -- ---- images
 
--- the image of a phrase with so many stack words, by a derivation in use: its table has a row for each shape of the derivation, it is selected from the code that `trace` runs, with at most 60 words
+-- the image of a phrase with so many stack words, by a derivation in use, whose shapes are numbered in order: its table has a row for each shape of the derivation, it is selected from the code that `trace` runs, with at most 60 words
 -- for each entry and 4,096 beside, `audit` passes it, and it runs as the copy rule
 pub record IsImageBy (phrase : Tree) (by : PlainDerivation) (stack : ℕ) (image : Image) : Type 0 where
   pub in_use : IsInUse phrase by
+  pub ordered : AreInOrder in_use.table
   pub stack_is : image.stack_words ≡ stack
   pub table_is : HasTableWords phrase by (length image.table)
   pub selected : IsSelectedBy phrase in_use.table image
@@ -312,9 +314,9 @@ pub data IsDue (sources : Sources) (input : Bytes) : Option Order → Due → Ty
   copies : (file : Bytes) (steps : Option ℕ) (text : Bytes) (p : Tree) (d : PlainDerivation) (n : ℕ) (end : CopyEnd) → sources.file ≡ Some text → IsProgramText text p → IsInUse p d → HasAllPairs [] p d
       → IsCopyRun (record { phrase = p; input = input; limit = copy_wanted steps }) n end
       → IsDue sources input (Some (orders.copy file steps)) (copied (record { phrase = p; input = input; limit = copy_wanted steps }) n end)
-  -- `trace` runs the phrase's code by that derivation, with constants handed as data, on a machine with so many words of stack, and tells each step
+  -- `trace` runs the phrase's code by that derivation, whose shapes are numbered in order, with constants handed as data, on a machine with so many words of stack, and tells each step
   traces : (file : Bytes) (steps : Option ℕ) (text : Bytes) (p : Tree) (names : List Bytes) (d : PlainDerivation) (code : PeCode) (n : ℕ) (end : StepEnd) → sources.file ≡ Some text
-      → IsProgramText text p → HasNames text names → (used : IsInUse p d) → HasAllPairs [] p d → IsRightCode p used.table code → IsSteppedRun (stepping_of code names input (trace_steps_wanted steps)) n end
+      → IsProgramText text p → HasNames text names → (used : IsInUse p d) → AreInOrder used.table → HasAllPairs [] p d → IsRightCode p used.table code → IsSteppedRun (stepping_of code names input (trace_steps_wanted steps)) n end
       → IsDue sources input (Some (orders.trace file steps)) (stepped (stepping_of code names input (trace_steps_wanted steps)) n end)
   -- `audit` of a guarded image
   audits : (name bytes : Bytes) (image : Image) → sources.file ≡ Some bytes → IsImageBytes image bytes → IsGuarded image → IsDue sources input (Some (orders.audit name)) audited

@@ -24,6 +24,7 @@ use Rattle.fy_derive.specs.declared.derivation.Derivation.{Derivation}
 use Rattle.fy_read.specs.FieldNames.{NumbersFields}
 use Rattle.fy_read.specs.Refusals.{IsReadFault, KeepsThroughout}
 use Rattle.fy_read.specs.declared.error.ReadError.{ReadError}
+use Rattle.pe_shapes.specs.Order.{AreInOrder}
 use Rattle.pe_shapes.specs.Shaping.{KeepsLimits as KeepsShapeLimits, IsShaping}
 use Rattle.pe_shapes.specs.declared.error.ShapeError.{ShapeError}
 use Rattle.pe_code.specs.declared.code.PeCode.{PeCode}
@@ -96,6 +97,7 @@ pub record IsOfText (text : Bytes) (program : Program) : Type 0 where
   pub full : HasAllPairs [] (reads program.phrase) (plain_derivation program.derivation)
   pub table_is : HasJustPairs program.table (shape_table (reads program.phrase) (plain_derivation program.derivation))
   pub table_limits : KeepsShapeLimits (reads program.phrase) program.table
+  pub table_ordered : AreInOrder program.table
 
 -- the phrase of a text with a derivation in use: the one that is named, or else one that the text has
 pub record IsGivenFor (text : Bytes) (named written : Option Bytes) (program : Program) : Type 0 where
@@ -105,6 +107,7 @@ pub record IsGivenFor (text : Bytes) (named written : Option Bytes) (program : P
   pub limits : KeepsLimits (plain_derivation program.derivation)
   pub table_is : HasJustPairs program.table (shape_table (reads program.phrase) (plain_derivation program.derivation))
   pub table_limits : KeepsShapeLimits (reads program.phrase) program.table
+  pub table_ordered : AreInOrder program.table
 
 -- the program of some text
 abbrev pub IsOfSomeText : Program → Type 0
@@ -119,6 +122,7 @@ pub record IsBuildable (program : Program) : Type 0 where
   pub limits : KeepsLimits (plain_derivation program.derivation)
   pub table_is : HasJustPairs program.table (shape_table (reads program.phrase) (plain_derivation program.derivation))
   pub table_limits : KeepsShapeLimits (reads program.phrase) program.table
+  pub table_ordered : AreInOrder program.table
 
 abbrev pub IsDown : Bytes → Option Bytes → Option Bytes → TurnedDown → Type 0
 IsDown text named written down = IsTurnedDown text named written down.status down.note
@@ -160,10 +164,10 @@ ReadFrom names after written read =
     MatchResult read (λ d. NumbersFields names after (plain_derivation d) written × KeepsLimits (plain_derivation d) × KeepsThroughout written)
     (λ why. (error : ReadError) × IsReadFault written error × (read_note error ≡ Some why))
 
--- the table of a derivation's demand shapes, or which limit they pass
+-- the table of a derivation's demand shapes, in order, or which limit they pass
 abbrev pub Tables : Tree → PlainDerivation → Result ShapeTable Refusal → Type 0
 Tables p d found =
-    MatchResult found (λ table. HasJustPairs table (shape_table p d) × KeepsShapeLimits p table)
+    MatchResult found (λ table. HasJustPairs table (shape_table p d) × KeepsShapeLimits p table × AreInOrder table)
     (λ why. (error : ShapeError) × IsShaping (Err error) p d × (shapes_refusal error ≡ Some why))
 
 -- the core phrase of whatever text it is by the derivation that is written, under whatever name

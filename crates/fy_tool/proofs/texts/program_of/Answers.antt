@@ -39,6 +39,7 @@ returns-in-Ok-shapes_of-clause-checked c =
       full = c.in-Ok-find.ensures.pairs;
       table_is = c.in-Ok-shapes_of.ensures.shaping.0;
       table_limits = c.in-Ok-shapes_of.ensures.shaping.1;
+      table_ordered = c.in-Ok-shapes_of.ensures.ordered;
     }
 
 pub returns-in-Err-shapes_of-clause-checked : goal.returns-in-Err-shapes_of-clause-checked
