@@ -25,7 +25,6 @@ const MOST_WORDS: u64 = 1_048_576;
 
 /// Which shapes each node of the phrase is asked for: the pairs of a node and the shape of a path of
 /// a type that some node of the derivation concludes for it. Nodes are counted in preorder, from 0.
-/// The shapes stand in their order, and the pairs by node and then by shape.
 /// The derivation is one that [`check`](fy_derive::check) accepts. `TooManyShapes`,
 /// `TooManyEntries` and `TablesTooLarge` tell which limit is passed, in this order; `OutOfMemory` may
 /// always come. What the form of a pair asks of its parts is in the table too.
