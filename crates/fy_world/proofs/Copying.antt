@@ -19,13 +19,15 @@ use Rattle.fy_copy.proofs.Reached.{outputs_grow, below_next, small_next, part_lo
 use Rattle.fy_derive.specs.Safety.{IsNeverStuck}
 use Rattle.fy_world.specs.World.{Contents}
 use Rattle.fy_world.specs.Note.{texts, ended_lines}
-use Rattle.fy_world.specs.Runs.{Copying, of_phrase, CopyEnd, ending_of_copy, IsCopyRun, copy_status, copy_notes, copied}
+use Rattle.fy_world.specs.Runs.{Copying, of_phrase, CopyEnd, ending_of_copy, IsCopyRun, copy_status, copy_note, copy_notes, copied}
 use Rattle.fy_world.specs.Runs as copy_ends
 use Rattle.fy_world.specs.Did.{IsLeftBy, StopsAtRead, StopsAtPut}
 use Rattle.fy_world.specs.Working.{HasCopied}
+use Rattle.fy_world.specs.declared.note.Note.TheVariants as note
 use Rattle.fy_world.specs.declared.world.Stop.{Stop}
 use Rattle.fy_world.specs.declared.world.Stop.TheVariants.{Keep, Input, Output, Notes, Memory}
 use Rattle.fy_world.proofs.Contents.{appended-nil, nothing, all_gained}
+use Rattle.fy_world.proofs.Lines.{some_counted}
 use Rattle.fy_world.proofs.Parts.{but_notes, tell_all}
 use Rattle.fy_world.proofs.Stopping.{none_told}
 
@@ -136,6 +138,8 @@ part_done p limit n input h c stop safe le below held told taken output rest no_
         unkept = λ keep. absurd (no_keep keep);
         unread = unread;
         unput = λ output. inl (unput output);
+        untold = λ _. some_counted (copy_note w.end) (note.Copied w.m (peak_load p input w.m));
+        due_kept = λ keep. absurd (no_keep keep);
       };
     }
 
@@ -288,5 +292,7 @@ copied_untold p limit h c d done stop safe is no_input no_output le r rest other
         unkept = λ keep. absurd (let clash : Notes ≡ Keep = sym stop_is ∙ keep in cc);
         unread = λ input. absurd (let clash : Notes ≡ Input = sym stop_is ∙ input in cc);
         unput = λ output. absurd (let clash : Notes ≡ Output = sym stop_is ∙ output in cc);
+        untold = λ _. some_counted (copy_note e.own.by) (note.Copied done.steps (peak_load p r.fed done.steps));
+        due_kept = λ keep. absurd (let clash : Notes ≡ Keep = sym stop_is ∙ keep in cc);
       };
     }

@@ -1,11 +1,11 @@
--- What the counts of faults tell, step by step.
-use Rattle.std.proofs.Common.{◌≡◌, ℕ, zero, suc, ◌≤◌, ◌<◌, List, [], ◌∷◌, sym, ap, ◌∙◌, subst, arith}
+-- What the counts of faults and of calls tell, step by step.
+use Rattle.std.proofs.Common.{◌≡◌, ◌≢◌, ℕ, zero, suc, ◌+◌, ◌≤◌, ◌<◌, List, [], ◌∷◌, sym, ap, ◌∙◌, subst, inl, inr, arith}
 use Rattle.std.specs.Prelude.{Any}
 use Rattle.std.specs.declared.result.Result.{Result}
 use Rattle.std.specs.declared.result.Result.TheVariants.{Ok, Err}
-use Rattle.fy_base.specs.Outside.{Bytes, Rose}
+use Rattle.fy_base.specs.Outside.{Bytes, Rose, FileCalls, once_fetched, once_kept}
 use Rattle.fy_world.specs.World.{Counts, Later}
-use Rattle.fy_world.specs.Counted.{Caused, OthersStand, Faulted, Counted}
+use Rattle.fy_world.specs.Counted.{Caused, OthersStand, Faulted, Counted, IsReadStop, HasCalled}
 use Rattle.fy_world.specs.declared.world.Stop.{Stop}
 use Rattle.fy_world.specs.declared.world.Stop.TheVariants.{Fetch, Keep, Input, Output, Notes, Memory}
 
@@ -147,3 +147,56 @@ others_later Input k k1 k2 last o = let s = still k k1 k2 last in s ∙ ap (λ (
 others_later Output k k1 k2 last o = let s = still k k1 k2 last in s ∙ ap (λ (c : Counts). but_notes k c) o ∙ (λ i. record k { output = (sym s i).output })
 others_later Notes k k1 k2 last o = still k k1 k2 last ∙ ap (λ (c : Counts). but_notes k c) o
 others_later Memory k k1 k2 last o = still k k1 k2 last ∙ ap (λ (c : Counts). but_notes k c) o
+
+-- ---- what only reads files
+
+pub read_stop_only : (stop other : Stop) → IsReadStop stop → Fetch ≢ other → Memory ≢ other → stop ≢ other
+read_stop_only stop other (inl fetch) a b = λ is. a (sym fetch ∙ is)
+read_stop_only stop other (inr memory) a b = λ is. b (sym memory ∙ is)
+
+-- ---- how often files were fetched and kept
+
+pub called_none : (before now : FileCalls) → now ≡ before → HasCalled 0 0 before now
+called_none before now same =
+    let fetches : now.fetches ≡ before.fetches = ap (λ (c : FileCalls). c.fetches) same in
+    let keeps : now.keeps ≡ before.keeps = ap (λ (c : FileCalls). c.keeps) same in
+    record { fetched = omega arith; kept = omega arith }
+
+pub called_fetch : (before now : FileCalls) → now ≡ once_fetched before → HasCalled 1 0 before now
+called_fetch before now once =
+    let fetches : now.fetches ≡ (once_fetched before).fetches = ap (λ (c : FileCalls). c.fetches) once in
+    let keeps : now.keeps ≡ before.keeps = ap (λ (c : FileCalls). c.keeps) once in
+    record { fetched = omega arith; kept = omega arith }
+
+pub called_keep : (before now : FileCalls) → now ≡ once_kept before → HasCalled 0 1 before now
+called_keep before now once =
+    let fetches : now.fetches ≡ before.fetches = ap (λ (c : FileCalls). c.fetches) once in
+    let keeps : now.keeps ≡ (once_kept before).keeps = ap (λ (c : FileCalls). c.keeps) once in
+    record { fetched = omega arith; kept = omega arith }
+
+-- no more often than that is no more often than more
+pub called_more : (fetches keeps fetches' keeps' : ℕ) (before now : FileCalls) → fetches ≤ fetches' → keeps ≤ keeps' → HasCalled fetches keeps before now → HasCalled fetches' keeps' before now
+called_more fetches keeps fetches' keeps' before now f k h =
+    let x = h.fetched in
+    let y = h.kept in
+    record { fetched = omega arith; kept = omega arith }
+
+-- work after work
+pub called_both : (fetches keeps fetches' keeps' : ℕ) (first mid last : FileCalls) → HasCalled fetches keeps first mid → HasCalled fetches' keeps' mid last → HasCalled (fetches + fetches') (keeps + keeps') first last
+called_both fetches keeps fetches' keeps' first mid last h next =
+    let a = h.fetched in
+    let b = h.kept in
+    let c = next.fetched in
+    let d = next.kept in
+    record { fetched = omega arith; kept = omega arith }
+
+-- work that calls neither, however often they may be called
+pub called_same : (fetches keeps : ℕ) (before now : FileCalls) → now ≡ before → HasCalled fetches keeps before now
+called_same fetches keeps before now same = called_more 0 0 fetches keeps before now (omega arith) (omega arith) (called_none before now same)
+
+-- and such work before others, or behind them
+pub called_first : (fetches keeps : ℕ) (first mid last : FileCalls) → mid ≡ first → HasCalled fetches keeps mid last → HasCalled fetches keeps first last
+called_first fetches keeps first mid last same h = subst (λ (c : FileCalls). HasCalled fetches keeps c last) same h
+
+pub called_behind : (fetches keeps : ℕ) (first mid last : FileCalls) → HasCalled fetches keeps first mid → last ≡ mid → HasCalled fetches keeps first last
+called_behind fetches keeps first mid last h same = subst (λ (c : FileCalls). HasCalled fetches keeps first c) (sym same) h

@@ -19,12 +19,14 @@ use Rattle.rv_machine.specs.declared.run.MachineRun.{MachineRun}
 use Rattle.rv_machine.proofs.Runs.{run_none, run_more}
 use Rattle.fy_world.specs.World.{Contents}
 use Rattle.fy_world.specs.Note.{texts, ended_lines}
-use Rattle.fy_world.specs.Runs.{Running, of_machine, IsRun, run_status, end_notes, traced, ran}
+use Rattle.fy_world.specs.Runs.{Running, of_machine, IsRun, run_status, run_note, end_notes, traced, ran}
 use Rattle.fy_world.specs.Did.{IsLeftBy, StopsAtRead, StopsAtPut, WholeLines}
 use Rattle.fy_world.specs.Working.{ToldPart, HasRun}
+use Rattle.fy_world.specs.declared.note.Note.TheVariants as note
 use Rattle.fy_world.specs.declared.world.Stop.{Stop}
 use Rattle.fy_world.specs.declared.world.Stop.TheVariants.{Keep, Input, Output, Notes, Memory}
 use Rattle.fy_world.proofs.Contents.{nothing, all_gained}
+use Rattle.fy_world.proofs.Lines.{some_behind, some_counted}
 use Rattle.fy_world.proofs.Parts.{but_notes, tell_all}
 use Rattle.fy_world.proofs.Stopping.{StoppedBy, not_keep, not_memory, by_input, by_output, none_told}
 use Rattle.fy_world.proofs.WholeRuns.{whole_run, whole_stays}
@@ -104,6 +106,10 @@ pub telling_only : (stop other : Stop) → (stop ≡ Notes) ⊎ (stop ≡ Memory
 telling_only stop other (inl notes) a b = λ is. a (sym notes ∙ is)
 telling_only stop other (inr memory) a b = λ is. b (sym memory ∙ is)
 
+-- what a run counted is due at notes
+pub ran_tells : (running : Running) (trace : Option ℕ) (kept : Option (Bytes × Bytes)) (n : ℕ) (end : RunEnd) → (ran running trace kept n end).notes ≢ []
+ran_tells running trace kept n end = some_behind (traced trace running n) (texts (end_notes end n)) (some_counted (run_note end) (note.Instructions n))
+
 -- a run that a fault of the outside ended: a part of what is due was done
 pub run_faulted : (program : Program) (core : Core) (limit : ℕ) (trace : Option ℕ) (h c : Contents) (stop : Stop) (done : MachineRun) (after : Core) → StoppedBy stop done.end
     → done.steps ≤ limit → Ran program core limit done after h c → c ≡ record h { input = c.input; output = c.output } → HasRun program core limit trace None h c (Err stop)
@@ -130,6 +136,8 @@ run_faulted program core limit trace h c stop done after by le r rest =
         unkept = λ keep. absurd (not_keep stop done.end by keep);
         unread = λ input. unread_by program core limit done after h c le r rest (by_input stop done.end by input);
         unput = λ output. inl (unput_by program core limit done after h c le r rest (by_output stop done.end by output));
+        untold = λ _. ran_tells running trace None whole.n whole.end;
+        due_kept = λ keep. absurd (not_keep stop done.end by keep);
       };
     }
 
@@ -232,6 +240,8 @@ run_told_part program core limit trace h c d done after lines stop machine no_in
         unkept = λ keep. absurd (telling_only stop Keep telling (λ clash. cc) (λ clash. cc) keep);
         unread = λ input. absurd (telling_only stop Input telling (λ clash. cc) (λ clash. cc) input);
         unput = λ output. absurd (telling_only stop Output telling (λ clash. cc) (λ clash. cc) output);
+        untold = λ _. ran_tells running trace None done.steps e.own.by;
+        due_kept = λ keep. absurd (telling_only stop Keep telling (λ clash. cc) (λ clash. cc) keep);
       };
     }
 

@@ -77,6 +77,8 @@ not_kept IsSuch name bytes h c stop spelled rest keep unknown =
         unkept = λ _. rest;
         unread = λ input. absurd (no_input input);
         unput = λ output. absurd (let clash : Keep ≡ Output = sym keep ∙ output in cc);
+        untold = λ notes. absurd (let clash : Keep ≡ Notes = sym keep ∙ notes in cc);
+        due_kept = λ _ none. cc;
       };
     }
 
@@ -129,6 +131,8 @@ kept_none image program limit name h c stop of was keep =
             unkept = p.unkept;
             unread = λ input. absurd (let clash : Keep ≡ Input = sym keep ∙ input in cc);
             unput = λ output. absurd (let clash : Keep ≡ Output = sym keep ∙ output in cc);
+            untold = λ notes. absurd (let clash : Keep ≡ Notes = sym keep ∙ notes in cc);
+            due_kept = λ _ none. cc;
           };
         };
       };
@@ -154,6 +158,8 @@ did_kept running name bytes n end h c d (Err stop) ready kept p =
       unkept = λ keep. p.unkept keep ∙ ap (λ (x : Contents). record x { files = d.files }) kept;
       unread = λ input. unread_behind (of_machine running) (ran running None None n end) due h c d (kept_before running name bytes n end h c kept) (p.unread input);
       unput = λ output. unput_behind (of_machine running) (ran running None None n end) due h c d (kept_before running name bytes n end h c kept) (p.unput output);
+      untold = p.untold;
+      due_kept = λ _ none. cc;
     }
 
 -- the image was kept, and then it ran

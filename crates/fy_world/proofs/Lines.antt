@@ -1,7 +1,8 @@
 -- Lines of notes, put one after another.
-use Rattle.std.proofs.Common.{◌≡◌, ℕ, suc, ◌+◌, ◌<◌, List, [], ◌∷◌, ◌++◌, sym, ap, ◌∙◌, refl, take, drop, length, get_or, add-one, append_assoc, take-suc, drop-cons}
+use Rattle.std.proofs.Common.{◌≡◌, ◌≢◌, ℕ, suc, ◌+◌, ◌<◌, List, [], ◌∷◌, ◌++◌, sym, ap, ◌∙◌, refl, take, drop, length, get_or, add-one, append_assoc, take-suc, drop-cons, arith, Some, None}
 use Rattle.std.proofs.lemmas.List.{take-append-drop}
 use Rattle.std.specs.Prelude.{OnErr}
+use Rattle.std.specs.Option.{option_to_list}
 use Rattle.std.specs.declared.option.Option.{Option}
 use Rattle.std.specs.declared.result.Result.{Result}
 use Rattle.std.specs.declared.result.Result.TheVariants.{Ok, Err}
@@ -62,3 +63,42 @@ pub part_line_err : {T E : Type 0} (result : Result T E) (b c : Contents) (now :
     → c ≡ record b { notes = appended b.notes (lines (take i xs)) } → GainedPart c.notes now bytes → OnErr result (GainedPart b.notes now (lines xs))
 part_line_err (Ok r) b c now xs i x bytes lt is e h k = tt
 part_line_err (Err r) b c now xs i x bytes lt is e h k = part_line b c now xs i x bytes lt is e h k
+
+-- ---- some lines
+
+-- a line has its end at least
+pub ended_some : (line rest : Bytes) → line ++ 10 ∷ rest ≢ []
+ended_some [] rest = λ none. cc
+ended_some (b ∷ line) rest = λ none. cc
+
+-- some before or behind others are some
+pub some_before : {T : Type 0} (xs ys : List T) → xs ≢ [] → xs ++ ys ≢ []
+some_before [] ys some = λ none. some refl
+some_before (x ∷ xs) ys some = λ none. cc
+
+pub some_behind : {T : Type 0} (xs ys : List T) → ys ≢ [] → xs ++ ys ≢ []
+some_behind [] ys some = some
+some_behind (x ∷ xs) ys some = λ none. cc
+
+pub some_texts : (notes : List Note) → notes ≢ [] → texts notes ≢ []
+some_texts [] some = λ none. some refl
+some_texts (note ∷ notes) some = λ none. cc
+
+-- how a run ended is told by what it counted, at least
+pub some_counted : (found : Option Note) (count : Note) → texts (option_to_list found ++ count ∷ []) ≢ []
+some_counted None count = λ none. cc
+some_counted (Some note) count = λ none. cc
+
+-- a list that has a place has some
+some_at : {T : Type 0} (xs : List T) (i : ℕ) → i < length xs → xs ≢ []
+some_at [] i lt = absurd (omega arith)
+some_at (x ∷ xs) i lt = λ none. cc
+
+pub some_at_err : {A T E : Type 0} (result : Result T E) (xs : List A) (i : ℕ) → i < length xs → OnErr result (xs ≢ [])
+some_at_err (Ok r) xs i lt = tt
+some_at_err (Err r) xs i lt = some_at xs i lt
+
+-- a list without length has none
+pub none_long : {T : Type 0} (xs : List T) → length xs ≡ 0 → xs ≡ []
+none_long [] is = refl
+none_long (x ∷ xs) is = absurd (omega arith)

@@ -17,8 +17,9 @@ use Rattle.fy_world.specs.Shown.{word_text, insn_at, shown, placed_from, listing
 use Rattle.fy_world.specs.Did.{Did}
 use Rattle.fy_world.specs.Working.{listed}
 use Rattle.fy_world.specs.declared.world.Stop.{Stop}
-use Rattle.fy_world.specs.declared.world.Stop.TheVariants.{Keep, Input, Output, Memory}
+use Rattle.fy_world.specs.declared.world.Stop.TheVariants.{Keep, Input, Output, Notes, Memory}
 use Rattle.fy_world.proofs.Contents.{appended-appended, appended-nil, nothing}
+use Rattle.fy_world.proofs.Lines.{ended_some}
 use Rattle.fy_world.proofs.Tracing.{insn_by}
 
 -- the lines of the words from number k on
@@ -68,9 +69,17 @@ listed_all program k b c status le none_is t =
       t.put ∙ (λ i. record { files = b.files; input = b.input; output = appended b.output (all i); notes = sym (appended-nil b.notes) i }),
     )
 
+-- the listing of some words is some
+some_listed : (program : Program) (k : ℕ) → k < length program.words → ended_lines (listing program) ≢ []
+some_listed program k lt = of program.words lt
+  where
+    of : (words : List ℕ) → k < length words → ended_lines (map (shown program) (placed_from 0 words)) ≢ []
+    of [] lt = absurd (omega arith)
+    of (word ∷ words) lt = ended_some (shown program (record { pc = code_start + 4 * 0; word = word })) _
+
 -- a part of the listing was put, and nothing else was done
-part_listed : (program : Program) (b d : Contents) (stop : Stop) → d ≡ record b { output = d.output } → stop ≢ Input → stop ≢ Keep → GainedPart b.output d.output (ended_lines (listing program)) → Did (listed program) b d (Err stop)
-part_listed program b d stop rest no_input no_keep part = record {
+part_listed : (program : Program) (b d : Contents) (stop : Stop) → d ≡ record b { output = d.output } → stop ≢ Input → stop ≢ Keep → stop ≢ Notes → (stop ≡ Output → ended_lines (listing program) ≢ []) → GainedPart b.output d.output (ended_lines (listing program)) → Did (listed program) b d (Err stop)
+part_listed program b d stop rest no_input no_keep no_notes some part = record {
   files = ap (λ (x : Contents). x.files) rest;
   input = ap (λ (x : Contents). x.input) rest;
   output = part;
@@ -79,13 +88,16 @@ part_listed program b d stop rest no_input no_keep part = record {
   whole = λ _. record { count = 0; gained = ap (λ (x : Contents). x.notes) rest ∙ sym (appended-nil b.notes) };
   unkept = λ keep. absurd (no_keep keep);
   unread = λ input. absurd (no_input input);
-  unput = λ output. rest ∙ ap (λ n. record b { output = d.output; notes = n }) (sym (appended-nil b.notes));
+  unput = λ output. record { some = some output; alone = rest ∙ ap (λ n. record b { output = d.output; notes = n }) (sym (appended-nil b.notes)) };
+  untold = λ notes. absurd (no_notes notes);
+  due_kept = λ keep. absurd (no_keep keep);
 }
 
 pub listed_short : (program : Program) (k : ℕ) (b c : Contents) (stop : Stop) → stop ≡ Memory → ListedTo program k b c → Did (listed program) b c (Err stop)
 listed_short program k b c stop memory t =
     let gained = ap (λ (x : Contents). x.output) t.put in
     part_listed program b c stop (t.put ∙ ap (λ o. record b { output = o }) (sym gained)) (λ input. let clash : Memory ≡ Input = sym memory ∙ input in cc) (λ keep. let clash : Memory ≡ Keep = sym memory ∙ keep in cc)
+    (λ notes. let clash : Memory ≡ Notes = sym memory ∙ notes in cc) (λ output. absurd (let clash : Memory ≡ Output = sym memory ∙ output in cc))
     (record { part = t.so_far; gained = gained; begins = record { rest = ended_lines (lines_from program k); is = sym t.whole } })
 
 pub listed_part : (image : Image) (program : Program) (k word : ℕ) (insn : Option Insn) (line : Bytes) (b c d : Contents) (stop : Stop) → IsProgramOf image program → k < length program.words → word ≡ get_or program.words k word → IsReadingOf word insn
@@ -95,6 +107,7 @@ listed_part image program k word insn line b c d stop of lt is reading line_of t
     let more = ended_lines (lines_from program (k + 1)) in
     let gained = ap (λ (x : Contents). x.output) t.put in
     part_listed program b d stop (rest ∙ ap (λ (x : Contents). record x { output = d.output }) t.put) (λ input. let clash : Output ≡ Input = sym stop_is ∙ input in cc) (λ keep. let clash : Output ≡ Keep = sym stop_is ∙ keep in cc)
+    (λ notes. let clash : Output ≡ Notes = sym stop_is ∙ notes in cc) (λ _. some_listed program k lt)
     (record {
       part = t.so_far ++ part.part;
       gained = part.gained ∙ ap (λ o. appended o part.part) gained ∙ appended-appended b.output t.so_far part.part;

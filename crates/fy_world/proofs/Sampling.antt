@@ -27,7 +27,7 @@ use Rattle.fy_world.specs.Working.{WasKept, Keeps, HasRun, HasSampled, HasKeptAn
 use Rattle.fy_world.specs.declared.world.Stop.{Stop}
 use Rattle.fy_world.specs.declared.world.Stop.TheVariants.{Keep, Input, Output, Notes, Memory}
 use Rattle.fy_world.proofs.Contents.{appended-appended, appended-nil, nothing, all_gained, gained_both}
-use Rattle.fy_world.proofs.Executing.{Ran, done_but, running_by}
+use Rattle.fy_world.proofs.Executing.{Ran, done_but, ran_tells, running_by}
 use Rattle.fy_world.proofs.Keeping.{kept_none}
 use Rattle.fy_world.proofs.WholeRuns.{whole_stays}
 use Rattle.fy_world.proofs.Stopping.{KeptBefore, unread_behind, unput_behind, unput_more, none_told}
@@ -77,6 +77,8 @@ sampled_stopped program core limit kept h c stop r =
         unread = p.unread;
         unput = λ output.
             unput_more (of_machine (running_by program core limit r.input)) due (sampled due) h c (record { more = summary due.status (length due.output); output = refl; kept = refl; rest = refl }) (p.unput output);
+        untold = p.untold;
+        due_kept = p.due_kept;
       };
     }
 
@@ -159,6 +161,8 @@ sampled_done program core limit h c d done after (Err stop) machine no_input no_
           output = gained_both h.output c.output d.output due.output s.output.part (ap (λ (x : Contents). x.output) e.all) s.output.gained ∙ ap (λ b. appended h.output (b ++ s.output.part)) (sym puts);
           notes = none_told h.notes d.notes (quiet_on_output c.notes d.notes stop s.in_order output ∙ ap (λ (x : Contents). x.notes) rest);
         });
+        untold = λ _. ran_tells running None None done.steps e.own.by;
+        due_kept = λ keep. absurd (summing_only c.notes d.notes stop Keep s.in_order (λ clash. cc) (λ clash. cc) keep);
       };
     }
 
@@ -219,6 +223,8 @@ did_kept running name bytes n end h c d (Err stop) ready kept p =
       unkept = λ keep. p.unkept keep ∙ ap (λ (x : Contents). record x { files = d.files }) kept;
       unread = λ input. unread_behind (of_machine running) (sampled (ran running None None n end)) due h c d (kept_before running name bytes n end h c kept) (p.unread input);
       unput = λ output. unput_behind (of_machine running) (sampled (ran running None None n end)) due h c d (kept_before running name bytes n end h c kept) (p.unput output);
+      untold = p.untold;
+      due_kept = λ _ none. cc;
     }
 
 kept_and_sampled : (image : Image) (program : Program) (core : Core) (limit : ℕ) (name : Bytes) (h c d : Contents) (status : ℕ) (result : Result ℕ Stop) → IsProgramOf image program → core ≡ start_of image → WasKept (IsSpelled Two image) name h c (Ok status)

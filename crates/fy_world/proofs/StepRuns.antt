@@ -1,5 +1,5 @@
 -- From the steps of push-enter code to what is due for its run.
-use Rattle.std.proofs.Common.{◌≡◌, ℕ, zero, suc, ◌+◌, ◌-◌, ◌^◌, ◌<◌, ◌≤◌, Bool, false, List, [], ◌∷◌, ◌++◌, length, take, sym, ap, ◌∙◌, refl, arith, subst, inl, inr, append_assoc, Some, None}
+use Rattle.std.proofs.Common.{◌≡◌, ◌≢◌, ℕ, zero, suc, ◌+◌, ◌-◌, ◌^◌, ◌<◌, ◌≤◌, Bool, false, List, [], ◌∷◌, ◌++◌, length, take, sym, ap, ◌∙◌, refl, arith, subst, inl, inr, append_assoc, Some, None}
 use Rattle.std.proofs.lemmas.List.{append-nil}
 use Rattle.std.proofs.Math.Seq.{take-append_seam}
 use Rattle.std.proofs.lemmas.Bool.{cases_lt}
@@ -18,7 +18,7 @@ use Rattle.pe_machine.specs.Seen.{Seen, address_of}
 use Rattle.pe_machine.specs.Ends.{IsGoingBelow, IsWithin, EndsSo, PutsAt}
 use Rattle.fy_world.specs.World.{Contents}
 use Rattle.fy_world.specs.Note.{texts, ended_lines}
-use Rattle.fy_world.specs.Steps.{Stepping, StepEnd, ending_of_steps, step_status, step_note, IsSteppedRun, step_text, step_lines, step_words}
+use Rattle.fy_world.specs.Steps.{Stepping, StepEnd, ending_of_steps, step_status, step_note, IsSteppedRun, line_after, step_text, step_lines, step_words}
 use Rattle.fy_world.specs.Steps as step_ends
 use Rattle.fy_world.specs.Runs.{stepped, of_code}
 use Rattle.fy_world.specs.Did.{WholeLines, GainedSinceRead}
@@ -29,9 +29,9 @@ use Rattle.fy_world.specs.declared.world.Stop.{Stop}
 use Rattle.fy_world.specs.declared.world.Stop.TheVariants.{Keep, Input, Output, Notes, Memory}
 use Rattle.fy_world.proofs.Contents.{appended-appended, appended-nil, all_gained, gained_both}
 use Rattle.fy_world.proofs.Keeping.{none_gained}
-use Rattle.fy_world.proofs.Lines.{ended-append}
+use Rattle.fy_world.proofs.Lines.{ended-append, some_before, some_behind, some_texts}
 use Rattle.fy_world.proofs.Tracing.{told_part_more}
-use Rattle.fy_world.proofs.Stepwise.{Reached, RunsOn, lines_with, lines_at, reached_start, reached_next, runs_end, runs_out, stops_in, begins_in, asks_in, puts_in, untaken_in, outputs_grow, lines_grow, part_longer, below_next, inside_next}
+use Rattle.fy_world.proofs.Stepwise.{Reached, RunsOn, lines_with, lines_at, reached_start, reached_next, runs_end, runs_out, stops_in, begins_in, asks_in, puts_in, untaken_in, outputs_grow, lines_grow, lines_next, part_longer, below_next, inside_next}
 
 -- ---- the steps so far
 
@@ -238,6 +238,16 @@ due_part stepping n m end before now stop le told =
     let P : List Bytes → Type 0 = λ ls. ToldPart ls before now stop in
     subst P (sym same) (told_part_more first (more.0 ++ last) before now stop told)
 
+-- a run of some steps has lines due
+due_some : (stepping : Stepping) (n m : ℕ) (end : StepEnd) → n + 1 ≤ m → (stepped stepping m end).notes ≢ []
+due_some stepping n m end le =
+    let code = stepping.code in
+    let names = stepping.names in
+    let input = stepping.input in
+    let more = lines_grow code names input (n + 1) m le in
+    let first : step_lines code names input (n + 1) ≢ [] = subst (λ (ls : List Bytes). ls ≢ []) (sym (lines_next code names input n)) (some_behind (step_lines code names input n) (line_after code names input n ∷ []) (λ none. cc)) in
+    some_before (step_lines code names input m) (texts (option_to_list (step_note end))) (subst (λ (ls : List Bytes). ls ≢ []) (sym more.1) (some_before (step_lines code names input (n + 1)) more.0 first))
+
 -- all that was put before the step that was stopped, and so before each that reads
 since_read : (code : PeCode) (names : List Bytes) (limit : ℕ) (b c : Contents) (stop : Stop) (h : HasStopped code names limit b c stop) → PutsAt code h.input (h.n + 1)
     → GainedSinceRead (of_code (stepping_by code names limit h.input)) (h.n + 1) b.output c.output
@@ -305,6 +315,8 @@ stepped_part code names limit b c stop safe h =
               h.first (λ notes. let clash : Output ≡ Notes = sym output ∙ notes in cc) (λ memory. let clash : Output ≡ Memory = sym output ∙ memory in cc)
               ∙ ap (λ t. appended b.notes t) (sym (append-nil _));
         });
+        untold = λ _. due_some stepping h.n w.m w.end w.more;
+        due_kept = λ keep. absurd (h.other keep);
       };
     }
 
@@ -347,8 +359,8 @@ stepped_told code names limit b c d end found status safe h told found_is status
 
 -- the run ended, and a part of that was told
 pub stepped_untold : (code : PeCode) (names : List Bytes) (limit : ℕ) (b c d : Contents) (end : Ending) (found : Option Note) (stop : Stop) → IsNeverLost code → HasEnded code names limit b c end → d ≡ record c { notes = d.notes }
-    → GainedPart c.notes d.notes (ended_lines (texts (option_to_list found))) → ((by : StepEnd) → end ≡ ending_of_steps by → found ≡ step_note by) → stop ≡ Notes → HasStepped code names limit b d (Err stop)
-stepped_untold code names limit b c d end found stop safe h others told found_is stop_is =
+    → GainedPart c.notes d.notes (ended_lines (texts (option_to_list found))) → ((by : StepEnd) → end ≡ ending_of_steps by → found ≡ step_note by) → option_to_list found ≢ [] → stop ≡ Notes → HasStepped code names limit b d (Err stop)
+stepped_untold code names limit b c d end found stop safe h others told found_is some stop_is =
     let own = own_end end code h.input h.n limit safe h.kind h.ends in
     let part = subst (λ n. GainedPart c.notes d.notes (ended_lines (texts (option_to_list n)))) (found_is own.by own.is) told in
     let stepping = stepping_by code names limit h.input in
@@ -380,5 +392,7 @@ stepped_untold code names limit b c d end found stop safe h others told found_is
         unkept = λ keep. absurd (let clash : Notes ≡ Keep = sym stop_is ∙ keep in cc);
         unread = λ input. absurd (let clash : Notes ≡ Input = sym stop_is ∙ input in cc);
         unput = λ output. absurd (let clash : Notes ≡ Output = sym stop_is ∙ output in cc);
+        untold = λ _. some_behind lines last (subst (λ (n : Option Note). texts (option_to_list n) ≢ []) (found_is own.by own.is) (some_texts (option_to_list found) some));
+        due_kept = λ keep. absurd (let clash : Notes ≡ Keep = sym stop_is ∙ keep in cc);
       };
     }

@@ -178,6 +178,6 @@ quiet_told b c d last e told is =
     λ i. record { files = files i; input = input i; output = d.output; notes = notes i }
 
 pub unput_told : (running : Option Runs) (due : Due) (b c d : Contents) (last : Bytes) → d ≡ record c { notes = d.notes } → Gained c.notes d.notes last → IsUnput running due b c [] → IsUnput running due b d last
-unput_told None due b c d last e told s = quiet_told b c d last e told s
+unput_told None due b c d last e told s = record { some = s.some; alone = quiet_told b c d last e told s.alone }
 unput_told (Some running) due b c d last e told (inl s) = inl (put_told running due.kept b c d last e told s)
 unput_told (Some running) due b c d last e told (inr s) = inr (end_told running due b c d last e told s)

@@ -1,7 +1,7 @@
--- What the counts of faults tell of a piece of work.
-use Rattle.std.specs.Prelude.{◌≡◌, List, Any, MatchResult}
+-- What the counts of faults and of calls tell of a piece of work.
+use Rattle.std.specs.Prelude.{◌≡◌, ◌⊎◌, ℕ, ◌+◌, ◌≤◌, List, Any, MatchResult}
 use Rattle.std.specs.declared.result.Result.{Result}
-use Rattle.fy_base.specs.Outside.{Bytes, Rose}
+use Rattle.fy_base.specs.Outside.{Bytes, Rose, FileCalls}
 use Rattle.fy_world.specs.World.{Counts, Later}
 use Rattle.fy_world.specs.declared.world.Stop.{Stop}
 use Rattle.fy_world.specs.declared.world.Stop.TheVariants.{Fetch, Keep, Input, Output, Notes, Memory}
@@ -33,3 +33,12 @@ pub record Faulted (reads keeps : List Bytes) (stop : Stop) (before now : Counts
 -- work was done, and all counts are as before, or it was stopped
 abbrev pub Counted : {T : Type 0} → List Bytes → List Bytes → Counts → Counts → Result T Stop → Type 0
 Counted reads keeps before now result = MatchResult result (λ _. now ≡ before) (λ stop. Faulted reads keeps stop before now)
+
+-- what stops work that only reads files: a file that wasn't fetched, or want of memory
+abbrev pub IsReadStop : Stop → Type 0
+IsReadStop stop = (stop ≡ Fetch) ⊎ (stop ≡ Memory)
+
+-- `fetch` and `keep` were called at most so often
+pub record HasCalled (fetches keeps : ℕ) (before now : FileCalls) : Type 0 where
+  pub fetched : now.fetches ≤ before.fetches + fetches
+  pub kept : now.keeps ≤ before.keeps + keeps

@@ -18,7 +18,7 @@ use Rattle.fy_world.specs.Note.{ended_lines}
 use Rattle.fy_world.specs.Runs.{Due, Runs, of_machine, of_phrase, of_code}
 use Rattle.fy_world.specs.Steps.{step_words, step_lines}
 use Rattle.fy_world.specs.declared.world.Stop.{Stop}
-use Rattle.fy_world.specs.declared.world.Stop.TheVariants.{Keep, Input, Output, Memory}
+use Rattle.fy_world.specs.declared.world.Stop.TheVariants.{Keep, Input, Output, Notes, Memory}
 
 -- ---- all that is due
 
@@ -140,9 +140,14 @@ pub record StopsBehind (running : Runs) (due : Due) (before now : Contents) (las
   pub output : Gained before.output now.output (output_after running (limit_of running) ++ part)
   pub notes : Gained before.notes now.notes last
 
--- where the output failed, a run was stopped so; and what runs nothing did nothing else
+-- what runs nothing had some output due, and did nothing else
+pub record StopsUnrun (due : Due) (before now : Contents) (last : Bytes) : Type 0 where
+  pub some : due.output ≢ []
+  pub alone : now ≡ record before { output = now.output; notes = appended before.notes last }
+
+-- where the output failed, a run was stopped so, or nothing ran and some output was due
 abbrev pub IsUnput : Option Runs → Due → Contents → Contents → Bytes → Type 0
-IsUnput None due before now last = now ≡ record before { output = now.output; notes = appended before.notes last }
+IsUnput None due before now last = StopsUnrun due before now last
 IsUnput (Some running) due before now last = StopsAtPut running due.kept before now last ⊎ StopsBehind running due before now last
 
 -- whole lines of the due notes
@@ -150,7 +155,7 @@ pub record WholeLines (notes : List Bytes) (before now : Option Bytes) : Type 0 
   pub count : ℕ
   pub gained : Gained before now (ended_lines (take count notes))
 
--- where memory was wanting, the files are as before, and the lines of notes are whole; where a file wasn't kept, nothing else was done; where the input or the output failed, a run was stopped where it reads, or puts
+-- where memory was wanting, the files are as before, and the lines of notes are whole; where a file wasn't kept, nothing else was done; where the input or the output failed, a run was stopped where it reads, or puts; notes and files failed only where some were due
 pub record Part (due : Due) (before now : Contents) (stop : Stop) : Type 0 where
   pub files : FilesPart due.kept stop before.files now.files
   pub input : InputPart due.running before.input now.input
@@ -161,6 +166,8 @@ pub record Part (due : Due) (before now : Contents) (stop : Stop) : Type 0 where
   pub unkept : stop ≡ Keep → now ≡ record before { files = now.files }
   pub unread : stop ≡ Input → IsUnread due.running due.kept before now []
   pub unput : stop ≡ Output → IsUnput due.running due before now []
+  pub untold : stop ≡ Notes → due.notes ≢ []
+  pub due_kept : stop ≡ Keep → due.kept ≢ None
 
 -- ---- a command's work
 

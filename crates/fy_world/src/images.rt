@@ -5,7 +5,7 @@ ghost use Rattle.fy_image.specs.Ranges.{IsImage};
 ghost use Rattle.rv_insn.specs.Program.{Program};
 ghost use Rattle.rv_insn.specs.declared.events.Status.TheVariants.{Running};
 ghost use Rattle.rv_machine.specs.Start.{IsProgramOf, start_of};
-ghost use Rattle.fy_world.specs.Counted.{Counted};
+ghost use Rattle.fy_world.specs.Counted.{Counted, HasCalled};
 ghost use Rattle.fy_world.specs.Did.{Did, IsOwn};
 ghost use Rattle.fy_world.specs.Working.{Executes, Keeps, KeepsAndRuns, KeepsAndSamples, KeepsElf, KeepsSuch, listed};
 
@@ -50,6 +50,7 @@ pub fn execute<W: World>(
     ensures counted { Counted [] [] (W.counts world.old) (W.counts world.new) result }
     ensures ready { trace ≡ None → result ≡ Err Stop.Memory → W.holds world.new ≡ W.holds world.old }
     ensures same { W.names world.new ≡ W.names world.old }
+    ensures called { W.calls world.new ≡ W.calls world.old }
 {
     let mut machine = match load(alloc, image) {
         Ok(machine) => machine,
@@ -72,6 +73,7 @@ pub fn keep_bytes<W: World>(
     ensures own { IfOk result IsOwn }
     ensures counted { Counted [] (name.now ∷ []) (W.counts world.old) (W.counts world.new) result }
     ensures same { W.names world.new ≡ W.names world.old }
+    ensures called { HasCalled 0 1 (W.calls world.old) (W.calls world.new) }
 {
     match world.keep(alloc, name, bytes) {
         Ok(()) => Ok(0),
@@ -91,6 +93,7 @@ pub fn keep_image<W: World>(
     ensures own { IfOk result IsOwn }
     ensures counted { Counted [] (name.now ∷ []) (W.counts world.old) (W.counts world.new) result }
     ensures same { W.names world.new ≡ W.names world.old }
+    ensures called { HasCalled 0 1 (W.calls world.old) (W.calls world.new) }
 {
     match write_image(alloc, image) {
         Ok(bytes) => keep_bytes(alloc, bytes.as_slice(), name, world),
@@ -110,6 +113,7 @@ pub fn keep_elf<W: World>(
     ensures own { IfOk result IsOwn }
     ensures counted { Counted [] (name.now ∷ []) (W.counts world.old) (W.counts world.new) result }
     ensures same { W.names world.new ≡ W.names world.old }
+    ensures called { HasCalled 0 1 (W.calls world.old) (W.calls world.new) }
 {
     match write_elf(alloc, image) {
         Ok(bytes) => keep_bytes(alloc, bytes.as_slice(), name, world),
@@ -130,6 +134,7 @@ pub fn keep_and_run<W: World>(
     ensures own { IfOk result IsOwn }
     ensures counted { Counted [] (name.now ∷ []) (W.counts world.old) (W.counts world.new) result }
     ensures same { W.names world.new ≡ W.names world.old }
+    ensures called { HasCalled 0 1 (W.calls world.old) (W.calls world.new) }
 {
     let mut machine = match load(alloc, image) {
         Ok(machine) => machine,
@@ -155,6 +160,7 @@ pub fn keep_and_sample<W: World>(
     ensures own { IfOk result IsOwn }
     ensures counted { Counted [] (name.now ∷ []) (W.counts world.old) (W.counts world.new) result }
     ensures same { W.names world.new ≡ W.names world.old }
+    ensures called { HasCalled 0 1 (W.calls world.old) (W.calls world.new) }
 {
     let mut machine = match load(alloc, image) {
         Ok(machine) => machine,
@@ -173,6 +179,7 @@ pub fn list_image<W: World>(alloc: Global, image: &Image, world: &mut W) -> Resu
     ensures own { IfOk result IsOwn }
     ensures counted { Counted [] [] (W.counts world.old) (W.counts world.new) result }
     ensures same { W.names world.new ≡ W.names world.old }
+    ensures called { W.calls world.new ≡ W.calls world.old }
 {
     let mut pc = CODE_START;
     for word in image.code.as_slice() {

@@ -72,6 +72,7 @@ fn tell_counted<W: World>(note: Option<Note>, count: Note, world: &mut W) -> Res
     ensures stop { IfErr result (λ stop. stop ≡ Stop.Notes) }
     ensures counted { Counted [] [] (W.counts world.old) (W.counts world.new) result }
     ensures same { W.names world.new ≡ W.names world.old }
+    ensures called { W.calls world.new ≡ W.calls world.old }
 {
     match note {
         None => tell(&[count], world),
@@ -87,6 +88,7 @@ fn tell_end<W: World>(run: MachineRun, world: &mut W) -> Result<(), Stop>
     ensures stop { IfErr result (λ stop. stop ≡ Stop.Notes) }
     ensures counted { Counted [] [] (W.counts world.old) (W.counts world.new) result }
     ensures same { W.names world.new ≡ W.names world.old }
+    ensures called { W.calls world.new ≡ W.calls world.old }
 {
     tell_counted(note_of(run.end), Note::Instructions(run.steps), world)
 }
@@ -98,6 +100,7 @@ fn tell_trace<W: World>(alloc: Global, mut trace: Trace, world: &mut W) -> Resul
     ensures counted { Counted [] [] (W.counts world.old) (W.counts world.new) result }
     ensures stop { IfErr result (λ stop. (stop ≡ Stop.Notes) ⊎ (stop ≡ Stop.Memory)) }
     ensures same { W.names world.new ≡ W.names world.old }
+    ensures called { W.calls world.new ≡ W.calls world.old }
 {
     while let Some(fetched) = trace.pop() {
         let line = match line_of(alloc, fetched) {
@@ -119,6 +122,7 @@ pub fn run_machine<W: World>(machine: &mut Machine, steps: u64, world: &mut W) -
     ensures counted { Counted [] [] (W.counts world.old) (W.counts world.new) result }
     ensures memory { result ≢ Err Stop.Memory }
     ensures same { W.names world.new ≡ W.names world.old }
+    ensures called { W.calls world.new ≡ W.calls world.old }
 {
     let run = world.run(machine, &mut Unwatched, steps);
     match run.end {
@@ -139,6 +143,7 @@ fn put_summary<W: World>(status: u8, bytes: u64, world: &mut W) -> Result<(), St
     ensures stop { IfErr result (λ stop. stop ≡ Stop.Output) }
     ensures counted { Counted [] [] (W.counts world.old) (W.counts world.new) result }
     ensures same { W.names world.new ≡ W.names world.old }
+    ensures called { W.calls world.new ≡ W.calls world.old }
 {
     let text = summary(status, bytes);
     world.put(text.as_str().as_bytes())
@@ -151,6 +156,7 @@ fn sum_up<W: World>(run: MachineRun, world: &mut W) -> Result<u8, Stop>
     ensures counted { Counted [] [] (W.counts world.old) (W.counts world.new) result }
     ensures memory { result ≢ Err Stop.Memory }
     ensures same { W.names world.new ≡ W.names world.old }
+    ensures called { W.calls world.new ≡ W.calls world.old }
 {
     let status = status_of(run.end);
     match put_summary(status, run.bytes, world) {
@@ -175,6 +181,7 @@ pub(crate) fn run_sampled<W: World>(
     ensures counted { Counted [] [] (W.counts world.old) (W.counts world.new) result }
     ensures memory { result ≢ Err Stop.Memory }
     ensures same { W.names world.new ≡ W.names world.old }
+    ensures called { W.calls world.new ≡ W.calls world.old }
 {
     let run = world.run(machine, &mut Unwatched, steps);
     match run.end {
@@ -197,6 +204,7 @@ fn tell_traced<W: World>(
     ensures counted { Counted [] [] (W.counts world.old) (W.counts world.new) result }
     ensures stop { IfErr result (λ stop. (stop ≡ Stop.Notes) ⊎ (stop ≡ Stop.Memory)) }
     ensures same { W.names world.new ≡ W.names world.old }
+    ensures called { W.calls world.new ≡ W.calls world.old }
 {
     match tell_trace(alloc, trace, world) {
         Ok(()) => tell_end(run, world),
@@ -220,6 +228,7 @@ pub fn run_traced<W: World>(
     ensures own { IfOk result IsOwn }
     ensures counted { Counted [] [] (W.counts world.old) (W.counts world.new) result }
     ensures same { W.names world.new ≡ W.names world.old }
+    ensures called { W.calls world.new ≡ W.calls world.old }
 {
     let mut trace = match Trace::new(alloc, count) {
         Ok(trace) => trace,
@@ -246,6 +255,7 @@ fn tell_copy<W: World>(run: CopyRun, world: &mut W) -> Result<(), Stop>
     ensures stop { IfErr result (λ stop. stop ≡ Stop.Notes) }
     ensures counted { Counted [] [] (W.counts world.old) (W.counts world.new) result }
     ensures same { W.names world.new ≡ W.names world.old }
+    ensures called { W.calls world.new ≡ W.calls world.old }
 {
     let count = Note::Copied {
         steps: run.steps,
@@ -268,6 +278,7 @@ pub fn run_copied<W: World>(
     ensures own { IfOk result IsOwn }
     ensures counted { Counted [] [] (W.counts world.old) (W.counts world.new) result }
     ensures same { W.names world.new ≡ W.names world.old }
+    ensures called { W.calls world.new ≡ W.calls world.old }
 {
     let run = match world.copy(alloc, p, steps) {
         Ok(run) => run,

@@ -80,6 +80,7 @@ fn tell_step<W: World>(
     ensures unput { IfErr result (λ stop. stop ≢ Stop.Output) }
     ensures counted { Counted [] [] (W.counts world.old) (W.counts world.new) result }
     ensures same { W.names world.new ≡ W.names world.old }
+    ensures called { W.calls world.new ≡ W.calls world.old }
 {
     match step_line(alloc, code, names, address) {
         Ok(line) => world.note(line.as_slice()),
@@ -103,6 +104,7 @@ fn end_told<W: World>(
     ensures unput { IfErr result (λ stop. stop ≢ Stop.Output) }
     ensures counted { Counted [] [] (W.counts world.old) (W.counts world.new) result }
     ensures same { W.names world.new ≡ W.names world.old }
+    ensures called { W.calls world.new ≡ W.calls world.old }
 {
     match tell_step(alloc, code, names, address, world) {
         Ok(()) => Ok(end),
@@ -123,6 +125,7 @@ fn put_datum<W: World>(
     ensures stop { IfErr result (λ stop. stop ≢ Stop.Input) }
     ensures counted { Counted [] [] (W.counts world.old) (W.counts world.new) result }
     ensures same { W.names world.new ≡ W.names world.old }
+    ensures called { W.calls world.new ≡ W.calls world.old }
 {
     match put_text(alloc, kind, value) {
         Ok(Some(text)) => world.put(text.as_slice()),
@@ -148,6 +151,7 @@ fn put_told<W: World>(
     ensures stop { IfErr result (λ stop. stop ≢ Stop.Input) }
     ensures counted { Counted [] [] (W.counts world.old) (W.counts world.new) result }
     ensures same { W.names world.new ≡ W.names world.old }
+    ensures called { W.calls world.new ≡ W.calls world.old }
 {
     match tell_step(alloc, code, names, address, world) {
         Err(stop) => Err(stop),
@@ -175,6 +179,7 @@ fn take_told<W: World>(
     ensures unput { IfErr result (λ stop. stop ≢ Stop.Output) }
     ensures counted { Counted [] [] (W.counts world.old) (W.counts world.new) result }
     ensures same { W.names world.new ≡ W.names world.old }
+    ensures called { W.calls world.new ≡ W.calls world.old }
 {
     match tell_step(alloc, code, names, address, world) {
         Err(stop) => Err(stop),
@@ -200,6 +205,7 @@ fn turn<W: World>(
     ensures end { IfOk result (λ end. IfSome end IsStepEnd) }
     ensures counted { Counted [] [] (W.counts world.old) (W.counts world.new) result }
     ensures same { W.names world.new ≡ W.names world.old }
+    ensures called { W.calls world.new ≡ W.calls world.old }
 {
     let address = state.address();
     match state.step(code) {
@@ -250,6 +256,7 @@ fn make_steps<W: World>(
     ensures stopped { IfErr result (HasStopped code.now names.now steps (W.holds world.old) (W.holds world.new)) }
     ensures counted { Counted [] [] (W.counts world.old) (W.counts world.new) result }
     ensures same { W.names world.new ≡ W.names world.old }
+    ensures called { W.calls world.new ≡ W.calls world.old }
 {
     let mut over = false;
     for k in 0..steps {
@@ -268,8 +275,10 @@ fn tell_status<W: World>(note: Option<Note>, world: &mut W) -> Result<(), Stop>
     ensures rest { W.holds world.new ≡ record (W.holds world.old) { notes = (W.holds world.new).notes } }
     ensures part { OnErr result (GainedPart (W.holds world.old).notes (W.holds world.new).notes (ended_lines (texts (option_to_list note)))) }
     ensures stop { IfErr result (λ stop. stop ≡ Stop.Notes) }
+    ensures untold { OnErr result (option_to_list note ≢ []) }
     ensures counted { Counted [] [] (W.counts world.old) (W.counts world.new) result }
     ensures same { W.names world.new ≡ W.names world.old }
+    ensures called { W.calls world.new ≡ W.calls world.old }
 {
     match note {
         None => tell(&[], world),
@@ -294,6 +303,7 @@ pub fn run_stepped<W: World>(
     ensures own { IfOk result IsOwn }
     ensures counted { Counted [] [] (W.counts world.old) (W.counts world.new) result }
     ensures same { W.names world.new ≡ W.names world.old }
+    ensures called { W.calls world.new ≡ W.calls world.old }
 {
     let mut state = match PeState::load(alloc, code, STACK_WORDS) {
         Ok(state) => state,

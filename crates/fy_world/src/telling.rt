@@ -16,8 +16,10 @@ pub fn tell<W: World>(notes: &[Note], world: &mut W) -> Result<(), Stop>
     ensures rest { W.holds world.new ≡ record (W.holds world.old) { notes = (W.holds world.new).notes } }
     ensures part { OnErr result (GainedPart (W.holds world.old).notes (W.holds world.new).notes (ended_lines (texts notes.now))) }
     ensures stop { IfErr result (λ stop. stop ≡ Stop.Notes) }
+    ensures untold { OnErr result (notes.now ≢ []) }
     ensures counted { Counted [] [] (W.counts world.old) (W.counts world.new) result }
     ensures same { W.names world.new ≡ W.names world.old }
+    ensures called { W.calls world.new ≡ W.calls world.old }
 {
     for note in notes {
         let line = line_of(*note);
@@ -34,6 +36,7 @@ pub fn refuse<W: World>(status: u8, why: Note, world: &mut W) -> Result<u8, Stop
     ensures counted { Counted [] [] (W.counts world.old) (W.counts world.new) result }
     ensures memory { result ≢ Err Stop.Memory }
     ensures same { W.names world.new ≡ W.names world.old }
+    ensures called { W.calls world.new ≡ W.calls world.old }
 {
     match tell(&[why], world) {
         Ok(()) => Ok(status),
@@ -41,14 +44,18 @@ pub fn refuse<W: World>(status: u8, why: Note, world: &mut W) -> Result<u8, Stop
     }
 }
 
-/// Writes bytes to output.
+/// Writes bytes to output; where there are none, the output is left alone.
 pub fn write<W: World>(bytes: &[u8], world: &mut W) -> Result<u8, Stop>
     ensures did { Did (written bytes.now) (W.holds world.old) (W.holds world.new) result }
     ensures own { IfOk result IsOwn }
     ensures counted { Counted [] [] (W.counts world.old) (W.counts world.new) result }
     ensures memory { result ≢ Err Stop.Memory }
     ensures same { W.names world.new ≡ W.names world.old }
+    ensures called { W.calls world.new ≡ W.calls world.old }
 {
+    if bytes.is_empty() {
+        return Ok(0);
+    }
     match world.put(bytes) {
         Ok(()) => Ok(0),
         Err(stop) => Err(stop),

@@ -3,7 +3,7 @@
 ghost use Rattle.std.specs.Prelude.{◌≡◌, ◌≢◌, ◌≤◌, ◌⊎◌, IsTrue, is_none, OnOk, OnErr, IfOk, IfErr, MatchOption, List, [], ◌∷◌, Some, Err, length};
 ghost use Rattle.std.specs.Option.{ForSome, option_to_list};
 ghost use Rattle.std.specs.Borrow.{GName};
-ghost use Rattle.fy_base.specs.Outside.{Drew, GainedPart, IsAtEnd, Tells, IsLong, OthersStay, appended};
+ghost use Rattle.fy_base.specs.Outside.{Drew, GainedPart, IsAtEnd, Tells, IsLong, OthersStay, FileCalls, appended, once_fetched, once_kept};
 ghost use Rattle.fy_copy.specs.Ends.{DoesPart, IsCopyEnd, RunsTo as CopyRunsTo};
 ghost use Rattle.fy_phrase.specs.Reads.{reads};
 ghost use Rattle.fy_phrase.specs.Sizes.{depth};
@@ -11,7 +11,7 @@ ghost use Rattle.rv_machine.specs.Ends.{Watched, IsMachineEnd};
 ghost use Rattle.fy_world.specs.Did.{files_after};
 ghost use Rattle.rv_insn.specs.declared.events.Status.TheVariants.{Running};
 ghost use Rattle.fy_world.specs.World.{Contents, Counts};
-ghost use Rattle.fy_world.specs.Counted.{Counted, Faulted};
+ghost use Rattle.fy_world.specs.Counted.{Counted, Faulted, IsReadStop};
 
 use fy_base::{Ending, FetchError, Files, KeepError, OutOfMemory, Sink, Source, next_byte};
 use fy_copy::{CopyRun, run_copy};
@@ -38,6 +38,9 @@ pub trait World {
 
     ghost counts: { Self → Counts };
 
+    /// How often files were fetched and kept.
+    ghost calls: { Self → FileCalls };
+
     /// Which references a value holds; each call keeps them.
     ghost names: { Self → List GName };
 
@@ -46,9 +49,10 @@ pub trait World {
         ensures holds { holds self.new ≡ holds self.old }
         ensures content { IfOk result (λ content. MatchOption content (IsLong (holds self.old).files name.now limit)
             (λ bytes. Tells (holds self.old).files name.now (Some bytes.items) × (length bytes.items ≤ limit))) }
-        ensures stop { IfErr result (λ stop. stop ≢ Stop.Input) }
+        ensures stop { IfErr result IsReadStop }
         ensures counted { Counted (name.now ∷ []) [] (counts self.old) (counts self.new) result }
-        ensures same { names self.new ≡ names self.old };
+        ensures same { names self.new ≡ names self.old }
+        ensures called { calls self.new ≡ once_fetched (calls self.old) };
 
     /// Makes the named file hold the bytes.
     fn keep(&mut self, alloc: Global, name: &str, bytes: &[u8]) -> Result<(), Stop>
@@ -58,7 +62,8 @@ pub trait World {
         ensures unknown { result ≡ Err Stop.Keep → OthersStay (holds self.old).files (holds self.new).files name.now }
         ensures stop { IfErr result (λ stop. (stop ≡ Stop.Keep) ⊎ (stop ≡ Stop.Memory)) }
         ensures counted { Counted [] (name.now ∷ []) (counts self.old) (counts self.new) result }
-        ensures same { names self.new ≡ names self.old };
+        ensures same { names self.new ≡ names self.old }
+        ensures called { calls self.new ≡ once_kept (calls self.old) };
 
     /// Puts bytes to the notes.
     fn note(&mut self, bytes: &[u8]) -> Result<(), Stop>
@@ -67,7 +72,8 @@ pub trait World {
         ensures part { OnErr result (GainedPart (holds self.old).notes (holds self.new).notes bytes.now) }
         ensures stop { IfErr result (λ stop. stop ≡ Stop.Notes) }
         ensures counted { Counted [] [] (counts self.old) (counts self.new) result }
-        ensures same { names self.new ≡ names self.old };
+        ensures same { names self.new ≡ names self.old }
+        ensures called { calls self.new ≡ calls self.old };
 
     /// Puts bytes to the output.
     fn put(&mut self, bytes: &[u8]) -> Result<(), Stop>
@@ -76,7 +82,8 @@ pub trait World {
         ensures part { OnErr result (GainedPart (holds self.old).output (holds self.new).output bytes.now) }
         ensures stop { IfErr result (λ stop. stop ≡ Stop.Output) }
         ensures counted { Counted [] [] (counts self.old) (counts self.new) result }
-        ensures same { names self.new ≡ names self.old };
+        ensures same { names self.new ≡ names self.old }
+        ensures called { calls self.new ≡ calls self.old };
 
     /// Takes the next byte of the input, or `None` at its end, after which no more is asked for.
     fn take(&mut self, over: &mut bool) -> Result<Option<u8>, Stop>
@@ -87,7 +94,8 @@ pub trait World {
         ensures none { OnErr result (holds self.new ≡ holds self.old) }
         ensures stop { IfErr result (λ stop. stop ≡ Stop.Input) }
         ensures counted { Counted [] [] (counts self.old) (counts self.new) result }
-        ensures same { names self.new ≡ names self.old };
+        ensures same { names self.new ≡ names self.old }
+        ensures called { calls self.new ≡ calls self.old };
 
     /// Runs a machine on the input and the output, and tells the watch of each word that is fetched.
     fn run<V: Watch>(&mut self, machine: &mut Machine, watch: &mut V, steps: u64) -> MachineRun
@@ -102,7 +110,8 @@ pub trait World {
         ensures input_fault { result.end ≡ Ending.InputFault → Faulted [] [] Stop.Input (counts self.old) (counts self.new) }
         ensures output_fault { result.end ≡ Ending.OutputFault → Faulted [] [] Stop.Output (counts self.old) (counts self.new) }
         ensures quiet { result.end ≢ Ending.InputFault → result.end ≢ Ending.OutputFault → counts self.new ≡ counts self.old }
-        ensures same { names self.new ≡ names self.old };
+        ensures same { names self.new ≡ names self.old }
+        ensures called { calls self.new ≡ calls self.old };
 
     /// Runs a phrase by the copy rule on the input and the output.
     fn copy(&mut self, alloc: Global, p: &Phrase, steps: u64) -> Result<CopyRun, Stop>
@@ -120,7 +129,8 @@ pub trait World {
         ensures output_fault { IfOk result (λ done. done.end ≡ Ending.OutputFault → Faulted [] [] Stop.Output (counts self.old) (counts self.new)) }
         ensures quiet { IfOk result (λ done. done.end ≢ Ending.InputFault → done.end ≢ Ending.OutputFault → counts self.new ≡ counts self.old) }
         ensures memory_quiet { OnErr result (counts self.new ≡ counts self.old) }
-        ensures same { names self.new ≡ names self.old };
+        ensures same { names self.new ≡ names self.old }
+        ensures called { calls self.new ≡ calls self.old };
 }
 
 /// The objects of a call.
@@ -136,6 +146,8 @@ impl<F: Files, I: Source, O: Sink, N: Sink> World for Outside<'_, '_, '_, '_, F,
     ghost holds = { λ w. record { files = F.held w.files.now; input = I.left w.input.now; output = O.held w.output.now; notes = N.held w.notes.now } };
 
     ghost counts = { λ w. record { fetches = F.fetch_faults w.files.now; keeps = F.keep_faults w.files.now; input = I.faults w.input.now; output = O.faults w.output.now; notes = N.faults w.notes.now } };
+
+    ghost calls = { λ w. F.calls w.files.now };
 
     ghost names = { λ w. w.files.ghost_name ∷ w.input.ghost_name ∷ w.output.ghost_name ∷ w.notes.ghost_name ∷ [] };
 

@@ -1,3 +1,5 @@
+use Rattle.std.proofs.Common.{refl}
+use Rattle.fy_world.proofs.Counting.{called_same, called_behind}
 use Rattle.fy_world.proofs.Keeping.{ran_kept, ran_unkept}
 use Rattle.fy_world.proofs.images.keep_and_run.Goals as goal
 
@@ -8,3 +10,9 @@ returns-in-Ok-keep_image-clause-runs g c =
 
 pub returns-clause-runs : goal.returns-clause-runs
 returns-clause-runs g c = ran_unkept c.args.image.now c.in-Ok.machine.program c.args.steps c.args.name.now _ _ c.in-Err-keep_image.stop c.in-Ok.ensures.program c.in-Err-keep_image.ensures.keeps
+
+pub returns-in-Ok-keep_image-clause-called : goal.returns-in-Ok-keep_image-clause-called
+returns-in-Ok-keep_image-clause-called g c = called_behind 0 1 _ _ _ c.in-Ok-keep_image.ensures.called c.run_machine.ensures.called
+
+pub returns-in-Err-clause-called : goal.returns-in-Err-clause-called
+returns-in-Err-clause-called g c = called_same 0 1 _ _ refl

@@ -5,7 +5,7 @@ use Rattle.fy_world.proofs.Listing.{listed_first, listed_next, listed_short, lis
 use Rattle.fy_world.proofs.images.list_image.Goals as goal
 
 pub loop-word-init : goal.loop-word-init
-loop-word-init g c = record { at = refl; listed = λ program of. listed_first program _; counts = refl; same = refl }
+loop-word-init g c = record { at = refl; listed = λ program of. listed_first program _; counts = refl; same = refl; calls = refl }
 
 pub returns-in-Err-clause-did : goal.returns-in-Err-clause-did
 returns-in-Err-clause-did g c = λ program of. listed_short program c.loop-word.word-index _ _ Memory refl (c.loop-word.invariant.listed program of)
@@ -31,4 +31,5 @@ loop-word-preserved g c = record {
       (line_at c.loop-word.pc c.loop-word.word-index _ c.in-Ok.ensures.0 c.as_slice.result.now c.loop-word.invariant.at (c.as_slice.ensures.value ∙ c.in-Ok.ensures.2)) (c.loop-word.invariant.listed program of) c.in_default.ensures.put;
   counts = c.in_default.ensures.counted ∙ c.loop-word.invariant.counts;
   same = c.in_default.ensures.same ∙ c.loop-word.invariant.same;
+  calls = c.in_default.ensures.called ∙ c.loop-word.invariant.calls;
 }

@@ -13,4 +13,5 @@ invariant-loop-word g l =
       listed : (program : Program) → IsProgramOf l.image program → ListedTo program l.word-index (holds l.initial.world) (holds l.world);
       counts : g.W.World.counts l.world ≡ g.W.World.counts l.initial.world;
       same : g.W.World.names l.world ≡ g.W.World.names l.initial.world;
+      calls : g.W.World.calls l.world ≡ g.W.World.calls l.initial.world;
     }

@@ -23,6 +23,7 @@ returns-in-Err g c = record {
   counted = faulted_after _ _ _ _ _ _ (c.run-run.ensures.quiet c.in_default.not-InputFault c.in_default.not-OutputFault) c.in-Err.ensures.counted;
   memory = notes_only c.in-Err.stop Memory c.in-Err.ensures.stop (λ e. cc) _ refl;
   same = c.in-Err.ensures.same ∙ c.run-run.ensures.same;
+  called = c.in-Err.ensures.called ∙ c.run-run.ensures.called;
 }
 
 pub returns-in-Ok-clause-run : goal.returns-in-Ok-clause-run

@@ -37,6 +37,7 @@ returns-in-Ok-tell_traced g c =
       own = c.status_of.ensures.own;
       counted = c.in-Ok-tell_traced.ensures.counted ∙ c.run-run.ensures.quiet c.in_default.not-InputFault c.in_default.not-OutputFault;
       same = c.in-Ok-tell_traced.ensures.same ∙ c.run-run.ensures.same;
+      called = c.in-Ok-tell_traced.ensures.called ∙ c.run-run.ensures.called;
     }
 
 pub returns-in-Err-tell_traced : goal.returns-in-Err-tell_traced
@@ -55,4 +56,5 @@ returns-in-Err-tell_traced g c =
       own = tt;
       counted = faulted_after _ _ _ _ _ _ (c.run-run.ensures.quiet c.in_default.not-InputFault c.in_default.not-OutputFault) c.in-Err-tell_traced.ensures.counted;
       same = c.in-Err-tell_traced.ensures.same ∙ c.run-run.ensures.same;
+      called = c.in-Err-tell_traced.ensures.called ∙ c.run-run.ensures.called;
     }

@@ -5,7 +5,7 @@ use Rattle.fy_world.proofs.Tracing.{told_first, told_next, told_short, told_part
 use Rattle.fy_world.proofs.runs.tell_trace.Goals as goal
 
 pub loop-fetched-init : goal.loop-fetched-init
-loop-fetched-init g c = record { told = λ program f. told_first program c.args.trace.words.items _; rest = refl; counts = refl; same = refl }
+loop-fetched-init g c = record { told = λ program f. told_first program c.args.trace.words.items _; rest = refl; counts = refl; same = refl; calls = refl }
 
 pub returns-in-Err-clause-told : goal.returns-in-Err-clause-told
 returns-in-Err-clause-told g c = λ program f. told_short program c.args.trace.words.items c.loop-fetched.trace.words.items _ _ Memory (c.loop-fetched.invariant.told program f)
@@ -23,6 +23,7 @@ loop-fetched-preserved g c = record {
   rest = c.in_default-note.ensures.rest ∙ ap (λ (x : Contents). record x { notes = (g.W.World.holds c.note.new.self).notes }) c.loop-fetched.invariant.rest;
   counts = c.in_default-note.ensures.counted ∙ c.loop-fetched.invariant.counts;
   same = c.in_default-note.ensures.same ∙ c.loop-fetched.invariant.same;
+  calls = c.in_default-note.ensures.called ∙ c.loop-fetched.invariant.calls;
 }
 
 pub returns-clause-told : goal.returns-clause-told

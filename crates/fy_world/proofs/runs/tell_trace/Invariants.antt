@@ -13,6 +13,7 @@ invariant-loop-fetched g l =
       rest : holds l.world ≡ record (holds l.initial.world) { notes = (holds l.world).notes };
       counts : g.W.World.counts l.world ≡ g.W.World.counts l.initial.world;
       same : g.W.World.names l.world ≡ g.W.World.names l.initial.world;
+      calls : g.W.World.calls l.world ≡ g.W.World.calls l.initial.world;
     }
 
 abbrev pub decreases-loop-fetched : goal.decreases-loop-fetched

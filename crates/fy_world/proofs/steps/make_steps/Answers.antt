@@ -4,7 +4,7 @@ use Rattle.fy_world.proofs.StepRuns.{few_steps, told_start, told_next, told_end,
 use Rattle.fy_world.proofs.steps.make_steps.Goals as goal
 
 pub loop-k-init : goal.loop-k-init
-loop-k-init g c = record { told = told_start c.args.code.now c.args.names.now (seen c.args.state.now) (g.W.World.holds c.args.world.now) c.requires.begun; counts = refl; same = refl }
+loop-k-init g c = record { told = told_start c.args.code.now c.args.names.now (seen c.args.state.now) (g.W.World.holds c.args.world.now) c.requires.begun; counts = refl; same = refl; calls = refl }
 
 pub turn-requires-clause-going : goal.turn-requires-clause-going
 turn-requires-clause-going g c = c.loop-k.invariant.told.reached.phase_is
@@ -27,6 +27,7 @@ loop-k-preserved g c = record {
       c.loop-k.invariant.told (rw c.in-Ok-None.field-0-is at c.in-Ok-None.ensures.turned);
   counts = c.in-Ok-None.ensures.counted ∙ c.loop-k.invariant.counts;
   same = c.in-Ok-None.ensures.same ∙ c.loop-k.invariant.same;
+  calls = c.in-Ok-None.ensures.called ∙ c.loop-k.invariant.calls;
 }
 
 pub returns-in-Ok-Some-clause-ended : goal.returns-in-Ok-Some-clause-ended

@@ -11,4 +11,5 @@ invariant-loop-k g l =
       told : Told l.code l.names l.k (seen l.state) (holds l.initial.world) l.over (holds l.world);
       counts : g.W.World.counts l.world ≡ g.W.World.counts l.initial.world;
       same : g.W.World.names l.world ≡ g.W.World.names l.initial.world;
+      calls : g.W.World.calls l.world ≡ g.W.World.calls l.initial.world;
     }

@@ -14,4 +14,4 @@ returns-in-Ok-tell_status-clause-run g c =
 pub returns-clause-run : goal.returns-clause-run
 returns-clause-run g c =
     inr (stepped_untold c.args.code.now c.args.names.now c.args.steps _ (g.W.World.holds c.make_steps.new.world) (g.W.World.holds c.tell_status.new.world) c.in-Ok-make_steps.end c.note_of.result c.in-Err-tell_status.stop c.requires.lost c.in-Ok-make_steps.ensures.ended
-    c.in-Err-tell_status.ensures.rest c.in-Err-tell_status.ensures.part c.note_of.ensures.steps c.in-Err-tell_status.ensures.stop)
+    c.in-Err-tell_status.ensures.rest c.in-Err-tell_status.ensures.part c.note_of.ensures.steps c.in-Err-tell_status.ensures.untold c.in-Err-tell_status.ensures.stop)

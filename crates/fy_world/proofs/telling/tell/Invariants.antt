@@ -10,4 +10,5 @@ invariant-loop-note g l =
       told : holds l.world ≡ record (holds l.initial.world) { notes = appended (holds l.initial.world).notes (ended_lines (texts (take l.note-index l.notes))) };
       counts : g.W.World.counts l.world ≡ g.W.World.counts l.initial.world;
       same : g.W.World.names l.world ≡ g.W.World.names l.initial.world;
+      calls : g.W.World.calls l.world ≡ g.W.World.calls l.initial.world;
     }
