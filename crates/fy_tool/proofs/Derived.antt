@@ -3,7 +3,7 @@ use Rattle.std.proofs.Common.{◌≡◌, ◌∙◌, ℕ, ◌<◌, ◌≤◌, Lis
 use Rattle.std.specs.Prelude.{IfOk, IfErr, Ok, Err}
 use Rattle.std.specs.declared.option.Option.{Option}
 use Rattle.std.specs.declared.result.Result.{Result}
-use Rattle.fy_base.specs.Outside.{Bytes, Folder, Rose, Tells}
+use Rattle.fy_base.specs.Outside.{Bytes, FileCalls, Folder, Rose, Tells, once_fetched}
 use Rattle.fy_derive.specs.Derivations.{PlainDerivation}
 use Rattle.fy_derive.specs.Judging.{conclusion_of, refusal}
 use Rattle.fy_derive.specs.Limits.{KeepsLimits}
@@ -23,13 +23,14 @@ use Rattle.fy_world.specs.World.{Counts}
 use Rattle.fy_world.specs.Counted.{Faulted}
 use Rattle.fy_world.specs.declared.world.Stop.{Stop}
 use Rattle.fy_world.specs.declared.world.Stop.TheVariants.{Fetch, Memory}
-use Rattle.fy_world.proofs.Counting.{counted_behind, faulted_after}
+use Rattle.fy_world.proofs.Counting.{called_both, called_fetch, counted_behind, faulted_after}
 use Rattle.fy_world.specs.declared.note.Note.{Note}
 use Rattle.fy_world.specs.declared.note.Note.TheVariants as note
 use Rattle.fy_world.specs.declared.refusal.Refusal.{Refusal}
 use Rattle.fy_tool.specs.Checked.{IsRefusedFor}
 use Rattle.fy_tool.specs.Given.{Spells, handed, unread, wrong, too_long, by_text, before_typing, by_derivation, by_shapes}
-use Rattle.fy_tool.specs.Working.{IsCore, IsOfText, IsUnjudged, ReadFrom, Tables, ChecksGiven, GivenBy, WasGiven, IsUngiven, no_text, no_derivation}
+use Rattle.fy_tool.specs.Working.{IsCore, IsOfText, IsUnjudged, ReadFrom, Tables, ChecksGiven, GivenBy, WasGiven, WasUngiven}
+use Rattle.fy_tool.specs.Fetched.{just_file, derivation_too, HasFetched}
 use Rattle.fy_tool.specs.declared.given.TurnedDown.{TurnedDown}
 use Rattle.fy_tool.specs.declared.texts.Core.{Core}
 use Rattle.fy_tool.specs.declared.texts.Program.{Program}
@@ -76,38 +77,56 @@ given_unread core written after why short read = λ text name is. by_derivation 
 
 -- ---- files
 
-pub was_given : (file name : Bytes) (files : Option Folder) (text written : Bytes) (core : Core) (found : Result Program TurnedDown) → Tells files file (Some text) → Tells files name (Some written) → IsCore text core → GivenBy core written found
-    → WasGiven file (Some name) files found
-was_given file name files text written core found told told_named is given = record { text = text; told = told; written = Some written; told_named = told_named; is = given text name is }
+-- the file alone was fetched
+pub file_fetched : (file : Bytes) (named text : Option Bytes) (e e1 : FileCalls) → e1 ≡ once_fetched e → HasFetched (Some file) named text [] e e1
+file_fetched file named text e e1 once = record { names = file ∷ []; are = just_file file refl; called = called_fetch e e1 once }
 
-pub all_given : (file name : Bytes) (files : Option Folder) (text written : Bytes) (core : Core) (result : Result (Result Program TurnedDown) Stop) → Tells files file (Some text) → Tells files name (Some written) → IsCore text core
-    → IfOk result (GivenBy core written) → ChecksGiven file (Some name) files result
-all_given file name files text written core (Ok found) told told_named is given = was_given file name files text written core found told told_named is given
-all_given file name files text written core (Err stop) told told_named is given = tt
+-- the derivation too, behind a text with a core phrase
+pub both_fetched : (file name text : Bytes) (p : Tree) (e e1 e2 : FileCalls) → IsJudged text (Ok p) → e1 ≡ once_fetched e → e2 ≡ once_fetched e1 → HasFetched (Some file) (Some name) (Some text) [] e e2
+both_fetched file name text p e e1 e2 judged once again = record {
+  names = file ∷ name ∷ [];
+  are = derivation_too file name text p refl refl refl judged;
+  called = called_both 1 0 1 0 e e1 e2 (called_fetch e e1 once) (called_fetch e1 e2 again);
+}
+
+pub was_given : (file name : Bytes) (files : Option Folder) (e e1 : FileCalls) (text written : Bytes) (core : Core) (found : Result Program TurnedDown) → Tells files file (Some text) → Tells files name (Some written) → IsCore text core
+    → HasFetched (Some file) (Some name) (Some text) [] e e1 → GivenBy core written found → WasGiven file (Some name) files e e1 found
+was_given file name files e e1 text written core found told told_named is fetched given =
+    record { text = text; told = told; written = Some written; told_named = told_named; called = fetched; is = given text name is }
+
+pub all_given : (file name : Bytes) (files : Option Folder) (e e1 : FileCalls) (text written : Bytes) (core : Core) (result : Result (Result Program TurnedDown) Stop) → Tells files file (Some text) → Tells files name (Some written) → IsCore text core
+    → HasFetched (Some file) (Some name) (Some text) [] e e1 → IfOk result (GivenBy core written) → ChecksGiven file (Some name) files e e1 result
+all_given file name files e e1 text written core (Ok found) told told_named is fetched given = was_given file name files e e1 text written core found told told_named is fetched given
+all_given file name files e e1 text written core (Err stop) told told_named is fetched given = tt
 
 -- too many bytes are written
-pub was_long : (file name : Bytes) (files : Option Folder) (text written : Bytes) (core : Core) → Tells files file (Some text) → Tells files name (Some written) → IsCore text core → 16777216 < length written
-    → WasGiven file (Some name) files (Err (record { status = 8; note = note.DerivationLength }))
-was_long file name files text written core told told_named is longer = record {
+pub was_long : (file name : Bytes) (files : Option Folder) (e e1 : FileCalls) (text written : Bytes) (core : Core) → Tells files file (Some text) → Tells files name (Some written) → IsCore text core
+    → HasFetched (Some file) (Some name) (Some text) [] e e1 → 16777216 < length written → WasGiven file (Some name) files e e1 (Err (record { status = 8; note = note.DerivationLength }))
+was_long file name files e e1 text written core told told_named is fetched longer = record {
   text = text;
   told = told;
   written = Some written;
   told_named = told_named;
+  called = fetched;
   is = by_derivation name written (reads core.phrase) note.DerivationLength is.is_judged (too_long longer);
 }
 
 -- the text has no core phrase
-pub was_unjudged : (file name : Bytes) (files : Option Folder) (text : Bytes) (why : Refusal) → Tells files file (Some text) → IsUnjudged text why → WasGiven file (Some name) files (Err (record { status = 2; note = note.Refused why }))
-was_unjudged file name files text why told is =
+pub was_unjudged : (file name : Bytes) (files : Option Folder) (e e1 : FileCalls) (text : Bytes) (why : Refusal) → Tells files file (Some text) → e1 ≡ once_fetched e → IsUnjudged text why
+    → WasGiven file (Some name) files e e1 (Err (record { status = 2; note = note.Refused why }))
+was_unjudged file name files e e1 text why told once is =
     let named = content_of files name in
-    record { text = text; told = told; written = named.0; told_named = named.1; is = before_typing name named.0 is.cause why is.is_judged is.told }
+    record { text = text; told = told; written = named.0; told_named = named.1; called = file_fetched file (Some name) (Some text) e e1 once; is = before_typing name named.0 is.cause why is.is_judged is.told }
 
 -- no derivation is named
-pub was_found : (file : Bytes) (files : Option Folder) (text : Bytes) (program : Program) → Tells files file (Some text) → IsOfText text program → WasGiven file None files (Ok program)
-was_found file files text program told is = record { text = text; told = told; written = None; told_named = tt; is = given_found text None program is }
+pub was_found : (file : Bytes) (files : Option Folder) (e e1 : FileCalls) (text : Bytes) (program : Program) → Tells files file (Some text) → e1 ≡ once_fetched e → IsOfText text program → WasGiven file None files e e1 (Ok program)
+was_found file files e e1 text program told once is =
+    record { text = text; told = told; written = None; told_named = tt; called = file_fetched file None (Some text) e e1 once; is = given_found text None program is }
 
-pub was_refused : (file : Bytes) (files : Option Folder) (text : Bytes) (why : Refusal) → Tells files file (Some text) → IsRefusedFor text why → WasGiven file None files (Err (record { status = 2; note = note.Refused why }))
-was_refused file files text why told is = record { text = text; told = told; written = None; told_named = tt; is = by_text None why is }
+pub was_refused : (file : Bytes) (files : Option Folder) (e e1 : FileCalls) (text : Bytes) (why : Refusal) → Tells files file (Some text) → e1 ≡ once_fetched e → IsRefusedFor text why
+    → WasGiven file None files e e1 (Err (record { status = 2; note = note.Refused why }))
+was_refused file files e e1 text why told once is =
+    record { text = text; told = told; written = None; told_named = tt; called = file_fetched file None (Some text) e e1 once; is = by_text None why is }
 
 -- ---- counts
 
@@ -126,16 +145,34 @@ rose_of name k k1 stop fault is =
     the_one (λ name. Rose (k.fetches name) (k1.fetches name)) name of.caused
 
 -- the text
-pub text_unfetched : (file : Bytes) (named : Option Bytes) (files : Option Folder) (k k1 : Counts) (stop : Stop) → Faulted (file ∷ []) [] stop k k1 → stop ≡ Fetch → IsUngiven file named files k k1
-text_unfetched file named files k k1 stop fault is = no_text (rose_of file k k1 stop fault is)
+pub text_unfetched : (file : Bytes) (named : Option Bytes) (files : Option Folder) (k k1 : Counts) (e e1 : FileCalls) (stop : Stop) → Faulted (file ∷ []) [] stop k k1 → e1 ≡ once_fetched e → WasUngiven file named files k k1 e e1 stop
+text_unfetched file named files k k1 e e1 stop fault once =
+    let text = content_of files file in
+    record {
+      text = text.0;
+      told = text.1;
+      called = file_fetched file named text.0 e e1 once;
+      fetched = λ is. record { first = []; name = file; are = just_file file refl; rose = rose_of file k k1 stop fault is };
+    }
 
 -- the derivation, behind a text with a core phrase
-pub derivation_unfetched : (file name text : Bytes) (files : Option Folder) (core : Core) (k k1 k2 : Counts) (stop : Stop) → Tells files file (Some text) → IsCore text core → k1 ≡ k → Faulted (name ∷ []) [] stop k1 k2 → stop ≡ Fetch
-    → IsUngiven file (Some name) files k k2
-derivation_unfetched file name text files core k k1 k2 stop told is same fault fetch =
-    no_derivation name text (reads core.phrase) refl told is.is_judged (rose_of name k k2 stop (faulted_after (name ∷ []) [] stop k k1 k2 same fault) fetch)
+pub derivation_unfetched : (file name text : Bytes) (files : Option Folder) (core : Core) (k k1 k2 : Counts) (e e1 e2 : FileCalls) (stop : Stop) → Tells files file (Some text) → IsCore text core → k1 ≡ k → Faulted (name ∷ []) [] stop k1 k2
+    → e1 ≡ once_fetched e → e2 ≡ once_fetched e1 → WasUngiven file (Some name) files k k2 e e2 stop
+derivation_unfetched file name text files core k k1 k2 e e1 e2 stop told is same fault once again = record {
+  text = Some text;
+  told = told;
+  called = both_fetched file name text (reads core.phrase) e e1 e2 is.is_judged once again;
+  fetched = λ fetch. record {
+    first = file ∷ [];
+    name = name;
+    are = derivation_too file name text (reads core.phrase) refl refl refl is.is_judged;
+    rose = rose_of name k k2 stop (faulted_after (name ∷ []) [] stop k k1 k2 same fault) fetch;
+  };
+}
 
 -- behind both nothing is fetched
-pub all_fetched : (file name : Bytes) (files : Option Folder) (k k1 : Counts) (result : Result (Result Program TurnedDown) Stop) → IfErr result (λ stop. stop ≡ Memory) → IfErr result (λ stop. stop ≡ Fetch → IsUngiven file (Some name) files k k1)
-all_fetched file name files k k1 (Ok found) memory = tt
-all_fetched file name files k k1 (Err stop) memory = λ is. let clash : Memory ≡ Fetch = sym memory ∙ is in absurd cc
+pub all_fetched : (file name text : Bytes) (files : Option Folder) (k k1 : Counts) (e e1 : FileCalls) (result : Result (Result Program TurnedDown) Stop) → Tells files file (Some text)
+    → HasFetched (Some file) (Some name) (Some text) [] e e1 → IfErr result (λ stop. stop ≡ Memory) → IfErr result (WasUngiven file (Some name) files k k1 e e1)
+all_fetched file name text files k k1 e e1 (Ok found) told fetched memory = tt
+all_fetched file name text files k k1 e e1 (Err stop) told fetched memory =
+    record { text = Some text; told = told; called = fetched; fetched = λ is. let clash : Memory ≡ Fetch = sym memory ∙ is in absurd cc }

@@ -4,7 +4,7 @@ use Rattle.std.proofs.lemmas.Bool.{lt-ltb}
 use Rattle.std.specs.declared.option.Option.{Option}
 use Rattle.std.specs.declared.result.Result.{Result}
 use Rattle.std.specs.declared.result.Result.TheVariants.{Ok, Err}
-use Rattle.fy_base.specs.Outside.{Bytes}
+use Rattle.fy_base.specs.Outside.{Bytes, FileCalls}
 use Rattle.fy_build.specs.Building.{IsProgramPhrase, IsStackSize}
 use Rattle.fy_build.specs.Shown.{RunsShowCopyRule}
 use Rattle.fy_derive.specs.Reading.{plain_derivation}
@@ -31,6 +31,7 @@ use Rattle.fy_world.specs.Working.{HasRun, HasSampled, Keeps, KeepsAndRuns, Keep
 use Rattle.fy_world.specs.declared.note.Note.{Note}
 use Rattle.fy_world.specs.declared.world.Stop.{Stop}
 use Rattle.fy_world.specs.declared.world.Stop.TheVariants.{Memory}
+use Rattle.fy_world.proofs.Counting.{called_none}
 use Rattle.fy_tool.specs.Audited.{Audits}
 use Rattle.fy_tool.specs.Due.{Sources, IsImageBy, IsBuilt, RunsBuilt, IsReadyFirst, image_of, kept_as, unread, builds, lists, executes, runs, samples, audits, unguarded, migrates}
 use Rattle.fy_tool.specs.Answers.{Serves}
@@ -101,81 +102,81 @@ abbrev pub nothing_read : Sources
 nothing_read = holding None None
 
 -- `build` of a program
-pub serves_build : (file name : Bytes) (stack : Option ℕ) (named : Option Bytes) (text : Bytes) (written : Option Bytes) (program : Program) (b c d : Contents) (k k1 k2 : Counts) (result : Result ℕ Stop) → IsGivenFor text named written program
-    → After (build file name stack named) (both text written) b c d k k1 k2 result → Builds program (stack_wanted stack) name c d result → Serves (Some (build file name stack named)) b d k k2 result
-serves_build file name stack named text written program b c d k k1 k2 result is a (inl unbegun) = none_done (build file name stack named) (both text written) b c d k k1 k2 result a unbegun
-serves_build file name stack named text written program b c d k k1 k2 result is a (inr has) = kept has.keeps
+pub serves_build : (file name : Bytes) (stack : Option ℕ) (named : Option Bytes) (text : Bytes) (written : Option Bytes) (program : Program) (b c d : Contents) (k k1 k2 : Counts) (e e1 e2 : FileCalls) (result : Result ℕ Stop) → IsGivenFor text named written program
+    → After (build file name stack named) (both text written) b c d k k1 k2 e e1 e2 result → Builds program (stack_wanted stack) name c d result → Serves (Some (build file name stack named)) b d k k2 e e2 result
+serves_build file name stack named text written program b c d k k1 k2 e e1 e2 result is a (inl unbegun) = none_done (build file name stack named) (both text written) b c d k k1 k2 e e1 e2 result a unbegun
+serves_build file name stack named text written program b c d k k1 k2 e e1 e2 result is a (inr has) = kept has.keeps
   where
     order : Order
     order = build file name stack named
 
-    kept : Keeps has.image name c d result → Serves (Some order) b d k k2 result
-    kept (inl unbegun) = none_done order (both text written) b c d k k1 k2 result a unbegun
+    kept : Keeps has.image name c d result → Serves (Some order) b d k k2 e e2 result
+    kept (inl unbegun) = none_done order (both text written) b c d k k1 k2 e e1 e2 result a unbegun
     kept (inr was) =
         let built = is_built text named written (stack_wanted stack) program has.image is has.is in
-        done_quietly order (both text written) b c d k k1 k2 result _ a (λ input. builds file name stack named text has.image was.bytes refl built was.spelled) was.did (λ _ memory. absurd (was.ready memory))
+        done_quietly order (both text written) b c d k k1 k2 e e1 e2 result _ a (λ input. builds file name stack named text has.image was.bytes refl built was.spelled) was.did (λ _ memory. absurd (was.ready memory)) (λ none. absurd cc)
 
 -- `list` of a program
-pub serves_list : (file text : Bytes) (program : Program) (b c d : Contents) (k k1 k2 : Counts) (result : Result ℕ Stop) → IsOfText text program → After (list file) (only text) b c d k k1 k2 result → Lists program 1048576 c d result
-    → Serves (Some (list file)) b d k k2 result
-serves_list file text program b c d k k1 k2 result is a (inl unbegun) = none_done (list file) (only text) b c d k k1 k2 result a unbegun
-serves_list file text program b c d k k1 k2 result is a (inr has) =
+pub serves_list : (file text : Bytes) (program : Program) (b c d : Contents) (k k1 k2 : Counts) (e e1 e2 : FileCalls) (result : Result ℕ Stop) → IsOfText text program → After (list file) (only text) b c d k k1 k2 e e1 e2 result → Lists program 1048576 c d result
+    → Serves (Some (list file)) b d k k2 e e2 result
+serves_list file text program b c d k k1 k2 e e1 e2 result is a (inl unbegun) = none_done (list file) (only text) b c d k k1 k2 e e1 e2 result a unbegun
+serves_list file text program b c d k k1 k2 e e1 e2 result is a (inr has) =
     let built = is_built text None None (stack_wanted None) program has.image (given_found text None program is) has.is in
-    done_quietly (list file) (only text) b c d k k1 k2 result (listed built.is.runs.program) a (λ input. lists file text has.image refl built) (has.did built.is.runs.program built.is.runs.is_the_images) (λ ready. absurd ready)
+    done_quietly (list file) (only text) b c d k k1 k2 e e1 e2 result (listed built.is.runs.program) a (λ input. lists file text has.image refl built) (has.did built.is.runs.program built.is.runs.is_the_images) (λ ready. absurd ready) (λ _ _. a.kept)
 
 -- `run` of a program
-pub serves_run : (file : Bytes) (steps stack : Option ℕ) (named name : Option Bytes) (text : Bytes) (written : Option Bytes) (program : Program) (b c d : Contents) (k k1 k2 : Counts) (result : Result ℕ Stop) → RunsShowCopyRule
-    → IsGivenFor text named written program → After (run file steps stack named name) (both text written) b c d k k1 k2 result
-    → BuildsAndRuns program (stack_wanted stack) (steps_wanted steps) (kept_as file name) c d result → Serves (Some (run file steps stack named name)) b d k k2 result
+pub serves_run : (file : Bytes) (steps stack : Option ℕ) (named name : Option Bytes) (text : Bytes) (written : Option Bytes) (program : Program) (b c d : Contents) (k k1 k2 : Counts) (e e1 e2 : FileCalls) (result : Result ℕ Stop) → RunsShowCopyRule
+    → IsGivenFor text named written program → After (run file steps stack named name) (both text written) b c d k k1 k2 e e1 e2 result
+    → BuildsAndRuns program (stack_wanted stack) (steps_wanted steps) (kept_as file name) c d result → Serves (Some (run file steps stack named name)) b d k k2 e e2 result
 unfolding is_built
-serves_run file steps stack named name text written program b c d k k1 k2 result law is a (inl unbegun) = none_done (run file steps stack named name) (both text written) b c d k k1 k2 result a unbegun
-serves_run file steps stack named name text written program b c d k k1 k2 result law is a (inr has) = ran has.runs
+serves_run file steps stack named name text written program b c d k k1 k2 e e1 e2 result law is a (inl unbegun) = none_done (run file steps stack named name) (both text written) b c d k k1 k2 e e1 e2 result a unbegun
+serves_run file steps stack named name text written program b c d k k1 k2 e e1 e2 result law is a (inr has) = ran has.runs
   where
     order : Order
     order = run file steps stack named name
 
-    ran : KeepsAndRuns has.image (steps_wanted steps) (kept_as file name) c d result → Serves (Some order) b d k k2 result
-    ran (inl unbegun) = none_done order (both text written) b c d k k1 k2 result a unbegun
-    ran (inr e) =
+    ran : KeepsAndRuns has.image (steps_wanted steps) (kept_as file name) c d result → Serves (Some order) b d k k2 e e2 result
+    ran (inl unbegun) = none_done order (both text written) b c d k k1 k2 e e1 e2 result a unbegun
+    ran (inr has_kept) =
         let image = has.image in
         let built = is_built text named written (stack_wanted stack) program image is has.is in
-        let code = one_program image e.executed.program built.is.runs.program e.executed.is_the_images built.is.runs.is_the_images in
-        let R : Code → Type 0 = λ code. HasRun code (start_of image) (steps_wanted steps) None (Some (kept_as file name, e.bytes)) c d result in
-        let r = subst R code e.executed.has_run in
-        let has_run : RunsBuilt text named written stack steps r.input image e.bytes r.n r.end = record {
+        let code = one_program image has_kept.executed.program built.is.runs.program has_kept.executed.is_the_images built.is.runs.is_the_images in
+        let R : Code → Type 0 = λ code. HasRun code (start_of image) (steps_wanted steps) None (Some (kept_as file name, has_kept.bytes)) c d result in
+        let r = subst R code has_kept.executed.has_run in
+        let has_run : RunsBuilt text named written stack steps r.input image has_kept.bytes r.n r.end = record {
           built = built;
-          spelled = e.spelled;
+          spelled = has_kept.spelled;
           is_run = r.is_run;
           shows = λ bytes. law built.phrase image built.is.runs r.input r.n (steps_wanted steps) r.end (accepted-never_stuck built.phrase built.by is.derived) bytes r.is_run.ends;
         } in
-        done order (both text written) b c d k k1 k2 result _ r.input a r.fed (λ _. r.bytes) (runs file steps stack named name text image e.bytes r.n r.end refl has_run) r.did (λ _ memory. absurd (e.ready memory))
+        done order (both text written) b c d k k1 k2 e e1 e2 result _ r.input a r.fed (λ _. r.bytes) (runs file steps stack named name text image has_kept.bytes r.n r.end refl has_run) r.did (λ _ memory. absurd (has_kept.ready memory)) (λ none. absurd cc)
 
 -- `sample` of a program
-pub serves_sample : (number size : ℕ) (program : Program) (b c d : Contents) (k k1 k2 : Counts) (result : Result ℕ Stop) → RunsShowCopyRule → IsOfText (sample_text number size) program
-    → After (sample number size) nothing_read b c d k k1 k2 result → BuildsAndSamples program 1048576 1000000000 (codes "sample.img") c d result → Serves (Some (sample number size)) b d k k2 result
+pub serves_sample : (number size : ℕ) (program : Program) (b c d : Contents) (k k1 k2 : Counts) (e e1 e2 : FileCalls) (result : Result ℕ Stop) → RunsShowCopyRule → IsOfText (sample_text number size) program
+    → After (sample number size) nothing_read b c d k k1 k2 e e1 e2 result → BuildsAndSamples program 1048576 1000000000 (codes "sample.img") c d result → Serves (Some (sample number size)) b d k k2 e e2 result
 unfolding is_built
-serves_sample number size program b c d k k1 k2 result law is a (inl unbegun) = none_done (sample number size) nothing_read b c d k k1 k2 result a unbegun
-serves_sample number size program b c d k k1 k2 result law is a (inr has) = ran has.samples
+serves_sample number size program b c d k k1 k2 e e1 e2 result law is a (inl unbegun) = none_done (sample number size) nothing_read b c d k k1 k2 e e1 e2 result a unbegun
+serves_sample number size program b c d k k1 k2 e e1 e2 result law is a (inr has) = ran has.samples
   where
     order : Order
     order = sample number size
 
-    ran : KeepsAndSamples has.image 1000000000 (codes "sample.img") c d result → Serves (Some order) b d k k2 result
-    ran (inl unbegun) = none_done order nothing_read b c d k k1 k2 result a unbegun
-    ran (inr e) =
+    ran : KeepsAndSamples has.image 1000000000 (codes "sample.img") c d result → Serves (Some order) b d k k2 e e2 result
+    ran (inl unbegun) = none_done order nothing_read b c d k k1 k2 e e1 e2 result a unbegun
+    ran (inr has_kept) =
         let image = has.image in
         let given = given_found (sample_text number size) None program is in
         let built = is_built (sample_text number size) None None (stack_wanted None) program image given has.is in
-        let code = one_program image e.program built.is.runs.program e.is_the_images built.is.runs.is_the_images in
-        let R : Code → Type 0 = λ code. HasSampled code (start_of image) (steps_wanted None) (Some (codes "sample.img", e.bytes)) c d result in
-        let r = subst R code e.has_sampled in
-        let has_run : RunsBuilt (sample_text number size) None None None None r.input image e.bytes r.n r.end = record {
+        let code = one_program image has_kept.program built.is.runs.program has_kept.is_the_images built.is.runs.is_the_images in
+        let R : Code → Type 0 = λ code. HasSampled code (start_of image) (steps_wanted None) (Some (codes "sample.img", has_kept.bytes)) c d result in
+        let r = subst R code has_kept.has_sampled in
+        let has_run : RunsBuilt (sample_text number size) None None None None r.input image has_kept.bytes r.n r.end = record {
           built = built;
-          spelled = e.spelled;
+          spelled = has_kept.spelled;
           is_run = r.is_run;
           shows = λ bytes. law built.phrase image built.is.runs r.input r.n (steps_wanted None) r.end (accepted-never_stuck built.phrase built.by is.derived) bytes r.is_run.ends;
         } in
-        done order nothing_read b c d k k1 k2 result _ r.input a r.fed (λ _. r.bytes) (samples number size image e.bytes r.n r.end has_run) r.did (λ _ memory. absurd (e.ready memory))
+        done order nothing_read b c d k k1 k2 e e1 e2 result _ r.input a r.fed (λ _. r.bytes) (samples number size image has_kept.bytes r.n r.end has_run) r.did (λ _ memory. absurd (has_kept.ready memory)) (λ none. absurd cc)
 
 -- ---- images of files
 
@@ -185,35 +186,35 @@ unfolding refusal_of
 too_long bytes longer = ap (λ b. if b then Some TooLarge else or_else (magic_refusal bytes) (first_refusal (version_field ∷ fields_behind (version_of (number_at bytes 8)) (number_at bytes 16) (number_at bytes 20) (number_at bytes 24)) (drop 8 bytes))) (lt-ltb 33554432 (length bytes) longer)
 
 -- bytes that are no image, where one is taken
-pub serves_no_image : (order : Order) (bytes : Bytes) (error : ImageError) (why : Note) (b c d : Contents) (k k1 k2 : Counts) (result : Result ℕ Stop) → image_of order (only bytes) ≡ Some bytes → refusal_of bytes ≡ Some error
-    → refusal_note error ≡ Some why → After order (only bytes) b c d k k1 k2 result → result ≢ Err Memory → Did (told 6 (why ∷ [])) c d result → Serves (Some order) b d k k2 result
-serves_no_image order bytes error why b c d k k1 k2 result takes refusal is a ready did =
-    done_quietly order (only bytes) b c d k k1 k2 result (told 6 (why ∷ [])) a (λ input. unread order bytes error why takes refusal is) did (λ _ memory. absurd (ready memory))
+pub serves_no_image : (order : Order) (bytes : Bytes) (error : ImageError) (why : Note) (b c d : Contents) (k k1 k2 : Counts) (e e1 e2 : FileCalls) (result : Result ℕ Stop) → image_of order (only bytes) ≡ Some bytes → refusal_of bytes ≡ Some error
+    → refusal_note error ≡ Some why → After order (only bytes) b c d k k1 k2 e e1 e2 result → result ≢ Err Memory → Did (told 6 (why ∷ [])) c d result → e2 ≡ e1 → Serves (Some order) b d k k2 e e2 result
+serves_no_image order bytes error why b c d k k1 k2 e e1 e2 result takes refusal is a ready did same =
+    done_quietly order (only bytes) b c d k k1 k2 e e1 e2 result (told 6 (why ∷ [])) a (λ input. unread order bytes error why takes refusal is) did (λ _ memory. absurd (ready memory)) (λ _ _. called_none e1 e2 same)
 
 -- `exec` of an image
-pub serves_exec : (name : Bytes) (steps trace : Option ℕ) (bytes : Bytes) (image : Image) (b c d : Contents) (k k1 k2 : Counts) (result : Result ℕ Stop) → IsImageBytes image bytes → After (exec name steps trace) (only bytes) b c d k k1 k2 result
-    → (trace ≡ None → result ≡ Err Memory → d ≡ c) → Executes image (steps_wanted steps) trace c d result → Serves (Some (exec name steps trace)) b d k k2 result
-serves_exec name steps trace bytes image b c d k k1 k2 result spelled a ready (inl unbegun) = none_done (exec name steps trace) (only bytes) b c d k k1 k2 result a unbegun
-serves_exec name steps trace bytes image b c d k k1 k2 result spelled a ready (inr e) =
-    let r = e.has_run in
-    done (exec name steps trace) (only bytes) b c d k k1 k2 result _ r.input a r.fed (λ _. r.bytes) (executes name steps trace bytes image e.program r.n r.end refl spelled e.is_the_images r.is_run) r.did (quiet trace ready)
+pub serves_exec : (name : Bytes) (steps trace : Option ℕ) (bytes : Bytes) (image : Image) (b c d : Contents) (k k1 k2 : Counts) (e e1 e2 : FileCalls) (result : Result ℕ Stop) → IsImageBytes image bytes → After (exec name steps trace) (only bytes) b c d k k1 k2 e e1 e2 result
+    → (trace ≡ None → result ≡ Err Memory → d ≡ c) → Executes image (steps_wanted steps) trace c d result → Serves (Some (exec name steps trace)) b d k k2 e e2 result
+serves_exec name steps trace bytes image b c d k k1 k2 e e1 e2 result spelled a ready (inl unbegun) = none_done (exec name steps trace) (only bytes) b c d k k1 k2 e e1 e2 result a unbegun
+serves_exec name steps trace bytes image b c d k k1 k2 e e1 e2 result spelled a ready (inr executed) =
+    let r = executed.has_run in
+    done (exec name steps trace) (only bytes) b c d k k1 k2 e e1 e2 result _ r.input a r.fed (λ _. r.bytes) (executes name steps trace bytes image executed.program r.n r.end refl spelled executed.is_the_images r.is_run) r.did (quiet trace ready) (λ _ _. a.kept)
   where
     quiet : (trace : Option ℕ) → (trace ≡ None → result ≡ Err Memory → d ≡ c) → IsReadyFirst (exec name steps trace) → result ≡ Err Memory → d ≡ c
     quiet None ready first = ready refl
     quiet (Some count) ready first = absurd first
 
 -- `audit` of an image
-pub serves_audit : (name bytes : Bytes) (image : Image) (b c d : Contents) (k k1 k2 : Counts) (result : Result ℕ Stop) → IsImageBytes image bytes → After (audit name) (only bytes) b c d k k1 k2 result
-    → (result ≡ Err Memory → d ≡ c) → Audits image c d result → Serves (Some (audit name)) b d k k2 result
-serves_audit name bytes image b c d k k1 k2 result spelled a ready (inl unbegun) = none_done (audit name) (only bytes) b c d k k1 k2 result a unbegun
-serves_audit name bytes image b c d k k1 k2 result spelled a ready (inr (inl was)) =
-    done_quietly (audit name) (only bytes) b c d k k1 k2 result _ a (λ input. audits name bytes image refl spelled was.guarded) was.did (λ _ memory. ready memory)
-serves_audit name bytes image b c d k k1 k2 result spelled a ready (inr (inr was)) =
-    done_quietly (audit name) (only bytes) b c d k k1 k2 result _ a (λ input. unguarded name bytes image was.word refl spelled was.unguarded) was.did (λ _ memory. ready memory)
+pub serves_audit : (name bytes : Bytes) (image : Image) (b c d : Contents) (k k1 k2 : Counts) (e e1 e2 : FileCalls) (result : Result ℕ Stop) → IsImageBytes image bytes → After (audit name) (only bytes) b c d k k1 k2 e e1 e2 result
+    → (result ≡ Err Memory → d ≡ c) → Audits image c d result → Serves (Some (audit name)) b d k k2 e e2 result
+serves_audit name bytes image b c d k k1 k2 e e1 e2 result spelled a ready (inl unbegun) = none_done (audit name) (only bytes) b c d k k1 k2 e e1 e2 result a unbegun
+serves_audit name bytes image b c d k k1 k2 e e1 e2 result spelled a ready (inr (inl was)) =
+    done_quietly (audit name) (only bytes) b c d k k1 k2 e e1 e2 result _ a (λ input. audits name bytes image refl spelled was.guarded) was.did (λ _ memory. ready memory) (λ _ _. a.kept)
+serves_audit name bytes image b c d k k1 k2 e e1 e2 result spelled a ready (inr (inr was)) =
+    done_quietly (audit name) (only bytes) b c d k k1 k2 e e1 e2 result _ a (λ input. unguarded name bytes image was.word refl spelled was.unguarded) was.did (λ _ memory. ready memory) (λ _ _. a.kept)
 
 -- `migrate` of an image
-pub serves_migrate : (from to bytes : Bytes) (image : Image) (b c d : Contents) (k k1 k2 : Counts) (result : Result ℕ Stop) → IsImageBytes image bytes → After (migrate from to) (only bytes) b c d k k1 k2 result → Keeps image to c d result
-    → Serves (Some (migrate from to)) b d k k2 result
-serves_migrate from to bytes image b c d k k1 k2 result spelled a (inl unbegun) = none_done (migrate from to) (only bytes) b c d k k1 k2 result a unbegun
-serves_migrate from to bytes image b c d k k1 k2 result spelled a (inr was) =
-    done_quietly (migrate from to) (only bytes) b c d k k1 k2 result _ a (λ input. migrates from to bytes image was.bytes refl spelled was.spelled) was.did (λ _ memory. absurd (was.ready memory))
+pub serves_migrate : (from to bytes : Bytes) (image : Image) (b c d : Contents) (k k1 k2 : Counts) (e e1 e2 : FileCalls) (result : Result ℕ Stop) → IsImageBytes image bytes → After (migrate from to) (only bytes) b c d k k1 k2 e e1 e2 result → Keeps image to c d result
+    → Serves (Some (migrate from to)) b d k k2 e e2 result
+serves_migrate from to bytes image b c d k k1 k2 e e1 e2 result spelled a (inl unbegun) = none_done (migrate from to) (only bytes) b c d k k1 k2 e e1 e2 result a unbegun
+serves_migrate from to bytes image b c d k k1 k2 e e1 e2 result spelled a (inr was) =
+    done_quietly (migrate from to) (only bytes) b c d k k1 k2 e e1 e2 result _ a (λ input. migrates from to bytes image was.bytes refl spelled was.spelled) was.did (λ _ memory. absurd (was.ready memory)) (λ none. absurd cc)

@@ -1,11 +1,11 @@
 -- The units on a list in a file: read, and put together.
-use Rattle.std.proofs.Common.{◌≡◌, ◌≢◌, ℕ, ◌≤◌, List, [], ◌∷◌, ◌++◌, length, sym, ap, ◌∙◌, refl, subst, arith, inl, inr, Some, None, Ok, Err}
-use Rattle.std.proofs.lemmas.List.{length-map}
+use Rattle.std.proofs.Common.{◌≡◌, ◌≢◌, ℕ, ◌+◌, ◌≤◌, List, [], ◌∷◌, ◌++◌, length, sym, ap, ◌∙◌, refl, subst, arith, inl, inr, Some, None, Ok, Err}
+use Rattle.std.proofs.lemmas.List.{length-append, length-map}
 use Rattle.std.proofs.lemmas.List.Elements.{All-nil}
 use Rattle.std.specs.Prelude.{IfOk, IfErr}
 use Rattle.std.specs.declared.option.Option.{Option}
 use Rattle.std.specs.declared.result.Result.{Result}
-use Rattle.fy_base.specs.Outside.{Bytes, Folder, Rose, Tells}
+use Rattle.fy_base.specs.Outside.{Bytes, FileCalls, Folder, Rose, Tells, once_fetched}
 use Rattle.fy_derive.specs.Judging.{conclusion_of, refusal}
 use Rattle.fy_derive.specs.Limits.{KeepsLimits}
 use Rattle.fy_derive.specs.Reading.{plain_derivation}
@@ -19,51 +19,103 @@ use Rattle.pe_shapes.specs.Order.{AreInOrder}
 use Rattle.pe_shapes.specs.Shaping.{KeepsLimits as KeepsShapeLimits}
 use Rattle.fy_link.specs.declared.linking.Linked.{Linked}
 use Rattle.fy_world.specs.World.{Counts}
-use Rattle.fy_world.specs.Counted.{Faulted}
+use Rattle.fy_world.specs.Counted.{Faulted, HasCalled, IsReadStop}
 use Rattle.fy_world.specs.declared.note.Note.TheVariants as note
 use Rattle.fy_world.specs.declared.refusal.Refusal.{Refusal}
 use Rattle.fy_world.specs.declared.unlinked.Unlinked.TheVariants as unlinked
 use Rattle.fy_world.specs.declared.world.Stop.{Stop}
-use Rattle.fy_world.specs.declared.world.Stop.TheVariants.{Fetch, Input, Memory}
-use Rattle.fy_world.proofs.Counting.{faulted_after, short_of_memory}
+use Rattle.fy_world.specs.declared.world.Stop.TheVariants.{Fetch, Memory}
+use Rattle.fy_world.proofs.Counting.{called_both, called_fetch, called_more, faulted_after, short_of_memory}
 use Rattle.fy_world.proofs.Parts.{content_of}
+use Rattle.fy_tool.specs.Due.{AreListed, AreTold}
 use Rattle.fy_tool.specs.Units.{Listed, names_of, ListsUnits, ListsNone, IsLinkedBy, no_list, no_object, not_linked, PassesShapes}
-use Rattle.fy_tool.specs.Working.{IsBuildable, WasLinked, LinksList, WasUnlisted, CountsList, IsLinkedFrom, IsSomeLinked, ReadsObjects, HasUnfetched, StopsObjects, ShapesLinked, Tables}
+use Rattle.fy_tool.specs.Working.{IsBuildable, WasLinked, LinksList, WasUnlisted, CountsList, IsLinkedFrom, IsSomeLinked, ReadsObjects, HasReadTo, no_unit, up_to, HasUnfetched, StopsObjects, ShapesLinked, Tables}
+use Rattle.fy_tool.specs.Fetched.{just_file, units_too, HasFetched}
 use Rattle.fy_tool.specs.declared.given.TurnedDown.{TurnedDown}
 use Rattle.fy_tool.specs.declared.link.Together.{Together}
 use Rattle.fy_tool.specs.declared.objects.Objects.{Objects}
 use Rattle.fy_tool.specs.declared.texts.Program.{Program}
-use Rattle.fy_tool.proofs.ReadUnits.{counted_units, faulted_before, the_one}
+use Rattle.fy_tool.proofs.ReadUnits.{all_fetched, bad_fetched, counted_units, faulted_before, the_one}
 use Rattle.fy_tool.proofs.Serving.{none_listed}
+
+-- ---- how often files were fetched
+
+-- the list alone was
+list_fetched : (file : Bytes) (units : List Listed) (e e1 : FileCalls) → e1 ≡ once_fetched e → HasFetched (Some file) None None units e e1
+list_fetched file units e e1 once = record { names = file ∷ []; are = just_file file refl; called = called_fetch e e1 once }
+
+-- the files on it were too, up to one behind those that hold units
+units_fetched : (file : Bytes) (units : List Listed) (e e1 e2 : FileCalls) → e1 ≡ once_fetched e → HasReadTo units e1 e2 → HasFetched (Some file) None None units e e2
+units_fetched file units e e1 e2 once (no_unit called) = record { names = file ∷ []; are = just_file file refl; called = called_both 1 0 0 0 e e1 e2 (called_fetch e e1 once) called }
+units_fetched file units e e1 e2 once (up_to read unit behind values names are hold called) =
+    let mapped = length-map read (λ (unit : Listed). unit.name) in
+    let both = length-append (names_of read) (unit.name ∷ []) in
+    record {
+      names = file ∷ (names_of read ++ unit.name ∷ []);
+      are = units_too file read unit behind values names refl are hold;
+      called = called_more (1 + (length read + 1)) 0 (length (file ∷ (names_of read ++ unit.name ∷ []))) 0 e e2 (omega arith) (omega arith)
+          (called_both 1 0 (length read + 1) 0 e e1 e2 (called_fetch e e1 once) called);
+    }
 
 -- ---- why nothing is linked
 
 -- the file is no list
-pub was_no_list : (file list : Bytes) (files : Option Folder) → Tells files file (Some list) → ListsNone list → WasLinked file files (Err (record { status = 11; note = note.Link unlinked.List }))
-was_no_list file list files holds none = record { list = list; told = holds; units = []; listed = inl refl; units_told = All-nil _; is = no_list none }
+pub was_no_list : (file list : Bytes) (files : Option Folder) (e e1 : FileCalls) → Tells files file (Some list) → ListsNone list → e1 ≡ once_fetched e
+    → WasLinked file files e e1 (Err (record { status = 11; note = note.Link unlinked.List }))
+was_no_list file list files e e1 holds none once =
+    record { list = list; told = holds; units = []; listed = inl refl; units_told = All-nil _; called = list_fetched file [] e e1 once; is = no_list none }
 
 -- a file on it holds no unit
-pub was_bad : (file list : Bytes) (files : Option Folder) (names : List Bytes) (j : ℕ) → Tells files file (Some list) → ListsUnits list names → ReadsObjects names files (Err j)
-    → WasLinked file files (Err (record { status = 11; note = note.Link (unlinked.Object j) }))
-was_bad file list files names j holds lists read =
+pub was_bad : (file list : Bytes) (files : Option Folder) (names : List Bytes) (j : ℕ) (e e1 e2 : FileCalls) → Tells files file (Some list) → ListsUnits list names → ReadsObjects names files (Err j)
+    → e1 ≡ once_fetched e → HasCalled (j + 1) 0 e1 e2 → WasLinked file files e e2 (Err (record { status = 11; note = note.Link (unlinked.Object j) }))
+was_bad file list files names j e e1 e2 holds lists read once called =
     let by = subst (ListsUnits list) (sym read.named) lists in
-    record { list = list; told = holds; units = read.units; listed = inr by; units_told = read.told; is = no_object j by read.is }
+    record {
+      list = list;
+      told = holds;
+      units = read.units;
+      listed = inr by;
+      units_told = read.told;
+      called = units_fetched file read.units e e1 e2 once (bad_fetched read.units j e1 e2 read.is called);
+      is = no_object j by read.is;
+    }
 
 -- ---- units put together
 
-linked_so : (file list : Bytes) (files : Option Folder) (names : List Bytes) (objects : Objects) (found : Result Together TurnedDown) → Tells files file (Some list) → ListsUnits list names → ReadsObjects names files (Ok objects)
-    → IsLinkedFrom objects found → WasLinked file files found
-linked_so file list files names objects (Ok together) holds lists read is =
-    let by = subst (ListsUnits list) (sym read.named) lists in
-    record { list = list; told = holds; units = read.units; listed = inr by; units_told = read.told; is = record { names = objects.names; values = objects.units; units = record { listed = by; read = read.is.0 }; is = is } }
-linked_so file list files names objects (Err down) holds lists read is =
-    let by = subst (ListsUnits list) (sym read.named) lists in
-    record { list = list; told = holds; units = read.units; listed = inr by; units_told = read.told; is = not_linked objects.names objects.units is.0 down.status down.note (record { listed = by; read = read.is.0 }) is.1 is.2 }
+-- the list and all files on it were fetched
+linked_fetched : (file : Bytes) (files : Option Folder) (names : List Bytes) (objects : Objects) (e e1 e2 : FileCalls) (read : ReadsObjects names files (Ok objects)) → e1 ≡ once_fetched e → HasCalled (length objects.units) 0 e1 e2
+    → HasFetched (Some file) None None read.units e e2
+linked_fetched file files names objects e e1 e2 read once called = units_fetched file read.units e e1 e2 once (all_fetched e1 e2 read.is.0 called)
 
-pub links_list : (file list : Bytes) (files : Option Folder) (names : List Bytes) (objects : Objects) (result : Result (Result Together TurnedDown) Stop) → Tells files file (Some list) → ListsUnits list names
-    → ReadsObjects names files (Ok objects) → IfOk result (IsLinkedFrom objects) → LinksList file files result
-links_list file list files names objects (Ok answer) holds lists read is = linked_so file list files names objects answer holds lists read is
-links_list file list files names objects (Err stop) holds lists read is = tt
+linked_so : (file list : Bytes) (files : Option Folder) (names : List Bytes) (objects : Objects) (e e1 e2 : FileCalls) (found : Result Together TurnedDown) → Tells files file (Some list) → ListsUnits list names → ReadsObjects names files (Ok objects)
+    → e1 ≡ once_fetched e → HasCalled (length objects.units) 0 e1 e2 → IsLinkedFrom objects found → WasLinked file files e e2 found
+linked_so file list files names objects e e1 e2 (Ok together) holds lists read once called is =
+    let by = subst (ListsUnits list) (sym read.named) lists in
+    record {
+      list = list;
+      told = holds;
+      units = read.units;
+      listed = inr by;
+      units_told = read.told;
+      called = linked_fetched file files names objects e e1 e2 read once called;
+      is = record { names = objects.names; values = objects.units; units = record { listed = by; read = read.is.0 }; is = is };
+    }
+linked_so file list files names objects e e1 e2 (Err down) holds lists read once called is =
+    let by = subst (ListsUnits list) (sym read.named) lists in
+    record {
+      list = list;
+      told = holds;
+      units = read.units;
+      listed = inr by;
+      units_told = read.told;
+      called = linked_fetched file files names objects e e1 e2 read once called;
+      is = not_linked objects.names objects.units is.0 down.status down.note (record { listed = by; read = read.is.0 }) is.1 is.2;
+    }
+
+pub links_list : (file list : Bytes) (files : Option Folder) (names : List Bytes) (objects : Objects) (e e1 e2 : FileCalls) (result : Result (Result Together TurnedDown) Stop) → Tells files file (Some list) → ListsUnits list names
+    → ReadsObjects names files (Ok objects) → e1 ≡ once_fetched e → HasCalled (length objects.units) 0 e1 e2 → IfOk result (IsLinkedFrom objects) → LinksList file files e e2 result
+links_list file list files names objects e e1 e2 (Ok answer) holds lists read once called is = linked_so file list files names objects e e1 e2 answer holds lists read once called is
+links_list file list files names objects e e1 e2 (Err stop) holds lists read once called is = tt
 
 -- how many units a list has
 pub some_objects : (list : Bytes) (files : Option Folder) (names : List Bytes) (objects : Objects) → ListsUnits list names → ReadsObjects names files (Ok objects) → (1 ≤ length objects.units) × (length objects.units ≤ 64)
@@ -78,8 +130,8 @@ some_objects list files names objects lists read =
 -- ---- what stopped the work
 
 -- the list wasn't fetched
-pub unlisted_fetch : (file : Bytes) (files : Option Folder) (k k1 : Counts) (stop : Stop) → Faulted (file ∷ []) [] stop k k1 → stop ≢ Input → WasUnlisted file files k k1 stop
-unlisted_fetch file files k k1 stop fault other =
+pub unlisted_fetch : (file : Bytes) (files : Option Folder) (k k1 : Counts) (e e1 : FileCalls) (stop : Stop) → Faulted (file ∷ []) [] stop k k1 → IsReadStop stop → e1 ≡ once_fetched e → WasUnlisted file files k k1 e e1 stop
+unlisted_fetch file files k k1 e e1 stop fault other once =
     let content = content_of files file in
     record {
       list = content.0;
@@ -89,19 +141,19 @@ unlisted_fetch file files k k1 stop fault other =
       units_told = All-nil _;
       faulted = fault;
       other = other;
+      called = list_fetched file [] e e1 once;
       fetched = λ is.
           let of : Faulted (file ∷ []) [] Fetch k k1 = subst (λ (s : Stop). Faulted (file ∷ []) [] s k k1) is fault in
-          inl (the_one (λ name. Rose (k.fetches name) (k1.fetches name)) file of.caused);
+          record { first = []; name = file; are = just_file file refl; rose = the_one (λ name. Rose (k.fetches name) (k1.fetches name)) file of.caused };
     }
 
-pub unlisted_memory : (file : Bytes) (files : Option Folder) (k k1 : Counts) (stop : Stop) → stop ≡ Memory → k1 ≡ k → WasUnlisted file files k k1 stop
-unlisted_memory file files k k1 stop memory same =
-    unlisted_fetch file files k k1 stop (short_of_memory (file ∷ []) [] stop k k1 memory same) (λ input. let clash : Memory ≡ Input = sym memory ∙ input in cc)
+pub unlisted_memory : (file : Bytes) (files : Option Folder) (k k1 : Counts) (e e1 : FileCalls) (stop : Stop) → stop ≡ Memory → k1 ≡ k → e1 ≡ once_fetched e → WasUnlisted file files k k1 e e1 stop
+unlisted_memory file files k k1 e e1 stop memory same once = unlisted_fetch file files k k1 e e1 stop (short_of_memory (file ∷ []) [] stop k k1 memory same) (inr memory) once
 
 -- a file on it wasn't
-pub unlisted_units : (file list : Bytes) (files : Option Folder) (names : List Bytes) (k k1 k2 : Counts) (stop : Stop) → Tells files file (Some list) → ListsUnits list names → k1 ≡ k → Faulted names [] stop k1 k2
-    → stop ≢ Input → StopsObjects names files k1 k2 stop → WasUnlisted file files k k2 stop
-unlisted_units file list files names k k1 k2 stop holds lists same fault other behind =
+pub unlisted_units : (file list : Bytes) (files : Option Folder) (names : List Bytes) (k k1 k2 : Counts) (e e1 e2 : FileCalls) (stop : Stop) → Tells files file (Some list) → ListsUnits list names → k1 ≡ k → Faulted names [] stop k1 k2
+    → IsReadStop stop → e1 ≡ once_fetched e → StopsObjects names files k1 k2 e1 e2 stop → WasUnlisted file files k k2 e e2 stop
+unlisted_units file list files names k k1 k2 e e1 e2 stop holds lists same fault other once behind =
     record {
       list = Some list;
       told = holds;
@@ -110,12 +162,36 @@ unlisted_units file list files names k k1 k2 stop holds lists same fault other b
       units_told = behind.told;
       faulted = subst (λ (ns : List Bytes). Faulted (ns ++ file ∷ []) [] stop k k2) (sym behind.named) (faulted_before names (file ∷ []) stop k k2 (faulted_after names [] stop k k1 k2 same fault));
       other = other;
-      fetched = λ is. inr (subst (λ (c : Counts). HasUnfetched behind.units c k2) same (behind.fetched is));
+      called = units_fetched file behind.units e e1 e2 once behind.called;
+      fetched = λ is.
+          let was = subst (λ (c : Counts). HasUnfetched behind.units c k2) same (behind.fetched is) in
+          record { first = file ∷ names_of was.read; name = was.unit.name; are = units_too file was.read was.unit was.behind was.values was.names refl was.are was.hold; rose = was.rose };
     }
 
-pub counts_memory : (file : Bytes) (files : Option Folder) (k k1 : Counts) (result : Result (Result Together TurnedDown) Stop) → IfErr result (λ stop. stop ≡ Memory) → k1 ≡ k → CountsList file files k k1 result
-counts_memory file files k k1 (Ok answer) memory same = same
-counts_memory file files k k1 (Err stop) memory same = unlisted_memory file files k k1 stop memory same
+-- memory was wanting behind the units
+short_behind : (file list : Bytes) (files : Option Folder) (units : List Listed) (k k1 : Counts) (e e1 : FileCalls) (stop : Stop) → Tells files file (Some list) → AreListed (Some list) units → AreTold files units → stop ≡ Memory → k1 ≡ k
+    → HasFetched (Some file) None None units e e1 → WasUnlisted file files k k1 e e1 stop
+short_behind file list files units k k1 e e1 stop holds listed told memory same fetched =
+    record {
+      list = Some list;
+      told = holds;
+      units = units;
+      listed = listed;
+      units_told = told;
+      faulted = short_of_memory (names_of units ++ file ∷ []) [] stop k k1 memory same;
+      other = inr memory;
+      called = fetched;
+      fetched = λ is. let clash : Memory ≡ Fetch = sym memory ∙ is in absurd cc;
+    }
+
+pub unlisted_linked : (file : Bytes) (files : Option Folder) (found : Result Together TurnedDown) (k k1 : Counts) (e e1 : FileCalls) (stop : Stop) → stop ≡ Memory → k1 ≡ k → WasLinked file files e e1 found → WasUnlisted file files k k1 e e1 stop
+unlisted_linked file files found k k1 e e1 stop memory same was = short_behind file was.list files was.units k k1 e e1 stop was.told was.listed was.units_told memory same was.called
+
+pub counts_memory : (file list : Bytes) (files : Option Folder) (names : List Bytes) (objects : Objects) (k k1 : Counts) (e e1 e2 : FileCalls) (result : Result (Result Together TurnedDown) Stop) → Tells files file (Some list)
+    → ListsUnits list names → ReadsObjects names files (Ok objects) → e1 ≡ once_fetched e → HasCalled (length objects.units) 0 e1 e2 → IfErr result (λ stop. stop ≡ Memory) → k1 ≡ k → CountsList file files k k1 e e2 result
+counts_memory file list files names objects k k1 e e1 e2 (Ok answer) holds lists read once called memory same = same
+counts_memory file list files names objects k k1 e e1 e2 (Err stop) holds lists read once called memory same =
+    short_behind file list files read.units k k1 e e2 stop holds (inr (subst (ListsUnits list) (sym read.named) lists)) read.told memory same (linked_fetched file files names objects e e1 e2 read once called)
 
 -- ---- the program
 

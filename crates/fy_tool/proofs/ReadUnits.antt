@@ -5,7 +5,7 @@ use Rattle.std.proofs.lemmas.List.Elements.{All-nil, All-cons, All-append, All-p
 use Rattle.std.specs.Borrow.{Bor}
 use Rattle.std.specs.Prelude.{All, Any}
 use Rattle.std.specs.declared.option.Option.{Option}
-use Rattle.fy_base.specs.Outside.{Bytes, Folder, Rose, Tells}
+use Rattle.fy_base.specs.Outside.{Bytes, FileCalls, Folder, Rose, Tells, once_fetched}
 use Rattle.fy_lexer.specs.Tokens.{HasAdded}
 use Rattle.fy_link.specs.UnitBytes.{IsUnitRead, IsBadUnit}
 use Rattle.fy_link.specs.Units.{IsUnit}
@@ -14,14 +14,14 @@ use Rattle.fy_link.specs.declared.unit.Unit.{Unit as UnitValue}
 use Rattle.fy_link.proofs.Made.{unit-later}
 use Rattle.fy_types.specs.Names.{first_names}
 use Rattle.fy_world.specs.World.{Contents, Counts}
-use Rattle.fy_world.specs.Counted.{Caused, Faulted}
+use Rattle.fy_world.specs.Counted.{Caused, Faulted, HasCalled}
 use Rattle.fy_world.specs.declared.world.Stop.{Stop}
 use Rattle.fy_world.specs.declared.world.Stop.TheVariants.{Fetch, Keep, Input, Output, Notes, Memory}
-use Rattle.fy_world.proofs.Counting.{faulted_after}
+use Rattle.fy_world.proofs.Counting.{called_both, called_fetch, called_more, faulted_after}
 use Rattle.fy_world.proofs.Parts.{content_of}
 use Rattle.fy_tool.specs.Due.{AreTold}
 use Rattle.fy_tool.specs.Units.{most_unit, Listed, names_of, AreUnitsRead, none, one_more, IsBadObject}
-use Rattle.fy_tool.specs.Working.{ReadsObject, ReadsObjects, HasUnfetched, StopsObjects}
+use Rattle.fy_tool.specs.Working.{ReadsObject, ReadsObjects, HasReadTo, no_unit, up_to, StopsObjects}
 use Rattle.fy_tool.specs.declared.objects.Objects.{Objects}
 use Rattle.fy_tool.proofs.Lists.{all_now, taken_now}
 
@@ -217,40 +217,88 @@ pub read_faulted : (files : List (Bor Bytes)) (i : ℕ) (d : Bor Bytes) (stop : 
 read_faulted files i d stop k k1 k2 lt same fault =
     faulted_among (firsts i files) (get_or files i d).now (map (λ (file : Bor Bytes). file.now) (drop (i + 1) files)) _ stop k k2 (all_now files i d lt) (faulted_after _ [] stop k k1 k2 same fault)
 
+-- ---- how often files were fetched
+
+-- the next file was
+called_next : (count : ℕ) (e e1 e2 : FileCalls) → HasCalled count 0 e e1 → e2 ≡ once_fetched e1 → HasCalled (count + 1) 0 e e2
+called_next count e e1 e2 before once = called_both count 0 1 0 e e1 e2 before (called_fetch e1 e2 once)
+
+pub called_step : (values later : List UnitValue) (value : UnitValue) (e e1 e2 : FileCalls) → later ≡ values ++ value ∷ [] → HasCalled (length values) 0 e e1 → e2 ≡ once_fetched e1 → HasCalled (length later) 0 e e2
+called_step values later value e e1 e2 pushed before once =
+    let one = length_push values value in
+    let same = ap length pushed in
+    called_more (length values + 1) 0 (length later) 0 e e2 (omega arith) (omega arith) (called_next (length values) e e1 e2 before once)
+
+pub called_stop : (values : List UnitValue) (count : ℕ) (e e1 e2 : FileCalls) → count ≡ length values → HasCalled (length values) 0 e e1 → e2 ≡ once_fetched e1 → HasCalled (count + 1) 0 e e2
+called_stop values count e e1 e2 counted before once = subst (λ n. HasCalled (n + 1) 0 e e2) (sym counted) (called_next (length values) e e1 e2 before once)
+
+-- all files that hold units were
+pub all_fetched : {units : List Listed} {values : List UnitValue} {names : List Bytes} (e e1 : FileCalls) → AreUnitsRead units values names → HasCalled (length values) 0 e e1 → HasReadTo units e e1
+all_fetched e e1 none called = no_unit called
+all_fetched e e1 (one_more {files = files} {values = values} {names = names} name bytes value after read short is) called =
+    let counted = counted_units read in
+    let one = length_push values value in
+    up_to files (record { name = name; content = Some bytes }) [] values names refl read
+    (called_more (length (values ++ value ∷ [])) 0 (length files + 1) 0 e e1 (omega arith) (omega arith) called)
+
+-- they were, and the first that holds none
+pub bad_fetched : (units : List Listed) (j : ℕ) (e e1 : FileCalls) → IsBadObject units j → HasCalled (j + 1) 0 e e1 → HasReadTo units e e1
+bad_fetched units j e e1 bad called =
+    let number = bad.number in
+    up_to bad.before (record { name = bad.name; content = Some bad.bytes }) bad.behind bad.values bad.names bad.are bad.read
+    (called_more (j + 1) 0 (length bad.before + 1) 0 e e1 (omega arith) (omega arith) called)
+
 -- ---- what stopped the reading
 
 -- memory was wanting
-pub stopped_short : (names : List Bytes) (files : Option Folder) (k k1 : Counts) (stop : Stop) → stop ≡ Memory → StopsObjects names files k k1 stop
-stopped_short names files k k1 stop memory =
+pub stopped_short : (names : List Bytes) (files : Option Folder) (k k1 : Counts) (e e1 : FileCalls) (stop : Stop) → stop ≡ Memory → HasCalled 0 0 e e1 → StopsObjects names files k k1 e e1 stop
+stopped_short names files k k1 e e1 stop memory called =
     let all = found files names in
-    record { units = all.units; named = all.named; told = all.told; fetched = λ is. let clash : Memory ≡ Fetch = sym memory ∙ is in absurd cc }
+    record { units = all.units; named = all.named; told = all.told; called = no_unit called; fetched = λ is. let clash : Memory ≡ Fetch = sym memory ∙ is in absurd cc }
 
--- a file that wasn't fetched, behind those that hold units
-pub unread_at : (files : Option Folder) (names : List Bytes) (values : List UnitValue) (known : List Bytes) (name : Bytes) (rest all : List Bytes) (k k1 : Counts) (stop : Stop) → ReadSoFar files names values known → all ≡ names ++ name ∷ rest
-    → Faulted (name ∷ []) [] stop k k1 → StopsObjects all files k k1 stop
-unread_at files names values known name rest all k k1 stop so_far are fault =
-    let content = content_of files name in
-    let unit : Listed = record { name = name; content = content.0 } in
+-- at a file that holds this, behind those that hold units
+stopped_at : (files : Option Folder) (names : List Bytes) (values : List UnitValue) (known : List Bytes) (name : Bytes) (content : Option Bytes) (rest all : List Bytes) (k k1 : Counts) (e e1 e2 : FileCalls) (stop : Stop)
+    → ReadSoFar files names values known → Tells files name content → all ≡ names ++ name ∷ rest → HasCalled (length values) 0 e e1 → e2 ≡ once_fetched e1 → (stop ≡ Fetch → Rose (k.fetches name) (k1.fetches name))
+    → StopsObjects all files k k1 e e2 stop
+stopped_at files names values known name content rest all k k1 e e1 e2 stop so_far holds are before once rose =
+    let unit : Listed = record { name = name; content = content } in
     let behind = found files rest in
+    let counted = counted_units so_far.read in
     record {
       units = so_far.units ++ unit ∷ behind.units;
       named = map-append (λ (file : Listed). file.name) so_far.units (unit ∷ behind.units) ∙ (λ i. so_far.named i ++ name ∷ behind.named i) ∙ sym are;
-      told = All-append (Holds files) so_far.units (unit ∷ behind.units) so_far.told (All-cons (Holds files) unit behind.units content.1 behind.told);
-      fetched = λ is.
-          let of : Faulted (name ∷ []) [] Fetch k k1 = subst (λ (s : Stop). Faulted (name ∷ []) [] s k k1) is fault in
-          record {
-            read = so_far.units;
-            unit = unit;
-            behind = behind.units;
-            are = refl;
-            values = values;
-            names = known;
-            hold = so_far.read;
-            rose = the_one (λ name. Rose (k.fetches name) (k1.fetches name)) name of.caused;
-          };
+      told = All-append (Holds files) so_far.units (unit ∷ behind.units) so_far.told (All-cons (Holds files) unit behind.units holds behind.told);
+      called = up_to so_far.units unit behind.units values known refl so_far.read
+          (called_more (length values + 1) 0 (length so_far.units + 1) 0 e e2 (omega arith) (omega arith) (called_next (length values) e e1 e2 before once));
+      fetched = λ is. record {
+        read = so_far.units;
+        unit = unit;
+        behind = behind.units;
+        are = refl;
+        values = values;
+        names = known;
+        hold = so_far.read;
+        rose = rose is;
+      };
     }
 
-pub read_unfetched : (b : Contents) (files : List (Bor Bytes)) (i : ℕ) (d : Bor Bytes) (values : List UnitValue) (known : List Bytes) (stop : Stop) (k k1 k2 : Counts) → ReadSoFar b.files (firsts i files) values known → i < length files → k1 ≡ k
-    → Faulted ((get_or files i d).now ∷ []) [] stop k1 k2 → StopsObjects (map (λ (file : Bor Bytes). file.now) files) b.files k k2 stop
-read_unfetched b files i d values known stop k k1 k2 so_far lt same fault =
-    unread_at b.files (firsts i files) values known (get_or files i d).now (map (λ (file : Bor Bytes). file.now) (drop (i + 1) files)) _ k k2 stop so_far (all_now files i d lt) (faulted_after _ [] stop k k1 k2 same fault)
+-- the file wasn't fetched, or memory was wanting
+pub read_unfetched : (b : Contents) (files : List (Bor Bytes)) (i : ℕ) (d : Bor Bytes) (values : List UnitValue) (known : List Bytes) (stop : Stop) (k k1 k2 : Counts) (e e1 e2 : FileCalls) → ReadSoFar b.files (firsts i files) values known
+    → i < length files → k1 ≡ k → Faulted ((get_or files i d).now ∷ []) [] stop k1 k2 → HasCalled (length values) 0 e e1 → e2 ≡ once_fetched e1 → StopsObjects (map (λ (file : Bor Bytes). file.now) files) b.files k k2 e e2 stop
+read_unfetched b files i d values known stop k k1 k2 e e1 e2 so_far lt same fault before once =
+    let name = (get_or files i d).now in
+    let content = content_of b.files name in
+    stopped_at b.files (firsts i files) values known name content.0 (map (λ (file : Bor Bytes). file.now) (drop (i + 1) files)) _ k k2 e e1 e2 stop so_far content.1 (all_now files i d lt) before once
+    (λ is.
+    let of : Faulted (name ∷ []) [] Fetch k k2 = subst (λ (s : Stop). Faulted (name ∷ []) [] s k k2) is (faulted_after _ [] stop k k1 k2 same fault) in
+    the_one (λ name. Rose (k.fetches name) (k2.fetches name)) name of.caused)
+
+-- memory was wanting behind a unit that was read
+pub read_short : (b c : Contents) (files : List (Bor Bytes)) (i : ℕ) (d : Bor Bytes) (values : List UnitValue) (known after : List Bytes) (value : UnitValue) (stop : Stop) (k k1 : Counts) (e e1 e2 : FileCalls) → c ≡ b
+    → ReadSoFar b.files (firsts i files) values known → i < length files → ReadsObject (get_or files i d).now c.files known after (Some value) → HasCalled (length values) 0 e e1 → e2 ≡ once_fetched e1 → stop ≡ Memory
+    → StopsObjects (map (λ (file : Bor Bytes). file.now) files) b.files k k1 e e2 stop
+read_short b c files i d values known after value stop k k1 e e1 e2 same so_far lt object before once memory =
+    let name = (get_or files i d).now in
+    let holds = subst (λ (x : Contents). Tells x.files name (Some object.bytes)) same object.told in
+    stopped_at b.files (firsts i files) values known name (Some object.bytes) (map (λ (file : Bor Bytes). file.now) (drop (i + 1) files)) _ k k1 e e1 e2 stop so_far holds (all_now files i d lt) before once
+    (λ is. let clash : Memory ≡ Fetch = sym memory ∙ is in absurd cc)

@@ -3,7 +3,7 @@ use Rattle.std.proofs.Common.{◌≡◌, ◌≢◌, ◌⊎◌, ℕ, refl, Some, 
 use Rattle.std.specs.declared.option.Option.{Option}
 use Rattle.std.specs.declared.result.Result.{Result}
 use Rattle.std.specs.declared.result.Result.TheVariants.{Err}
-use Rattle.fy_base.specs.Outside.{Bytes}
+use Rattle.fy_base.specs.Outside.{Bytes, FileCalls}
 use Rattle.fy_phrase.specs.Reads.{reads}
 use Rattle.fy_derive.specs.Print.{derivation_text}
 use Rattle.fy_derive.specs.Reading.{plain_derivation}
@@ -26,26 +26,26 @@ use Rattle.fy_tool.proofs.Checking.{in_use}
 use Rattle.fy_tool.proofs.Serving.{After, done, done_quietly, none_done, only}
 
 -- `check` of a text that is accepted
-pub serves_accepted : (file text : Bytes) (b c d : Contents) (k k1 k2 : Counts) (result : Result ℕ Stop) → IsAccepted text → After (check file) (only text) b c d k k1 k2 result → result ≢ Err Memory → Did accepted c d result
-    → Serves (Some (check file)) b d k k2 result
-serves_accepted file text b c d k k1 k2 result is a ready did =
-    done_quietly (check file) (only text) b c d k k1 k2 result accepted a (λ input. accepts file text refl is) did (λ _ memory. absurd (ready memory))
+pub serves_accepted : (file text : Bytes) (b c d : Contents) (k k1 k2 : Counts) (e e1 e2 : FileCalls) (result : Result ℕ Stop) → IsAccepted text → After (check file) (only text) b c d k k1 k2 e e1 e2 result → result ≢ Err Memory → Did accepted c d result
+    → Serves (Some (check file)) b d k k2 e e2 result
+serves_accepted file text b c d k k1 k2 e e1 e2 result is a ready did =
+    done_quietly (check file) (only text) b c d k k1 k2 e e1 e2 result accepted a (λ input. accepts file text refl is) did (λ _ memory. absurd (ready memory)) (λ _ _. a.kept)
 
 -- `derive` of a program
-pub serves_derived : (file text : Bytes) (program : Program) (b c d : Contents) (k k1 k2 : Counts) (result : Result ℕ Stop) → IsOfText text program → After (derive file) (only text) b c d k k1 k2 result
-    → (result ≡ Err Memory → d ≡ c) → IsUnbegun c d result ⊎ Did (written (derivation_text program.names (plain_derivation program.derivation))) c d result → Serves (Some (derive file)) b d k k2 result
-serves_derived file text program b c d k k1 k2 result is a ready (inl unbegun) = none_done (derive file) (only text) b c d k k1 k2 result a unbegun
-serves_derived file text program b c d k k1 k2 result is a ready (inr did) =
+pub serves_derived : (file text : Bytes) (program : Program) (b c d : Contents) (k k1 k2 : Counts) (e e1 e2 : FileCalls) (result : Result ℕ Stop) → IsOfText text program → After (derive file) (only text) b c d k k1 k2 e e1 e2 result
+    → (result ≡ Err Memory → d ≡ c) → IsUnbegun c d result ⊎ Did (written (derivation_text program.names (plain_derivation program.derivation))) c d result → Serves (Some (derive file)) b d k k2 e e2 result
+serves_derived file text program b c d k k1 k2 e e1 e2 result is a ready (inl unbegun) = none_done (derive file) (only text) b c d k k1 k2 e e1 e2 result a unbegun
+serves_derived file text program b c d k k1 k2 e e1 e2 result is a ready (inr did) =
     let by = plain_derivation program.derivation in
-    done_quietly (derive file) (only text) b c d k k1 k2 result _ a
-    (λ input. derives file text (reads program.phrase) program.names by refl is.is_program is.named (in_use is) is.full (printed_is_text program.names by is.printable)) did (λ _ memory. ready memory)
+    done_quietly (derive file) (only text) b c d k k1 k2 e e1 e2 result _ a
+    (λ input. derives file text (reads program.phrase) program.names by refl is.is_program is.named (in_use is) is.full (printed_is_text program.names by is.printable)) did (λ _ memory. ready memory) (λ _ _. a.kept)
 
 -- `copy` of a program
-pub serves_copied : (file : Bytes) (steps : Option ℕ) (text : Bytes) (program : Program) (b c d : Contents) (k k1 k2 : Counts) (result : Result ℕ Stop) → IsOfText text program → After (copy file steps) (only text) b c d k k1 k2 result
-    → HasCopied (reads program.phrase) (copy_wanted steps) c d result → Serves (Some (copy file steps)) b d k k2 result
-serves_copied file steps text program b c d k k1 k2 result is a r =
-    done (copy file steps) (only text) b c d k k1 k2 result _ r.input a r.fed (λ runs. absurd runs)
-    (copies file steps text (reads program.phrase) (plain_derivation program.derivation) r.n r.end refl is.is_program (in_use is) is.full r.is_run) r.did (λ ready. absurd ready)
+pub serves_copied : (file : Bytes) (steps : Option ℕ) (text : Bytes) (program : Program) (b c d : Contents) (k k1 k2 : Counts) (e e1 e2 : FileCalls) (result : Result ℕ Stop) → IsOfText text program → After (copy file steps) (only text) b c d k k1 k2 e e1 e2 result
+    → HasCopied (reads program.phrase) (copy_wanted steps) c d result → Serves (Some (copy file steps)) b d k k2 e e2 result
+serves_copied file steps text program b c d k k1 k2 e e1 e2 result is a r =
+    done (copy file steps) (only text) b c d k k1 k2 e e1 e2 result _ r.input a r.fed (λ runs. absurd runs)
+    (copies file steps text (reads program.phrase) (plain_derivation program.derivation) r.n r.end refl is.is_program (in_use is) is.full r.is_run) r.did (λ ready. absurd ready) (λ _ _. a.kept)
 
 -- code ran that is right
 pub traced_by : (program : Program) (code : PeCode) (limit : ℕ) (c d : Contents) (result : Result ℕ Stop) → IsRightCode (reads program.phrase) program.table code → IsUnbegun c d result ⊎ HasStepped code program.names limit c d result
@@ -54,10 +54,10 @@ traced_by program code limit c d result right (inl unbegun) = inl unbegun
 traced_by program code limit c d result right (inr r) = inr (record { code = code; right = right; run = r })
 
 -- `trace` of a program
-pub serves_traced : (file : Bytes) (steps : Option ℕ) (text : Bytes) (program : Program) (b c d : Contents) (k k1 k2 : Counts) (result : Result ℕ Stop) → IsOfText text program → After (trace file steps) (only text) b c d k k1 k2 result
-    → IsUnbegun c d result ⊎ HasTraced program (trace_steps_wanted steps) c d result → Serves (Some (trace file steps)) b d k k2 result
-serves_traced file steps text program b c d k k1 k2 result is a (inl unbegun) = none_done (trace file steps) (only text) b c d k k1 k2 result a unbegun
-serves_traced file steps text program b c d k k1 k2 result is a (inr t) =
+pub serves_traced : (file : Bytes) (steps : Option ℕ) (text : Bytes) (program : Program) (b c d : Contents) (k k1 k2 : Counts) (e e1 e2 : FileCalls) (result : Result ℕ Stop) → IsOfText text program → After (trace file steps) (only text) b c d k k1 k2 e e1 e2 result
+    → IsUnbegun c d result ⊎ HasTraced program (trace_steps_wanted steps) c d result → Serves (Some (trace file steps)) b d k k2 e e2 result
+serves_traced file steps text program b c d k k1 k2 e e1 e2 result is a (inl unbegun) = none_done (trace file steps) (only text) b c d k k1 k2 e e1 e2 result a unbegun
+serves_traced file steps text program b c d k k1 k2 e e1 e2 result is a (inr t) =
     let r = t.run in
-    done (trace file steps) (only text) b c d k k1 k2 result _ r.input a r.fed (λ runs. absurd runs)
-    (traces file steps text (reads program.phrase) program.names (plain_derivation program.derivation) t.code r.n r.end refl is.is_program is.named (in_use is) is.table_ordered is.full t.right r.is_run) r.did (λ ready. absurd ready)
+    done (trace file steps) (only text) b c d k k1 k2 e e1 e2 result _ r.input a r.fed (λ runs. absurd runs)
+    (traces file steps text (reads program.phrase) program.names (plain_derivation program.derivation) t.code r.n r.end refl is.is_program is.named (in_use is) is.table_ordered is.full t.right r.is_run) r.did (λ ready. absurd ready) (λ _ _. a.kept)

@@ -5,7 +5,7 @@ use Rattle.std.proofs.lemmas.List.Elements.{All-nil}
 use Rattle.std.specs.Prelude.{IfOk, MatchResult}
 use Rattle.std.specs.declared.option.Option.{Option}
 use Rattle.std.specs.declared.result.Result.{Result}
-use Rattle.fy_base.specs.Outside.{Bytes, Folder, Rose, Tells}
+use Rattle.fy_base.specs.Outside.{Bytes, FileCalls, Folder, Tells}
 use Rattle.fy_derive.specs.Print.{derivation_text}
 use Rattle.fy_derive.specs.Reading.{plain_derivation}
 use Rattle.fy_phrase.specs.Reads.{reads}
@@ -34,17 +34,17 @@ use Rattle.fy_world.specs.declared.refusal.Refusal.TheVariants as refusal
 use Rattle.fy_world.specs.declared.unlinked.Unlinked.TheVariants as unlinked
 use Rattle.fy_world.specs.declared.world.Stop.{Stop}
 use Rattle.fy_world.specs.declared.world.Stop.TheVariants.{Input, Memory}
-use Rattle.fy_world.proofs.Counting.{faulted_keeps}
+use Rattle.fy_world.proofs.Counting.{called_none, faulted_keeps}
 use Rattle.fy_tool.specs.Checked.{lex_refusal, parse_refusal, expand_refusal}
 use Rattle.fy_tool.specs.Units.{Listed, names_of, IsNoUnit, not_compiled, unit_refusal, IsLinkedBy, IsNotLinked, no_list, no_object, not_linked as not_linked_units, PassesShapes, linked_refusal, link_note}
-use Rattle.fy_tool.specs.Due.{IsImageBy, Sources, TellsSources, AreTold, AreListed, list_of, file_of, compiles, no_unit, not_linked, joins, misshapes, links, reads_of, keeps_of}
-use Rattle.fy_tool.specs.Fetched.{by_name, unit_behind, RoseOfDue}
+use Rattle.fy_tool.specs.Due.{IsImageBy, Sources, TellsSources, AreTold, AreListed, list_of, compiles, no_unit, not_linked, joins, misshapes, links, reads_of, keeps_of}
+use Rattle.fy_tool.specs.Fetched.{HasFetched, HasFetchedDue, LastRose, LastDueRose}
 use Rattle.fy_tool.specs.Answers.{Serves}
-use Rattle.fy_tool.specs.Working.{AreUnitBytes, Builds, HasUnfetched, IsBuildable, WasUnlisted}
+use Rattle.fy_tool.specs.Working.{AreUnitBytes, Builds, IsBuildable, WasUnlisted}
 use Rattle.fy_tool.specs.declared.texts.Program.{Program}
 use Rattle.fy_tool.proofs.Checking.{Checked, Found, found_so}
 use Rattle.fy_tool.proofs.ImageCommands.{by_image}
-use Rattle.fy_tool.proofs.Serving.{After, done_quietly, none_done, only, serves_stopped}
+use Rattle.fy_tool.proofs.Serving.{After, called_fetched, done_quietly, none_done, only, serves_stopped}
 
 -- ---- `unit`
 
@@ -73,19 +73,19 @@ unit_written first names text bytes value e source is added within back written 
 }
 
 -- a text that is the source of no unit
-pub serves_no_unit : (file to text : Bytes) (why : Refusal) (b c d : Contents) (k k1 k2 : Counts) (result : Result ℕ Stop) → IsNoUnit text why → After (unit file to) (only text) b c d k k1 k2 result → result ≢ Err Memory
-    → Did (told 2 (note.Refused why ∷ [])) c d result → Serves (Some (unit file to)) b d k k2 result
-serves_no_unit file to text why b c d k k1 k2 result is a ready did =
-    done_quietly (unit file to) (only text) b c d k k1 k2 result _ a (λ input. no_unit file to text why refl is) did (λ _ memory. absurd (ready memory))
+pub serves_no_unit : (file to text : Bytes) (why : Refusal) (b c d : Contents) (k k1 k2 : Counts) (e e1 e2 : FileCalls) (result : Result ℕ Stop) → IsNoUnit text why → After (unit file to) (only text) b c d k k1 k2 e e1 e2 result → result ≢ Err Memory
+    → Did (told 2 (note.Refused why ∷ [])) c d result → e2 ≡ e1 → Serves (Some (unit file to)) b d k k2 e e2 result
+serves_no_unit file to text why b c d k k1 k2 e e1 e2 result is a ready did same =
+    done_quietly (unit file to) (only text) b c d k k1 k2 e e1 e2 result _ a (λ input. no_unit file to text why refl is) did (λ _ memory. absurd (ready memory)) (λ _ _. called_none e1 e2 same)
 
 -- `unit` of a text that is one's source
-pub serves_unit : (file to text bytes : Bytes) (b c d : Contents) (k k1 k2 : Counts) (result : Result ℕ Stop) → AreUnitBytes text bytes → After (unit file to) (only text) b c d k k1 k2 result
-    → KeepsSuch (λ kept. kept ≡ bytes) to c d result → Serves (Some (unit file to)) b d k k2 result
-serves_unit file to text bytes b c d k k1 k2 result are a (inl unbegun) = none_done (unit file to) (only text) b c d k k1 k2 result a unbegun
-serves_unit file to text bytes b c d k k1 k2 result are a (inr was) =
+pub serves_unit : (file to text bytes : Bytes) (b c d : Contents) (k k1 k2 : Counts) (e e1 e2 : FileCalls) (result : Result ℕ Stop) → AreUnitBytes text bytes → After (unit file to) (only text) b c d k k1 k2 e e1 e2 result
+    → KeepsSuch (λ kept. kept ≡ bytes) to c d result → Serves (Some (unit file to)) b d k k2 e e2 result
+serves_unit file to text bytes b c d k k1 k2 e e1 e2 result are a (inl unbegun) = none_done (unit file to) (only text) b c d k k1 k2 e e1 e2 result a unbegun
+serves_unit file to text bytes b c d k k1 k2 e e1 e2 result are a (inr was) =
     let same = was.spelled ∙ are.are in
-    done_quietly (unit file to) (only text) b c d k k1 k2 result _ a (λ input. compiles file to text are.names are.value refl are.unit)
-    (subst (λ kept. Did (record { status = 0; output = []; notes = []; kept = Some (to, kept); rest = None; running = None }) c d result) same was.did) (λ _ memory. absurd (was.ready memory))
+    done_quietly (unit file to) (only text) b c d k k1 k2 e e1 e2 result _ a (λ input. compiles file to text are.names are.value refl are.unit)
+    (subst (λ kept. Did (record { status = 0; output = []; notes = []; kept = Some (to, kept); rest = None; running = None }) c d result) same was.did) (λ _ memory. absurd (was.ready memory)) (λ none. absurd cc)
 
 -- ---- lists
 
@@ -96,38 +96,36 @@ with_units list units = record { file = list; derivation = None; units = units }
 -- an order that takes a list
 pub record TakesList (order : Order) (file : Bytes) : Type 0 where
   pub sources : (list : Option Bytes) (units : List Listed) → list_of order (with_units list units) ≡ list
-  pub first : file_of order ≡ Some file
   pub reads : (list : Option Bytes) (units : List Listed) → reads_of order (with_units list units) ≡ names_of units ++ file ∷ []
   pub tells : (files : Option Folder) (list : Option Bytes) (units : List Listed) → Tells files file list → AreListed list units → AreTold files units → TellsSources order files (with_units list units)
+  pub fetched : (list : Option Bytes) (units : List Listed) (e e1 : FileCalls) → HasFetched (Some file) None None units e e1 → HasFetchedDue order (with_units list units) e e1
+  pub last : (list : Option Bytes) (units : List Listed) (k k1 : Counts) → LastRose (Some file) None None units k k1 → LastDueRose order (with_units list units) k k1
 
 pub join_takes : (file to : Bytes) → TakesList (join file to) file
 join_takes file to = record {
   sources = λ list units. refl;
-  first = refl;
   reads = λ list units. refl;
   tells = λ files list units holds listed hold. record { file = holds; derivation = tt; listed = listed; units = hold };
+  fetched = λ list units e e1 was. was;
+  last = λ list units k k1 was. was;
 }
 
 pub link_takes : (file to : Bytes) (stack : Option ℕ) → TakesList (link file to stack) file
 link_takes file to stack = record {
   sources = λ list units. refl;
-  first = refl;
   reads = λ list units. refl;
   tells = λ files list units holds listed hold. record { file = holds; derivation = tt; listed = listed; units = hold };
+  fetched = λ list units e e1 was. was;
+  last = λ list units k k1 was. was;
 }
 
--- the list, or a file on it behind those that hold units, was due to be fetched
-rose_listed : (order : Order) (file : Bytes) (list : Option Bytes) (units : List Listed) (k k1 : Counts) → file_of order ≡ Some file → Rose (k.fetches file) (k1.fetches file) ⊎ HasUnfetched units k k1 → RoseOfDue order (with_units list units) k k1
-rose_listed order file list units k k1 named (inl rose) = (file, by_name file named, rose)
-rose_listed order file list units k k1 named (inr was) = (was.unit.name, unit_behind was.read was.unit was.behind was.values was.names was.are was.hold, was.rose)
-
 -- work on the units of a list was stopped
-pub serves_unlisted : (order : Order) (file : Bytes) (b c : Contents) (k k1 : Counts) (stop : Stop) → TakesList order file → c ≡ b → WasUnlisted file b.files k k1 stop → Serves (Some order) b c k k1 (Err stop)
-serves_unlisted order file b c k k1 stop takes same was =
+pub serves_unlisted : (order : Order) (file : Bytes) (b c : Contents) (k k1 : Counts) (e e1 : FileCalls) (stop : Stop) → TakesList order file → c ≡ b → WasUnlisted file b.files k k1 e e1 stop → Serves (Some order) b c k k1 e e1 (Err stop)
+serves_unlisted order file b c k k1 e e1 stop takes same was =
     let sources = with_units was.list was.units in
-    serves_stopped order sources b c k k1 stop (takes.tells b.files was.list was.units was.told was.listed was.units_told) same
+    serves_stopped order sources b c k k1 e e1 stop (takes.tells b.files was.list was.units was.told was.listed was.units_told) same
     (faulted_keeps (reads_of order sources) (keeps_of order) stop k k1 (subst (λ (names : List Bytes). Faulted names [] stop k k1) (sym (takes.reads was.list was.units)) was.faulted)) was.other
-    (λ is. rose_listed order file was.list was.units k k1 takes.first (was.fetched is))
+    (λ is. takes.last was.list was.units k k1 (was.fetched is)) (called_fetched order sources (told 7 []) _ e e1 (takes.fetched was.list was.units e e1 was.called))
 
 -- the status of units that aren't linked is its own
 own_same : (x y : ℕ × Note) → Some x ≡ Some y → IsOwn x.0 → IsOwn y.0
@@ -154,38 +152,38 @@ not_linked_own (no_list is) = (λ clash. cc, λ clash. cc)
 not_linked_own (no_object j lists is) = (λ clash. cc, λ clash. cc)
 not_linked_own (not_linked_units names values error status why holds is told) = own_of error status why told
 
-pub serves_not_linked : (order : Order) (file list : Bytes) (units : List Listed) (status : ℕ) (why : Note) (b c d : Contents) (k k1 k2 : Counts) (result : Result ℕ Stop) → TakesList order file
-    → IsNotLinked list units status why → After order (with_units (Some list) units) b c d k k1 k2 result → result ≢ Err Memory → Did (told status (why ∷ [])) c d result → Serves (Some order) b d k k2 result
-serves_not_linked order file list units status why b c d k k1 k2 result takes is a ready did =
-    done_quietly order (with_units (Some list) units) b c d k k1 k2 result _ a (λ input. not_linked order list status why (takes.sources (Some list) units) is) did (λ _ memory. absurd (ready memory))
+pub serves_not_linked : (order : Order) (file list : Bytes) (units : List Listed) (status : ℕ) (why : Note) (b c d : Contents) (k k1 k2 : Counts) (e e1 e2 : FileCalls) (result : Result ℕ Stop) → TakesList order file
+    → IsNotLinked list units status why → After order (with_units (Some list) units) b c d k k1 k2 e e1 e2 result → result ≢ Err Memory → Did (told status (why ∷ [])) c d result → e2 ≡ e1 → Serves (Some order) b d k k2 e e2 result
+serves_not_linked order file list units status why b c d k k1 k2 e e1 e2 result takes is a ready did same =
+    done_quietly order (with_units (Some list) units) b c d k k1 k2 e e1 e2 result _ a (λ input. not_linked order list status why (takes.sources (Some list) units) is) did (λ _ memory. absurd (ready memory)) (λ _ _. called_none e1 e2 same)
 
 -- `join` of units that are linked
-pub serves_join : (file to list : Bytes) (units : List Listed) (linked : Linked) (b c d : Contents) (k k1 k2 : Counts) (result : Result ℕ Stop) → IsLinkedBy list units linked
-    → After (join file to) (with_units (Some list) units) b c d k k1 k2 result → KeepsSuch (λ kept. kept ≡ linked.text) to c d result → Serves (Some (join file to)) b d k k2 result
-serves_join file to list units linked b c d k k1 k2 result is a (inl unbegun) = none_done (join file to) (with_units (Some list) units) b c d k k1 k2 result a unbegun
-serves_join file to list units linked b c d k k1 k2 result is a (inr was) =
-    done_quietly (join file to) (with_units (Some list) units) b c d k k1 k2 result _ a (λ input. joins file to list linked refl is)
-    (subst (λ kept. Did (record { status = 0; output = []; notes = []; kept = Some (to, kept); rest = None; running = None }) c d result) was.spelled was.did) (λ _ memory. absurd (was.ready memory))
+pub serves_join : (file to list : Bytes) (units : List Listed) (linked : Linked) (b c d : Contents) (k k1 k2 : Counts) (e e1 e2 : FileCalls) (result : Result ℕ Stop) → IsLinkedBy list units linked
+    → After (join file to) (with_units (Some list) units) b c d k k1 k2 e e1 e2 result → KeepsSuch (λ kept. kept ≡ linked.text) to c d result → Serves (Some (join file to)) b d k k2 e e2 result
+serves_join file to list units linked b c d k k1 k2 e e1 e2 result is a (inl unbegun) = none_done (join file to) (with_units (Some list) units) b c d k k1 k2 e e1 e2 result a unbegun
+serves_join file to list units linked b c d k k1 k2 e e1 e2 result is a (inr was) =
+    done_quietly (join file to) (with_units (Some list) units) b c d k k1 k2 e e1 e2 result _ a (λ input. joins file to list linked refl is)
+    (subst (λ kept. Did (record { status = 0; output = []; notes = []; kept = Some (to, kept); rest = None; running = None }) c d result) was.spelled was.did) (λ _ memory. absurd (was.ready memory)) (λ none. absurd cc)
 
 -- `link` of units whose shapes pass a limit
-pub serves_misshaped : (file to : Bytes) (stack : Option ℕ) (list : Bytes) (units : List Listed) (why : Refusal) (b c d : Contents) (k k1 k2 : Counts) (result : Result ℕ Stop) → PassesShapes list units why
-    → After (link file to stack) (with_units (Some list) units) b c d k k1 k2 result → result ≢ Err Memory → Did (told 2 (note.Refused why ∷ [])) c d result → Serves (Some (link file to stack)) b d k k2 result
-serves_misshaped file to stack list units why b c d k k1 k2 result is a ready did =
-    done_quietly (link file to stack) (with_units (Some list) units) b c d k k1 k2 result _ a (λ input. misshapes file to stack list why refl is) did (λ _ memory. absurd (ready memory))
+pub serves_misshaped : (file to : Bytes) (stack : Option ℕ) (list : Bytes) (units : List Listed) (why : Refusal) (b c d : Contents) (k k1 k2 : Counts) (e e1 e2 : FileCalls) (result : Result ℕ Stop) → PassesShapes list units why
+    → After (link file to stack) (with_units (Some list) units) b c d k k1 k2 e e1 e2 result → result ≢ Err Memory → Did (told 2 (note.Refused why ∷ [])) c d result → e2 ≡ e1 → Serves (Some (link file to stack)) b d k k2 e e2 result
+serves_misshaped file to stack list units why b c d k k1 k2 e e1 e2 result is a ready did same =
+    done_quietly (link file to stack) (with_units (Some list) units) b c d k k1 k2 e e1 e2 result _ a (λ input. misshapes file to stack list why refl is) did (λ _ memory. absurd (ready memory)) (λ _ _. called_none e1 e2 same)
 
 -- `link` of units
-pub serves_link : (file to : Bytes) (stack : Option ℕ) (list : Bytes) (units : List Listed) (linked : Linked) (program : Program) (b c d : Contents) (k k1 k2 : Counts) (result : Result ℕ Stop) → IsLinkedBy list units linked
-    → program.phrase ≡ linked.phrase → program.derivation ≡ linked.derivation → IsBuildable program → After (link file to stack) (with_units (Some list) units) b c d k k1 k2 result
-    → Builds program (stack_wanted stack) to c d result → Serves (Some (link file to stack)) b d k k2 result
-serves_link file to stack list units linked program b c d k k1 k2 result is phrase by buildable a (inl unbegun) = none_done (link file to stack) (with_units (Some list) units) b c d k k1 k2 result a unbegun
-serves_link file to stack list units linked program b c d k k1 k2 result is phrase by buildable a (inr has) = kept has.keeps
+pub serves_link : (file to : Bytes) (stack : Option ℕ) (list : Bytes) (units : List Listed) (linked : Linked) (program : Program) (b c d : Contents) (k k1 k2 : Counts) (e e1 e2 : FileCalls) (result : Result ℕ Stop) → IsLinkedBy list units linked
+    → program.phrase ≡ linked.phrase → program.derivation ≡ linked.derivation → IsBuildable program → After (link file to stack) (with_units (Some list) units) b c d k k1 k2 e e1 e2 result
+    → Builds program (stack_wanted stack) to c d result → Serves (Some (link file to stack)) b d k k2 e e2 result
+serves_link file to stack list units linked program b c d k k1 k2 e e1 e2 result is phrase by buildable a (inl unbegun) = none_done (link file to stack) (with_units (Some list) units) b c d k k1 k2 e e1 e2 result a unbegun
+serves_link file to stack list units linked program b c d k k1 k2 e e1 e2 result is phrase by buildable a (inr has) = kept has.keeps
   where
     order : Order
     order = link file to stack
 
-    kept : Keeps has.image to c d result → Serves (Some order) b d k k2 result
-    kept (inl unbegun) = none_done order (with_units (Some list) units) b c d k k1 k2 result a unbegun
+    kept : Keeps has.image to c d result → Serves (Some order) b d k k2 e e2 result
+    kept (inl unbegun) = none_done order (with_units (Some list) units) b c d k k1 k2 e e1 e2 result a unbegun
     kept (inr was) =
         let image = subst (λ d. IsImageBy (reads linked.phrase) d (stack_wanted stack) has.image) (ap plain_derivation by)
         (subst (λ p. IsImageBy p (plain_derivation program.derivation) (stack_wanted stack) has.image) (ap reads phrase) (by_image program (stack_wanted stack) has.image buildable has.is)) in
-        done_quietly order (with_units (Some list) units) b c d k k1 k2 result _ a (λ input. links file to stack list linked has.image was.bytes refl is image was.spelled) was.did (λ _ memory. absurd (was.ready memory))
+        done_quietly order (with_units (Some list) units) b c d k k1 k2 e e1 e2 result _ a (λ input. links file to stack list linked has.image was.bytes refl is image was.spelled) was.did (λ _ memory. absurd (was.ready memory)) (λ none. absurd cc)

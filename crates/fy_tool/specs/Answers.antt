@@ -1,15 +1,15 @@
 -- How a call answers: all that is due was done, or the outside failed, or memory was wanting.
-use Rattle.std.specs.Prelude.{◌≡◌, ◌≢◌, ℕ, List, [], ◌∷◌, ◌++◌, ◌⊎◌, take, IfOk}
+use Rattle.std.specs.Prelude.{◌≡◌, ◌≢◌, ℕ, List, [], ◌∷◌, ◌++◌, ◌⊎◌, length, take, IfOk}
 use Rattle.std.specs.Option.{ForSome}
 use Rattle.std.specs.declared.option.Option.{Option}
 use Rattle.std.specs.declared.option.Option.TheVariants.{Some, None}
 use Rattle.std.specs.declared.result.Result.{Result}
 use Rattle.std.specs.declared.result.Result.TheVariants.{Ok, Err}
-use Rattle.fy_base.specs.Outside.{Bytes, Folder, Rose, Gained, GainedPart, IsPrefix, appended}
+use Rattle.fy_base.specs.Outside.{Bytes, FileCalls, Folder, Rose, Gained, GainedPart, IsPrefix, appended}
 use Rattle.fy_build.specs.Headline.{AreBytes}
 use Rattle.fy_words.specs.Order.{Order}
 use Rattle.fy_world.specs.World.{Contents, Counts, Later}
-use Rattle.fy_world.specs.Counted.{Caused, OthersStand, Counted}
+use Rattle.fy_world.specs.Counted.{Caused, OthersStand, Counted, HasCalled}
 use Rattle.fy_world.specs.Note.{texts, ended_lines}
 use Rattle.fy_world.specs.Runs.{Due}
 use Rattle.fy_world.specs.Did.{Did, IsOwn, FilesPart, InputPart, IsUnread, IsUnput, after_all}
@@ -17,7 +17,7 @@ use Rattle.fy_world.specs.declared.note.Note.TheVariants as note
 use Rattle.fy_world.specs.declared.world.Stop.{Stop}
 use Rattle.fy_world.specs.declared.world.Stop.TheVariants.{Fetch, Keep, Input, Output, Notes, Memory}
 use Rattle.fy_tool.specs.Due.{IsDue, Sources, TellsSources, reads_of, keeps_of, IsReadyFirst, RunsImage}
-use Rattle.fy_tool.specs.Fetched.{IsUnfetched}
+use Rattle.fy_tool.specs.Fetched.{AreDue, IsUnfetched}
 
 -- what a call reads, keeps, and asks of what is told
 abbrev pub all_reads_of : Option Order → Sources → List Bytes
@@ -27,6 +27,10 @@ all_reads_of (Some order) sources = reads_of order sources
 abbrev pub all_keeps_of : Option Order → List Bytes
 all_keeps_of None = []
 all_keeps_of (Some order) = keeps_of order
+
+abbrev pub AreAllDue : Option Order → Sources → List Bytes → Type 0
+AreAllDue None sources names = names ≡ []
+AreAllDue (Some order) sources names = AreDue order sources names
 
 abbrev pub TellsAll : Option Order → Option Folder → Sources → Type 0
 TellsAll None files sources = Unit {0}
@@ -50,13 +54,21 @@ pub record Explains (order : Option Order) (files : Option Folder) (left : Optio
   pub bytes : AllRunsImage order → ForSome left AreBytes → AreBytes input
   pub is_due : IsDue sources input order due
 
+-- `fetch` was called at most once for each of some files that are due one after another, and `keep` for each that the order keeps; where none is due to be kept it wasn't called, but where memory was wanting
+pub record Called (order : Option Order) (sources : Sources) (due : Due) (Wanting : Type 0) (before now : FileCalls) : Type 0 where
+  pub names : List Bytes
+  pub are : AreAllDue order sources names
+  pub called : HasCalled (length names) (length (all_keeps_of order)) before now
+  pub unkept : due.kept ≡ None → ¬ Wanting → HasCalled (length names) 0 before now
+
 -- the work of an order, or of none
-pub record Serves (order : Option Order) (before now : Contents) (counts counts' : Counts) (result : Result ℕ Stop) : Type 0 where
+pub record Serves (order : Option Order) (before now : Contents) (counts counts' : Counts) (calls calls' : FileCalls) (result : Result ℕ Stop) : Type 0 where
   pub own : IfOk result IsOwn
   pub due : Due
   pub explained : Explains order before.files before.input due
   pub counted : Counted (all_reads_of order explained.sources) (all_keeps_of order) counts counts' result
   pub fetched : result ≡ Err Fetch → IsUnfetched order explained.sources due counts counts'
+  pub called : Called order explained.sources due (result ≡ Err Memory) calls calls'
   pub did : Did due before now result
   pub ready : IsAllReadyFirst order → result ≡ Err Memory → now ≡ before
 
@@ -99,12 +111,13 @@ pub record NotesPart (due : Due) (stop : Stop) (before now : Option Bytes) (coun
   pub begins : IsPrefix first (ended_lines due.notes) ⊎ ((count : ℕ) × IsPrefix first (ended_lines (take count due.notes) ++ last_line Memory))
   pub ends : IsLastLine second stop counts counts'
 
--- status 7: a part of what is due was done; where a file wasn't kept, nothing else but the last line; where the input or the output failed, a run was stopped where it reads, or puts
+-- status 7: a part of what is due was done; where a file wasn't kept, one is due, and nothing else was done but the last line; where the input or the output failed, a run was stopped where it reads, or puts
 pub record IsOutside (due : Due) (before now : Contents) (counts counts' : Counts) (stop : Stop) : Type 0 where
   pub files : FilesPart due.kept stop before.files now.files
   pub input : InputPart due.running before.input now.input
   pub output : GainedPart before.output now.output due.output
   pub notes : NotesPart due stop before.notes now.notes counts counts'
+  pub due_kept : stop ≡ Keep → due.kept ≢ None
   pub unkept : stop ≡ Keep → now ≡ record before { files = now.files; notes = appended before.notes notes.second }
   pub unread : stop ≡ Input → IsUnread due.running due.kept before now notes.second
   pub unput : stop ≡ Output → IsUnput due.running due before now notes.second
@@ -117,19 +130,31 @@ pub record IsMemory (due : Due) (before now : Contents) : Type 0 where
   pub count : ℕ
   pub notes : Gained before.notes now.notes (ended_lines (take count due.notes) ++ last_line Memory)
 
+-- memory was wanting, and that wasn't told: no file changed, and where all memory is taken first nothing was done
+pub record IsLost (order : Option Order) (before now : Contents) : Type 0 where
+  pub files : now.files ≡ before.files
+  pub ready : IsAllReadyFirst order → now ≡ record before { notes = now.notes }
+
+-- memory may have been wanting: that is told, or notes failed
+abbrev pub MayWant : ℕ → Stop → Type 0
+MayWant status stop = (status ≡ 9) ⊎ ((status ≡ 7) × (stop ≡ Notes))
+
 -- How a call answers. With status 7 a count rose that licenses it, and all others but that of notes are as before; with
 -- another no count rose, and with another but 9 all that is due was done, and nothing else.
-pub record Answers (order : Option Order) (before now : Contents) (counts counts' : Counts) (status : ℕ) : Type 0 where
+pub record Answers (order : Option Order) (before now : Contents) (counts counts' : Counts) (calls calls' : FileCalls) (status : ℕ) : Type 0 where
   pub due : Due
   pub explained : Explains order before.files before.input due
   pub stop : Stop
   pub caused : status ≡ 7 → (stop ≢ Memory) × Caused (all_reads_of order explained.sources) (all_keeps_of order) stop counts counts'
   -- where a fetch failed, it was due, and nothing was done but the last line
   pub fetched : status ≡ 7 → stop ≡ Fetch → IsUnfetched order explained.sources due counts counts'
+  pub called : Called order explained.sources due (MayWant status stop) calls calls'
   pub others : status ≡ 7 → OthersStand stop counts (record counts' { notes = counts.notes })
   pub quiet : status ≢ 7 → counts' ≡ counts
   pub due_done : status ≢ 7 → status ≢ 9 → (status ≡ due.status) × (now ≡ after_all due before)
   pub outside : status ≡ 7 → IsOutside due before now counts counts' stop
+  -- where notes failed, some are due, or memory was wanting
+  pub untold : status ≡ 7 → stop ≡ Notes → (due.notes ≢ []) ⊎ IsLost order before now
   pub memory : status ≡ 9 → IsMemory due before now
   -- where all memory is taken first, none of it was wanting once anything was taken, kept, put or told
   pub ready : IsAllReadyFirst order → status ≡ 9 → now ≡ record before { notes = appended before.notes (last_line Memory) }

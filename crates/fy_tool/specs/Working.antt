@@ -1,11 +1,11 @@
 -- What the parts of a command's work did with texts, derivations and the images of programs.
 use Rattle.std.specs.Borrow.{Bor}
-use Rattle.std.specs.Prelude.{◌≡◌, ◌≢◌, ◌⊎◌, ℕ, ◌<◌, ◌≤◌, List, [], ◌∷◌, ◌++◌, length, map, All, IsUtf8, Some, None, Ok, Err, MatchOption, MatchResult, IfOk}
+use Rattle.std.specs.Prelude.{◌≡◌, ◌≢◌, ◌⊎◌, ℕ, ◌+◌, ◌<◌, ◌≤◌, List, [], ◌∷◌, ◌++◌, length, map, All, IsUtf8, Some, None, Ok, Err, MatchOption, MatchResult, IfOk}
 use Rattle.std.specs.declared.alloc.Global.{Global}
 use Rattle.std.specs.declared.option.Option.{Option}
 use Rattle.std.specs.declared.result.Result.{Result}
 use Rattle.std.specs.declared.vec.Vec.{Vec}
-use Rattle.fy_base.specs.Outside.{Bytes, Folder, Rose, Tells}
+use Rattle.fy_base.specs.Outside.{Bytes, FileCalls, Folder, Rose, Tells}
 use Rattle.fy_phrase.specs.Tree.{Tree}
 use Rattle.fy_phrase.specs.Reads.{reads}
 use Rattle.fy_phrase.specs.Sizes.{depth}
@@ -51,7 +51,7 @@ use Rattle.fy_link.specs.declared.linking.Linked.{Linked}
 use Rattle.fy_link.specs.declared.unit.Unit.{Unit as UnitValue}
 use Rattle.fy_sample.specs.Sample.{sample_text}
 use Rattle.fy_world.specs.World.{Contents, Counts}
-use Rattle.fy_world.specs.Counted.{Faulted}
+use Rattle.fy_world.specs.Counted.{Faulted, HasCalled, IsReadStop}
 use Rattle.fy_world.specs.Note.{read_note, refusal_note, elf_note}
 use Rattle.fy_world.specs.Stepping.{HasStepped}
 use Rattle.fy_world.specs.Did.{Did}
@@ -59,10 +59,11 @@ use Rattle.fy_world.specs.Working.{IsUnbegun, Keeps, KeepsAndRuns, KeepsAndSampl
 use Rattle.fy_world.specs.declared.note.Note.{Note}
 use Rattle.fy_world.specs.declared.refusal.Refusal.{Refusal}
 use Rattle.fy_world.specs.declared.world.Stop.{Stop}
-use Rattle.fy_world.specs.declared.world.Stop.TheVariants.{Fetch, Input}
+use Rattle.fy_world.specs.declared.world.Stop.TheVariants.{Fetch}
 use Rattle.fy_tool.specs.Checked.{IsProgramText, IsRefusedFor, HasNames, told_as, shapes_refusal}
 use Rattle.fy_tool.specs.Given.{IsGiven, IsTurnedDown}
 use Rattle.fy_tool.specs.Due.{IsRightCode, TellsNamed, AreListed, AreTold}
+use Rattle.fy_tool.specs.Fetched.{HasFetched, LastRose}
 use Rattle.fy_tool.specs.Units.{most_unit, Listed, names_of, ListsUnits, ListsNone, IsUnitOfText, IsNoUnit, AreUnitsRead, IsBadObject, IsLinkedBy, IsNotLinked, link_note}
 use Rattle.fy_tool.specs.declared.texts.Core.{Core}
 use Rattle.fy_tool.specs.declared.texts.Program.{Program}
@@ -136,21 +137,23 @@ abbrev pub Checks : Bytes → Option Folder → Result (Result Program Refusal) 
 Checks file files result = IfOk result (λ found. (text : Bytes) × Tells files file (Some text) × MatchResult found (IsOfText text) (IsRefusedFor text))
 
 -- a text that was checked, and the derivation that is named for it
-pub record WasGiven (file : Bytes) (named : Option Bytes) (files : Option Folder) (found : Result Program TurnedDown) : Type 0 where
+pub record WasGiven (file : Bytes) (named : Option Bytes) (files : Option Folder) (calls calls' : FileCalls) (found : Result Program TurnedDown) : Type 0 where
   pub text : Bytes
   pub told : Tells files file (Some text)
   pub written : Option Bytes
   pub told_named : TellsNamed files named written
+  pub called : HasFetched (Some file) named (Some text) [] calls calls'
   pub is : MatchResult found (IsGivenFor text named written) (IsDown text named written)
 
-abbrev pub ChecksGiven : Bytes → Option Bytes → Option Folder → Result (Result Program TurnedDown) Stop → Type 0
-ChecksGiven file named files result = IfOk result (WasGiven file named files)
+abbrev pub ChecksGiven : Bytes → Option Bytes → Option Folder → FileCalls → FileCalls → Result (Result Program TurnedDown) Stop → Type 0
+ChecksGiven file named files calls calls' result = IfOk result (WasGiven file named files calls calls')
 
--- the file of a text wasn't fetched, or, behind a text with a core phrase, that of the derivation
-pub data IsUngiven (file : Bytes) (named : Option Bytes) (files : Option Folder) (before now : Counts) : Type 0 where
-  no_text : Rose (before.fetches file) (now.fetches file) → IsUngiven file named files before now
-  no_derivation : (name text : Bytes) (p : Tree) → named ≡ Some name → Tells files file (Some text) → IsJudged text (Ok p) → Rose (before.fetches name) (now.fetches name)
-      → IsUngiven file named files before now
+-- work on a text and on the derivation that is named for it was stopped: a file wasn't fetched, that of the derivation behind a text with a core phrase, or memory was wanting
+pub record WasUngiven (file : Bytes) (named : Option Bytes) (files : Option Folder) (before now : Counts) (calls calls' : FileCalls) (stop : Stop) : Type 0 where
+  pub text : Option Bytes
+  pub told : Tells files file text
+  pub called : HasFetched (Some file) named text [] calls calls'
+  pub fetched : stop ≡ Fetch → LastRose (Some file) named text [] before now
 
 -- a sample program, or why its text is none
 abbrev pub IsSampleOf : ℕ → ℕ → Result Program Refusal → Type 0
@@ -297,11 +300,22 @@ pub record HasUnfetched (units : List Listed) (before now : Counts) : Type 0 whe
   pub hold : AreUnitsRead read values names
   pub rose : Rose (before.fetches unit.name) (now.fetches unit.name)
 
+-- `fetch` was called for none of these files, or at most once for each of those that hold units and one behind them
+pub data HasReadTo (units : List Listed) (before now : FileCalls) : Type 0 where
+  no_unit : HasCalled 0 0 before now → HasReadTo units before now
+  up_to : (read : List Listed) (unit : Listed) (behind : List Listed) (values : List UnitValue) (names : List Bytes) → units ≡ read ++ unit ∷ behind → AreUnitsRead read values names
+      → HasCalled (length read + 1) 0 before now → HasReadTo units before now
+
+-- it was called at most once for each file that holds a unit, and for the one that holds none
+abbrev pub CallsObjects : FileCalls → FileCalls → Result (Result Objects ℕ) Stop → Type 0
+CallsObjects before now result = IfOk result (λ found. MatchResult found (λ objects. HasCalled (length objects.units) 0 before now) (λ j. HasCalled (j + 1) 0 before now))
+
 -- reading the files with these names was stopped
-pub record StopsObjects (names : List Bytes) (files : Option Folder) (before now : Counts) (stop : Stop) : Type 0 where
+pub record StopsObjects (names : List Bytes) (files : Option Folder) (before now : Counts) (calls calls' : FileCalls) (stop : Stop) : Type 0 where
   pub units : List Listed
   pub named : names_of units ≡ names
   pub told : AreTold files units
+  pub called : HasReadTo units calls calls'
   pub fetched : stop ≡ Fetch → HasUnfetched units before now
 
 -- units put together, or why they aren't linked
@@ -311,30 +325,32 @@ IsLinkedFrom objects found =
     (λ down. (error : LinkError) × IsUnlinked objects.names objects.units error × (link_note error ≡ Some (down.status, down.note)))
 
 -- the units on the list in a file put together, or why they aren't linked
-pub record WasLinked (file : Bytes) (files : Option Folder) (found : Result Together TurnedDown) : Type 0 where
+pub record WasLinked (file : Bytes) (files : Option Folder) (calls calls' : FileCalls) (found : Result Together TurnedDown) : Type 0 where
   pub list : Bytes
   pub told : Tells files file (Some list)
   pub units : List Listed
   pub listed : AreListed (Some list) units
   pub units_told : AreTold files units
+  pub called : HasFetched (Some file) None None units calls calls'
   pub is : MatchResult found (λ together. IsLinkedBy list units together.linked) (λ down. IsNotLinked list units down.status down.note)
 
-abbrev pub LinksList : Bytes → Option Folder → Result (Result Together TurnedDown) Stop → Type 0
-LinksList file files result = IfOk result (WasLinked file files)
+abbrev pub LinksList : Bytes → Option Folder → FileCalls → FileCalls → Result (Result Together TurnedDown) Stop → Type 0
+LinksList file files calls calls' result = IfOk result (WasLinked file files calls calls')
 
 -- work on the units on the list in a file was stopped: a count of `fetch` of the list's name, or of one on it, rose, or memory was wanting
-pub record WasUnlisted (file : Bytes) (files : Option Folder) (before now : Counts) (stop : Stop) : Type 0 where
+pub record WasUnlisted (file : Bytes) (files : Option Folder) (before now : Counts) (calls calls' : FileCalls) (stop : Stop) : Type 0 where
   pub list : Option Bytes
   pub told : Tells files file list
   pub units : List Listed
   pub listed : AreListed list units
   pub units_told : AreTold files units
   pub faulted : Faulted (names_of units ++ file ∷ []) [] stop before now
-  pub other : stop ≢ Input
-  pub fetched : stop ≡ Fetch → Rose (before.fetches file) (now.fetches file) ⊎ HasUnfetched units before now
+  pub other : IsReadStop stop
+  pub called : HasFetched (Some file) None None units calls calls'
+  pub fetched : stop ≡ Fetch → LastRose (Some file) None None units before now
 
-abbrev pub CountsList : Bytes → Option Folder → Counts → Counts → Result (Result Together TurnedDown) Stop → Type 0
-CountsList file files before now result = MatchResult result (λ _. now ≡ before) (WasUnlisted file files before now)
+abbrev pub CountsList : Bytes → Option Folder → Counts → Counts → FileCalls → FileCalls → Result (Result Together TurnedDown) Stop → Type 0
+CountsList file files before now calls calls' result = MatchResult result (λ _. now ≡ before) (WasUnlisted file files before now calls calls')
 
 abbrev pub IsSomeLinked : Linked → Type 0
 IsSomeLinked linked = (names : List Bytes) × (values : List UnitValue) × IsLinked names values linked

@@ -1,6 +1,6 @@
 //! Images that are judged without their source.
 
-ghost use Rattle.std.specs.Prelude.{◌≡◌, ◌≢◌, [], Some, Err, IfOk};
+ghost use Rattle.std.specs.Prelude.{◌≡◌, [], Some, Err, IfOk};
 ghost use Rattle.fy_image.specs.Ranges.{IsImage};
 ghost use Rattle.fy_words.specs.Order.{audit};
 ghost use Rattle.fy_world.specs.Did.{IsOwn};
@@ -22,6 +22,7 @@ fn audit_image<W: World>(alloc: Global, image: &Image, world: &mut W) -> Result<
     ensures counted { Counted [] [] (W.counts world.old) (W.counts world.new) result }
     ensures ready { result ≡ Err Stop.Memory → W.holds world.new ≡ W.holds world.old }
     ensures same { W.names world.new ≡ W.names world.old }
+    ensures called { W.calls world.new ≡ W.calls world.old }
 {
     match audit(alloc, image) {
         Ok(()) => write(b"audited\n", world),
@@ -32,7 +33,7 @@ fn audit_image<W: World>(alloc: Global, image: &Image, world: &mut W) -> Result<
 
 /// Judges the image in a file.
 pub(crate) fn audit_file<W: World>(alloc: Global, name: &str, world: &mut W) -> Result<u8, Stop>
-    ensures serves { Serves (Some (audit name.now)) (W.holds world.old) (W.holds world.new) (W.counts world.old) (W.counts world.new) result }
+    ensures serves { Serves (Some (audit name.now)) (W.holds world.old) (W.holds world.new) (W.counts world.old) (W.counts world.new) (W.calls world.old) (W.calls world.new) result }
     ensures same { W.names world.new ≡ W.names world.old }
 {
     match image_in(alloc, name, world) {

@@ -5,7 +5,7 @@ ghost use Rattle.std.specs.Option.{option_map};
 ghost use Rattle.fy_build.specs.Building.{IsStackSize};
 ghost use Rattle.fy_image.specs.Ranges.{IsImage};
 ghost use Rattle.fy_words.specs.Order.{IsStackInRange, build};
-ghost use Rattle.fy_world.specs.Counted.{Counted};
+ghost use Rattle.fy_world.specs.Counted.{Counted, HasCalled};
 ghost use Rattle.fy_world.specs.Did.{IsOwn};
 ghost use Rattle.fy_tool.specs.Answers.{Serves};
 ghost use Rattle.fy_tool.specs.Working.{Builds, IsBuildable, IsImageFor};
@@ -47,6 +47,7 @@ pub(crate) fn build_program<W: World>(
     ensures own { IfOk result IsOwn }
     ensures counted { Counted [] (name.now ∷ []) (W.counts world.old) (W.counts world.new) result }
     ensures same { W.names world.new ≡ W.names world.old }
+    ensures called { HasCalled 0 1 (W.calls world.old) (W.calls world.new) }
 {
     let image = match image_for(alloc, program, stack_words) {
         Ok(image) => image,
@@ -66,7 +67,7 @@ pub(crate) fn build_file<W: World>(
     world: &mut W,
 ) -> Result<u8, Stop>
     requires { IsStackInRange stack }
-    ensures serves { Serves (Some (build file.now name.now stack (option_map (λ name. name.now) derivation.entry))) (W.holds world.old) (W.holds world.new) (W.counts world.old) (W.counts world.new) result }
+    ensures serves { Serves (Some (build file.now name.now stack (option_map (λ name. name.now) derivation.entry))) (W.holds world.old) (W.holds world.new) (W.counts world.old) (W.counts world.new) (W.calls world.old) (W.calls world.new) result }
     ensures same { W.names world.new ≡ W.names world.old }
 {
     match given_in(alloc, file, derivation, world) {

@@ -10,7 +10,7 @@ use std::alloc::Global;
 
 /// Checks the text in a file.
 pub(crate) fn check_file<W: World>(alloc: Global, file: &str, world: &mut W) -> Result<u8, Stop>
-    ensures serves { Serves (Some (check file.now)) (W.holds world.old) (W.holds world.new) (W.counts world.old) (W.counts world.new) result }
+    ensures serves { Serves (Some (check file.now)) (W.holds world.old) (W.holds world.new) (W.counts world.old) (W.counts world.new) (W.calls world.old) (W.calls world.new) result }
     ensures same { W.names world.new ≡ W.names world.old }
 {
     match program_in(alloc, file, world) {

@@ -17,7 +17,7 @@ pub(crate) fn copy_file<W: World>(
     world: &mut W,
 ) -> Result<u8, Stop>
     requires { copy_wanted steps ≤ 1000000000 }
-    ensures serves { Serves (Some (copy file.now steps)) (W.holds world.old) (W.holds world.new) (W.counts world.old) (W.counts world.new) result }
+    ensures serves { Serves (Some (copy file.now steps)) (W.holds world.old) (W.holds world.new) (W.counts world.old) (W.counts world.new) (W.calls world.old) (W.calls world.new) result }
     ensures same { W.names world.new ≡ W.names world.old }
 {
     match program_in(alloc, file, world) {

@@ -30,6 +30,7 @@ fn write_derivation<W: World>(
     ensures counted { Counted [] [] (W.counts world.old) (W.counts world.new) result }
     ensures ready { result ≡ Err Stop.Memory → W.holds world.new ≡ W.holds world.old }
     ensures same { W.names world.new ≡ W.names world.old }
+    ensures called { W.calls world.new ≡ W.calls world.old }
 {
     match print_derivation(alloc, names, derivation) {
         Ok(text) => write(text.as_slice(), world),
@@ -39,7 +40,7 @@ fn write_derivation<W: World>(
 
 /// Writes a derivation of the text in a file.
 pub(crate) fn derive_file<W: World>(alloc: Global, file: &str, world: &mut W) -> Result<u8, Stop>
-    ensures serves { Serves (Some (derive file.now)) (W.holds world.old) (W.holds world.new) (W.counts world.old) (W.counts world.new) result }
+    ensures serves { Serves (Some (derive file.now)) (W.holds world.old) (W.holds world.new) (W.counts world.old) (W.counts world.new) (W.calls world.old) (W.calls world.new) result }
     ensures same { W.names world.new ≡ W.names world.old }
 {
     match program_in(alloc, file, world) {

@@ -1,8 +1,9 @@
 //! `elf` and `unelf`: images as ELF files.
 
-ghost use Rattle.std.specs.Prelude.{◌≡◌, ◌≢◌, [], ◌∷◌, Some, IfErr};
+ghost use Rattle.std.specs.Prelude.{◌≡◌, [], ◌∷◌, Some, IfErr};
+ghost use Rattle.fy_base.specs.Outside.{once_fetched};
 ghost use Rattle.fy_words.specs.Order.{elf, unelf};
-ghost use Rattle.fy_world.specs.Counted.{Counted};
+ghost use Rattle.fy_world.specs.Counted.{Counted, IsReadStop};
 ghost use Rattle.fy_tool.specs.Answers.{Serves};
 ghost use Rattle.fy_tool.specs.Working.{ReadsElf};
 
@@ -17,8 +18,9 @@ fn elf_in<W: World>(alloc: Global, name: &str, world: &mut W) -> Result<Result<I
     ensures holds { W.holds world.new ≡ W.holds world.old }
     ensures read { ReadsElf name.now (W.holds world.old).files result }
     ensures counted { Counted (name.now ∷ []) [] (W.counts world.old) (W.counts world.new) result }
-    ensures input { IfErr result (λ stop. stop ≢ Stop.Input) }
+    ensures input { IfErr result IsReadStop }
     ensures same { W.names world.new ≡ W.names world.old }
+    ensures called { W.calls world.new ≡ once_fetched (W.calls world.old) }
 {
     let Some(bytes) = world.fetch(alloc, name, IMAGE_LIMIT)? else {
         return Ok(Err(Note::ImageLength));
@@ -39,7 +41,7 @@ pub(crate) fn elf_file<W: World>(
     to: &str,
     world: &mut W,
 ) -> Result<u8, Stop>
-    ensures serves { Serves (Some (elf from.now to.now)) (W.holds world.old) (W.holds world.new) (W.counts world.old) (W.counts world.new) result }
+    ensures serves { Serves (Some (elf from.now to.now)) (W.holds world.old) (W.holds world.new) (W.counts world.old) (W.counts world.new) (W.calls world.old) (W.calls world.new) result }
     ensures same { W.names world.new ≡ W.names world.old }
 {
     match image_in(alloc, from, world) {
@@ -56,7 +58,7 @@ pub(crate) fn unelf_file<W: World>(
     to: &str,
     world: &mut W,
 ) -> Result<u8, Stop>
-    ensures serves { Serves (Some (unelf from.now to.now)) (W.holds world.old) (W.holds world.new) (W.counts world.old) (W.counts world.new) result }
+    ensures serves { Serves (Some (unelf from.now to.now)) (W.holds world.old) (W.holds world.new) (W.counts world.old) (W.counts world.new) (W.calls world.old) (W.calls world.new) result }
     ensures same { W.names world.new ≡ W.names world.old }
 {
     match elf_in(alloc, from, world) {

@@ -1,8 +1,9 @@
 //! `exec`: a run of an image.
 
-ghost use Rattle.std.specs.Prelude.{◌≡◌, ◌≢◌, [], ◌∷◌, Some, IfErr};
+ghost use Rattle.std.specs.Prelude.{◌≡◌, [], ◌∷◌, Some, IfErr};
+ghost use Rattle.fy_base.specs.Outside.{once_fetched};
 ghost use Rattle.fy_words.specs.Order.{exec};
-ghost use Rattle.fy_world.specs.Counted.{Counted};
+ghost use Rattle.fy_world.specs.Counted.{Counted, IsReadStop};
 ghost use Rattle.fy_tool.specs.Answers.{Serves};
 ghost use Rattle.fy_tool.specs.Working.{ReadsImage};
 
@@ -23,8 +24,9 @@ pub(crate) fn image_in<W: World>(
     ensures holds { W.holds world.new ≡ W.holds world.old }
     ensures read { ReadsImage name.now (W.holds world.old).files result }
     ensures counted { Counted (name.now ∷ []) [] (W.counts world.old) (W.counts world.new) result }
-    ensures input { IfErr result (λ stop. stop ≢ Stop.Input) }
+    ensures input { IfErr result IsReadStop }
     ensures same { W.names world.new ≡ W.names world.old }
+    ensures called { W.calls world.new ≡ once_fetched (W.calls world.old) }
 {
     let Some(bytes) = world.fetch(alloc, name, IMAGE_LIMIT)? else {
         return Ok(Err(Note::ImageLength));
@@ -46,7 +48,7 @@ pub(crate) fn exec_file<W: World>(
     trace: Option<u32>,
     world: &mut W,
 ) -> Result<u8, Stop>
-    ensures serves { Serves (Some (exec name.now steps trace)) (W.holds world.old) (W.holds world.new) (W.counts world.old) (W.counts world.new) result }
+    ensures serves { Serves (Some (exec name.now steps trace)) (W.holds world.old) (W.holds world.new) (W.counts world.old) (W.counts world.new) (W.calls world.old) (W.calls world.new) result }
     ensures same { W.names world.new ≡ W.names world.old }
 {
     match image_in(alloc, name, world) {

@@ -1,14 +1,14 @@
 //! Derivations that are named, and the programs that they show to be commands.
 
-ghost use Rattle.std.specs.Prelude.{◌≡◌, ◌≢◌, ◌≤◌, [], ◌∷◌, None, Some, length, IfOk, IfErr};
+ghost use Rattle.std.specs.Prelude.{◌≡◌, ◌≤◌, [], ◌∷◌, None, Some, length, IfOk, IfErr};
 ghost use Rattle.std.specs.Option.{option_map, option_to_list};
 ghost use Rattle.fy_derive.specs.Judging.{conclusion_of, refusal};
 ghost use Rattle.fy_derive.specs.Limits.{KeepsLimits};
 ghost use Rattle.fy_derive.specs.Reading.{plain_derivation};
 ghost use Rattle.fy_phrase.specs.Reads.{reads};
 ghost use Rattle.fy_phrase.specs.Sizes.{nodes};
-ghost use Rattle.fy_world.specs.Counted.{Counted};
-ghost use Rattle.fy_tool.specs.Working.{ChecksGiven, GivenBy, IsUngiven, ReadFrom, Tables};
+ghost use Rattle.fy_world.specs.Counted.{Counted, IsReadStop};
+ghost use Rattle.fy_tool.specs.Working.{ChecksGiven, GivenBy, ReadFrom, Tables, WasUngiven};
 
 use crate::refused::shapes_refusal;
 use crate::texts::{Core, Program, core_in, program_in};
@@ -129,10 +129,10 @@ fn named_in<W: World>(
     world: &mut W,
 ) -> Result<Result<Program, TurnedDown>, Stop>
     ensures holds { W.holds world.new ≡ W.holds world.old }
-    ensures given { ChecksGiven file.now (Some name.now) (W.holds world.old).files result }
+    ensures given { ChecksGiven file.now (Some name.now) (W.holds world.old).files (W.calls world.old) (W.calls world.new) result }
     ensures counted { Counted (file.now ∷ name.now ∷ []) [] (W.counts world.old) (W.counts world.new) result }
-    ensures fetched { IfErr result (λ stop. stop ≡ Stop.Fetch → IsUngiven file.now (Some name.now) (W.holds world.old).files (W.counts world.old) (W.counts world.new)) }
-    ensures input { IfErr result (λ stop. stop ≢ Stop.Input) }
+    ensures stopped { IfErr result (WasUngiven file.now (Some name.now) (W.holds world.old).files (W.counts world.old) (W.counts world.new) (W.calls world.old) (W.calls world.new)) }
+    ensures input { IfErr result IsReadStop }
     ensures same { W.names world.new ≡ W.names world.old }
 {
     let core = match core_in(alloc, file, world) {
@@ -165,10 +165,10 @@ fn found_in<W: World>(
     world: &mut W,
 ) -> Result<Result<Program, TurnedDown>, Stop>
     ensures holds { W.holds world.new ≡ W.holds world.old }
-    ensures given { ChecksGiven file.now None (W.holds world.old).files result }
+    ensures given { ChecksGiven file.now None (W.holds world.old).files (W.calls world.old) (W.calls world.new) result }
     ensures counted { Counted (file.now ∷ []) [] (W.counts world.old) (W.counts world.new) result }
-    ensures fetched { IfErr result (λ stop. stop ≡ Stop.Fetch → IsUngiven file.now None (W.holds world.old).files (W.counts world.old) (W.counts world.new)) }
-    ensures input { IfErr result (λ stop. stop ≢ Stop.Input) }
+    ensures stopped { IfErr result (WasUngiven file.now None (W.holds world.old).files (W.counts world.old) (W.counts world.new) (W.calls world.old) (W.calls world.new)) }
+    ensures input { IfErr result IsReadStop }
     ensures same { W.names world.new ≡ W.names world.old }
 {
     match program_in(alloc, file, world) {
@@ -191,10 +191,10 @@ pub(crate) fn given_in<W: World>(
     world: &mut W,
 ) -> Result<Result<Program, TurnedDown>, Stop>
     ensures holds { W.holds world.new ≡ W.holds world.old }
-    ensures given { ChecksGiven file.now (option_map (λ name. name.now) named.entry) (W.holds world.old).files result }
+    ensures given { ChecksGiven file.now (option_map (λ name. name.now) named.entry) (W.holds world.old).files (W.calls world.old) (W.calls world.new) result }
     ensures counted { Counted (file.now ∷ option_to_list (option_map (λ name. name.now) named.entry)) [] (W.counts world.old) (W.counts world.new) result }
-    ensures fetched { IfErr result (λ stop. stop ≡ Stop.Fetch → IsUngiven file.now (option_map (λ name. name.now) named.entry) (W.holds world.old).files (W.counts world.old) (W.counts world.new)) }
-    ensures input { IfErr result (λ stop. stop ≢ Stop.Input) }
+    ensures stopped { IfErr result (WasUngiven file.now (option_map (λ name. name.now) named.entry) (W.holds world.old).files (W.counts world.old) (W.counts world.new) (W.calls world.old) (W.calls world.new)) }
+    ensures input { IfErr result IsReadStop }
     ensures same { W.names world.new ≡ W.names world.old }
 {
     match named {

@@ -1,6 +1,6 @@
 //! `join` and `link`: units put together.
 
-ghost use Rattle.std.specs.Prelude.{◌≡◌, ◌≢◌, ◌≤◌, ◌<◌, [], ◌∷◌, length, All, Some, IfOk, IfErr, MatchResult};
+ghost use Rattle.std.specs.Prelude.{◌≡◌, ◌≤◌, ◌<◌, [], ◌∷◌, length, All, Some, IfOk, IfErr, MatchResult};
 ghost use Rattle.fy_link.specs.Links.{IsLinked};
 ghost use Rattle.fy_link.specs.Units.{IsUnit};
 ghost use Rattle.fy_words.specs.Order.{IsStackInRange, join, link};
@@ -70,8 +70,8 @@ fn linked_in<W: World>(
     world: &mut W,
 ) -> Result<Result<Together, TurnedDown>, Stop>
     ensures holds { W.holds world.new ≡ W.holds world.old }
-    ensures links { LinksList file.now (W.holds world.old).files result }
-    ensures counted { CountsList file.now (W.holds world.old).files (W.counts world.old) (W.counts world.new) result }
+    ensures links { LinksList file.now (W.holds world.old).files (W.calls world.old) (W.calls world.new) result }
+    ensures counted { CountsList file.now (W.holds world.old).files (W.counts world.old) (W.counts world.new) (W.calls world.old) (W.calls world.new) result }
     ensures same { W.names world.new ≡ W.names world.old }
 {
     let bytes = match world.fetch(alloc, file, LIST_LIMIT) {
@@ -117,7 +117,7 @@ pub(crate) fn join_file<W: World>(
     to: &str,
     world: &mut W,
 ) -> Result<u8, Stop>
-    ensures serves { Serves (Some (join file.now to.now)) (W.holds world.old) (W.holds world.new) (W.counts world.old) (W.counts world.new) result }
+    ensures serves { Serves (Some (join file.now to.now)) (W.holds world.old) (W.holds world.new) (W.counts world.old) (W.counts world.new) (W.calls world.old) (W.calls world.new) result }
     ensures same { W.names world.new ≡ W.names world.old }
 {
     match linked_in(alloc, file, world) {
@@ -136,7 +136,7 @@ pub(crate) fn link_file<W: World>(
     world: &mut W,
 ) -> Result<u8, Stop>
     requires { IsStackInRange stack }
-    ensures serves { Serves (Some (link file.now to.now stack)) (W.holds world.old) (W.holds world.new) (W.counts world.old) (W.counts world.new) result }
+    ensures serves { Serves (Some (link file.now to.now stack)) (W.holds world.old) (W.holds world.new) (W.counts world.old) (W.counts world.new) (W.calls world.old) (W.calls world.new) result }
     ensures same { W.names world.new ≡ W.names world.old }
 {
     let together = match linked_in(alloc, file, world) {

@@ -20,6 +20,7 @@ fn list_program<W: World>(alloc: Global, program: &Program, world: &mut W) -> Re
     ensures own { IfOk result IsOwn }
     ensures counted { Counted [] [] (W.counts world.old) (W.counts world.new) result }
     ensures same { W.names world.new ≡ W.names world.old }
+    ensures called { W.calls world.new ≡ W.calls world.old }
 {
     let image = match image_for(alloc, program, STACK_WORDS) {
         Ok(image) => image,
@@ -30,7 +31,7 @@ fn list_program<W: World>(alloc: Global, program: &Program, world: &mut W) -> Re
 
 /// Lists the image of the text in a file.
 pub(crate) fn list_file<W: World>(alloc: Global, file: &str, world: &mut W) -> Result<u8, Stop>
-    ensures serves { Serves (Some (list file.now)) (W.holds world.old) (W.holds world.new) (W.counts world.old) (W.counts world.new) result }
+    ensures serves { Serves (Some (list file.now)) (W.holds world.old) (W.holds world.new) (W.counts world.old) (W.counts world.new) (W.calls world.old) (W.calls world.new) result }
     ensures same { W.names world.new ≡ W.names world.old }
 {
     match program_in(alloc, file, world) {

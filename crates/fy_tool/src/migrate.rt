@@ -15,7 +15,7 @@ pub(crate) fn migrate_file<W: World>(
     to: &str,
     world: &mut W,
 ) -> Result<u8, Stop>
-    ensures serves { Serves (Some (migrate from.now to.now)) (W.holds world.old) (W.holds world.new) (W.counts world.old) (W.counts world.new) result }
+    ensures serves { Serves (Some (migrate from.now to.now)) (W.holds world.old) (W.holds world.new) (W.counts world.old) (W.counts world.new) (W.calls world.old) (W.calls world.new) result }
     ensures same { W.names world.new ≡ W.names world.old }
 {
     match image_in(alloc, from, world) {

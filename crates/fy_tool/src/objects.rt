@@ -1,9 +1,10 @@
 //! Units in files, one after another.
 
-ghost use Rattle.std.specs.Prelude.{◌≡◌, ◌≢◌, ◌≤◌, ◌+◌, [], ◌∷◌, length, map, IfOk, IfErr, OnOk};
+ghost use Rattle.std.specs.Prelude.{◌≡◌, ◌≤◌, ◌+◌, [], ◌∷◌, length, map, IfOk, IfErr, OnOk};
+ghost use Rattle.fy_base.specs.Outside.{once_fetched};
 ghost use Rattle.fy_lexer.specs.Tokens.{HasAdded};
-ghost use Rattle.fy_world.specs.Counted.{Counted};
-ghost use Rattle.fy_tool.specs.Working.{ReadsObject, ReadsObjects, StopsObjects};
+ghost use Rattle.fy_world.specs.Counted.{Counted, IsReadStop};
+ghost use Rattle.fy_tool.specs.Working.{CallsObjects, ReadsObject, ReadsObjects, StopsObjects};
 
 use fy_base::OutOfMemory;
 use fy_link::{Unit, UnitList, UnitReadError, read_unit};
@@ -34,8 +35,9 @@ fn object_in<W: World>(
     ensures names { HasAdded names.old names.new }
     ensures few { length names.new ≤ length names.old + 20000000 }
     ensures counted { Counted (file.now ∷ []) [] (W.counts world.old) (W.counts world.new) result }
-    ensures input { IfErr result (λ stop. stop ≢ Stop.Input) }
+    ensures input { IfErr result IsReadStop }
     ensures same { W.names world.new ≡ W.names world.old }
+    ensures called { W.calls world.new ≡ once_fetched (W.calls world.old) }
 {
     let bytes = match world.fetch(alloc, file, OBJECT_LIMIT) {
         Ok(Some(bytes)) => bytes,
@@ -59,9 +61,10 @@ pub(crate) fn objects_in<W: World>(
     ensures holds { W.holds world.new ≡ W.holds world.old }
     ensures read { IfOk result (ReadsObjects (map (λ file. file.now) files.now) (W.holds world.old).files) }
     ensures counted { Counted (map (λ file. file.now) files.now) [] (W.counts world.old) (W.counts world.new) result }
-    ensures stopped { IfErr result (StopsObjects (map (λ file. file.now) files.now) (W.holds world.old).files (W.counts world.old) (W.counts world.new)) }
-    ensures input { IfErr result (λ stop. stop ≢ Stop.Input) }
+    ensures stopped { IfErr result (StopsObjects (map (λ file. file.now) files.now) (W.holds world.old).files (W.counts world.old) (W.counts world.new) (W.calls world.old) (W.calls world.new)) }
+    ensures input { IfErr result IsReadStop }
     ensures same { W.names world.new ≡ W.names world.old }
+    ensures called { CallsObjects (W.calls world.old) (W.calls world.new) result }
 {
     let mut names = match Names::new(alloc) {
         Ok(names) => names,

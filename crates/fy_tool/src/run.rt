@@ -4,7 +4,7 @@ ghost use Rattle.std.specs.Prelude.{◌≡◌, [], ◌∷◌, ◌++◌, Some, co
 ghost use Rattle.std.specs.Option.{option_map};
 ghost use Rattle.fy_build.specs.Building.{IsStackSize};
 ghost use Rattle.fy_words.specs.Order.{IsStackInRange, run};
-ghost use Rattle.fy_world.specs.Counted.{Counted};
+ghost use Rattle.fy_world.specs.Counted.{Counted, HasCalled};
 ghost use Rattle.fy_world.specs.Did.{IsOwn};
 ghost use Rattle.fy_tool.specs.Answers.{Serves};
 ghost use Rattle.fy_tool.specs.Due.{kept_as};
@@ -33,6 +33,7 @@ fn run_program<W: World>(
     ensures own { IfOk result IsOwn }
     ensures counted { Counted [] (name.now ∷ []) (W.counts world.old) (W.counts world.new) result }
     ensures same { W.names world.new ≡ W.names world.old }
+    ensures called { HasCalled 0 1 (W.calls world.old) (W.calls world.new) }
 {
     let image = match image_for(alloc, program, stack_words) {
         Ok(image) => image,
@@ -54,7 +55,7 @@ fn run_as<W: World>(
 ) -> Result<u8, Stop>
     requires stack { IsStackInRange stack }
     requires name { name.now ≡ kept_as file.now (option_map (λ name. name.now) image) }
-    ensures serves { Serves (Some (run file.now steps stack (option_map (λ name. name.now) derivation.entry) (option_map (λ name. name.now) image.entry))) (W.holds world.old) (W.holds world.new) (W.counts world.old) (W.counts world.new) result }
+    ensures serves { Serves (Some (run file.now steps stack (option_map (λ name. name.now) derivation.entry) (option_map (λ name. name.now) image.entry))) (W.holds world.old) (W.holds world.new) (W.counts world.old) (W.counts world.new) (W.calls world.old) (W.calls world.new) result }
     ensures same { W.names world.new ≡ W.names world.old }
 {
     runs_show_copy_rule();
@@ -95,7 +96,7 @@ pub(crate) fn run_file<W: World>(
     world: &mut W,
 ) -> Result<u8, Stop>
     requires { IsStackInRange stack }
-    ensures serves { Serves (Some (run file.now steps stack (option_map (λ name. name.now) derivation.entry) (option_map (λ name. name.now) image.entry))) (W.holds world.old) (W.holds world.new) (W.counts world.old) (W.counts world.new) result }
+    ensures serves { Serves (Some (run file.now steps stack (option_map (λ name. name.now) derivation.entry) (option_map (λ name. name.now) image.entry))) (W.holds world.old) (W.holds world.new) (W.counts world.old) (W.counts world.new) (W.calls world.old) (W.calls world.new) result }
     ensures same { W.names world.new ≡ W.names world.old }
 {
     match image {

@@ -2,7 +2,7 @@
 
 ghost use Rattle.std.specs.Prelude.{◌≡◌, ◌≤◌, [], ◌∷◌, Some, codes, IfOk, IfErr};
 ghost use Rattle.fy_words.specs.Order.{sample};
-ghost use Rattle.fy_world.specs.Counted.{Counted};
+ghost use Rattle.fy_world.specs.Counted.{Counted, HasCalled};
 ghost use Rattle.fy_world.specs.Did.{IsOwn};
 ghost use Rattle.fy_tool.specs.Answers.{Serves};
 ghost use Rattle.fy_tool.specs.Working.{BuildsAndSamples, IsBuildable, IsSampleOf};
@@ -40,6 +40,7 @@ fn sample_program<W: World>(alloc: Global, program: &Program, world: &mut W) -> 
     ensures own { IfOk result IsOwn }
     ensures counted { Counted [] (codes "sample.img" ∷ []) (W.counts world.old) (W.counts world.new) result }
     ensures same { W.names world.new ≡ W.names world.old }
+    ensures called { HasCalled 0 1 (W.calls world.old) (W.calls world.new) }
 {
     let image = match image_for(alloc, program, STACK_WORDS) {
         Ok(image) => image,
@@ -57,7 +58,7 @@ pub(crate) fn run_sample<W: World>(
     world: &mut W,
 ) -> Result<u8, Stop>
     requires { size ≤ 2000 }
-    ensures serves { Serves (Some (sample number size)) (W.holds world.old) (W.holds world.new) (W.counts world.old) (W.counts world.new) result }
+    ensures serves { Serves (Some (sample number size)) (W.holds world.old) (W.holds world.new) (W.counts world.old) (W.counts world.new) (W.calls world.old) (W.calls world.new) result }
     ensures same { W.names world.new ≡ W.names world.old }
 {
     runs_show_copy_rule();

@@ -25,7 +25,7 @@ use std::alloc::Global;
 /// Does what a command asks for.
 pub(crate) fn serve<W: World>(alloc: Global, command: Command, world: &mut W) -> Result<u8, Stop>
     requires { IsInRange (order_of command) }
-    ensures serves { Serves (Some (order_of command.entry)) (W.holds world.old) (W.holds world.new) (W.counts world.old) (W.counts world.new) result }
+    ensures serves { Serves (Some (order_of command.entry)) (W.holds world.old) (W.holds world.new) (W.counts world.old) (W.counts world.new) (W.calls world.old) (W.calls world.new) result }
     ensures same { W.names world.new ≡ W.names world.old }
 {
     match command {

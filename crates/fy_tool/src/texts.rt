@@ -1,7 +1,8 @@
 //! Texts, and what they stand for.
 
-ghost use Rattle.std.specs.Prelude.{◌≡◌, ◌≢◌, ◌≤◌, [], ◌∷◌, length, Some, IfOk, IfErr, MatchResult};
-ghost use Rattle.fy_world.specs.Counted.{Counted};
+ghost use Rattle.std.specs.Prelude.{◌≡◌, ◌≤◌, [], ◌∷◌, length, Some, IfOk, IfErr, MatchResult};
+ghost use Rattle.fy_base.specs.Outside.{once_fetched};
+ghost use Rattle.fy_world.specs.Counted.{Counted, IsReadStop};
 ghost use Rattle.fy_tool.specs.Checked.{IsRefusedFor};
 ghost use Rattle.fy_tool.specs.Working.{Checks, IsCore, IsOfText, IsUnjudged, ReadsCore};
 
@@ -83,8 +84,9 @@ pub(crate) fn core_in<W: World>(
     ensures holds { W.holds world.new ≡ W.holds world.old }
     ensures read { ReadsCore file.now (W.holds world.old).files result }
     ensures counted { Counted (file.now ∷ []) [] (W.counts world.old) (W.counts world.new) result }
-    ensures input { IfErr result (λ stop. stop ≢ Stop.Input) }
+    ensures input { IfErr result IsReadStop }
     ensures same { W.names world.new ≡ W.names world.old }
+    ensures called { W.calls world.new ≡ once_fetched (W.calls world.old) }
 {
     let Some(text) = world.fetch(alloc, file, TEXT_LIMIT)? else {
         return Ok(Err(Refusal::Length));
@@ -128,8 +130,9 @@ pub(crate) fn program_in<W: World>(
     ensures holds { W.holds world.new ≡ W.holds world.old }
     ensures read { Checks file.now (W.holds world.old).files result }
     ensures counted { Counted (file.now ∷ []) [] (W.counts world.old) (W.counts world.new) result }
-    ensures input { IfErr result (λ stop. stop ≢ Stop.Input) }
+    ensures input { IfErr result IsReadStop }
     ensures same { W.names world.new ≡ W.names world.old }
+    ensures called { W.calls world.new ≡ once_fetched (W.calls world.old) }
 {
     let Some(text) = world.fetch(alloc, file, TEXT_LIMIT)? else {
         return Ok(Err(Refusal::Length));

@@ -16,6 +16,7 @@ use std::alloc::Global;
 fn conclude<W: World>(work: Result<u8, Stop>, world: &mut W) -> u8
     ensures concludes { Concludes work (W.holds world.old) (W.holds world.new) (W.counts world.old) (W.counts world.new) result }
     ensures same { W.names world.new ≡ W.names world.old }
+    ensures called { W.calls world.new ≡ W.calls world.old }
 {
     let note = match work {
         Ok(status) => return status,
@@ -38,7 +39,7 @@ fn conclude<W: World>(work: Result<u8, Stop>, world: &mut W) -> u8
 // Answers a command, or words that are none.
 fn answer<W: World>(alloc: Global, command: Option<Command>, world: &mut W) -> u8
     requires { IfSome command (λ command. IsInRange (order_of command)) }
-    ensures answers { Answers (option_map order_of command.entry) (W.holds world.old) (W.holds world.new) (W.counts world.old) (W.counts world.new) result }
+    ensures answers { Answers (option_map order_of command.entry) (W.holds world.old) (W.holds world.new) (W.counts world.old) (W.counts world.new) (W.calls world.old) (W.calls world.new) result }
     ensures same { W.names world.new ≡ W.names world.old }
 {
     match command {
@@ -83,6 +84,7 @@ pub fn forsythe<F: Files, I: Source, O: Sink, N: Sink>(
         (record { files = F.held files.new; input = I.left input.new; output = O.held output.new; notes = N.held notes.new })
         (record { fetches = F.fetch_faults files.old; keeps = F.keep_faults files.old; input = I.faults input.old; output = O.faults output.old; notes = N.faults notes.old })
         (record { fetches = F.fetch_faults files.new; keeps = F.keep_faults files.new; input = I.faults input.new; output = O.faults output.new; notes = N.faults notes.new })
+        (F.calls files.old) (F.calls files.new)
         result }
 {
     let mut outside = Outside {

@@ -42,6 +42,7 @@ fn trace_program<W: World>(
     ensures own { IfOk result IsOwn }
     ensures counted { Counted [] [] (W.counts world.old) (W.counts world.new) result }
     ensures same { W.names world.new ≡ W.names world.old }
+    ensures called { W.calls world.new ≡ W.calls world.old }
 {
     match code_of(alloc, program) {
         Ok(code) => run_stepped(alloc, &code, &program.names, steps, world),
@@ -57,7 +58,7 @@ pub(crate) fn trace_file<W: World>(
     world: &mut W,
 ) -> Result<u8, Stop>
     requires { trace_steps_wanted steps ≤ 1000000 }
-    ensures serves { Serves (Some (trace file.now steps)) (W.holds world.old) (W.holds world.new) (W.counts world.old) (W.counts world.new) result }
+    ensures serves { Serves (Some (trace file.now steps)) (W.holds world.old) (W.holds world.new) (W.counts world.old) (W.counts world.new) (W.calls world.old) (W.calls world.new) result }
     ensures same { W.names world.new ≡ W.names world.old }
 {
     match program_in(alloc, file, world) {

@@ -1,8 +1,9 @@
 //! `unit`: a part of a program that is typed apart.
 
-ghost use Rattle.std.specs.Prelude.{◌≡◌, ◌≢◌, ◌≤◌, [], ◌∷◌, length, Some, IfOk, IfErr, MatchResult};
+ghost use Rattle.std.specs.Prelude.{◌≡◌, ◌≤◌, [], ◌∷◌, length, Some, IfOk, IfErr, MatchResult};
+ghost use Rattle.fy_base.specs.Outside.{once_fetched};
 ghost use Rattle.fy_words.specs.Order.{unit};
-ghost use Rattle.fy_world.specs.Counted.{Counted};
+ghost use Rattle.fy_world.specs.Counted.{Counted, IsReadStop};
 ghost use Rattle.fy_tool.specs.Answers.{Serves};
 ghost use Rattle.fy_tool.specs.Units.{IsNoUnit};
 ghost use Rattle.fy_tool.specs.Working.{AreUnitBytes, Compiles};
@@ -44,8 +45,9 @@ fn unit_in<W: World>(
     ensures holds { W.holds world.new ≡ W.holds world.old }
     ensures compiles { Compiles file.now (W.holds world.old).files result }
     ensures counted { Counted (file.now ∷ []) [] (W.counts world.old) (W.counts world.new) result }
-    ensures input { IfErr result (λ stop. stop ≢ Stop.Input) }
+    ensures input { IfErr result IsReadStop }
     ensures same { W.names world.new ≡ W.names world.old }
+    ensures called { W.calls world.new ≡ once_fetched (W.calls world.old) }
 {
     let Some(text) = world.fetch(alloc, file, TEXT_LIMIT)? else {
         return Ok(Err(Refusal::Length));
@@ -61,7 +63,7 @@ pub(crate) fn unit_file<W: World>(
     to: &str,
     world: &mut W,
 ) -> Result<u8, Stop>
-    ensures serves { Serves (Some (unit file.now to.now)) (W.holds world.old) (W.holds world.new) (W.counts world.old) (W.counts world.new) result }
+    ensures serves { Serves (Some (unit file.now to.now)) (W.holds world.old) (W.holds world.new) (W.counts world.old) (W.counts world.new) (W.calls world.old) (W.calls world.new) result }
     ensures same { W.names world.new ≡ W.names world.old }
 {
     match unit_in(alloc, file, world) {

@@ -1,29 +1,29 @@
 use Rattle.std.proofs.Common.{[], ◌≡◌, subst}
 use Rattle.fy_base.specs.Outside.{Bytes}
 use Rattle.fy_words.specs.Order.{unit}
-use Rattle.fy_world.proofs.Counting.{counted_keeps}
+use Rattle.fy_world.proofs.Counting.{called_fetch, called_same, counted_keeps}
 use Rattle.fy_world.specs.Working.{KeepsSuch}
 use Rattle.fy_tool.specs.Due.{keeps_of}
-use Rattle.fy_tool.proofs.Serving.{after, only, serves_unread, tells}
+use Rattle.fy_tool.proofs.Serving.{after, fetched_file, only, serves_unread, tells}
 use Rattle.fy_tool.proofs.UnitCommands.{serves_no_unit, serves_unit}
 use Rattle.fy_tool.proofs.unit.unit_file.Goals as goal
 
 pub returns-in-Err-clause-serves : goal.returns-in-Err-clause-serves
-returns-in-Err-clause-serves g c = serves_unread (unit c.args.file.now c.args.to.now) _ _ _ _ c.in-Err.stop c.in-Err.ensures.holds c.in-Err.ensures.counted c.in-Err.ensures.input
+returns-in-Err-clause-serves g c = serves_unread (unit c.args.file.now c.args.to.now) _ _ _ _ _ _ c.in-Err.stop c.in-Err.ensures.holds c.in-Err.ensures.counted c.in-Err.ensures.input (called_fetch _ _ c.in-Err.ensures.called)
 
 pub returns-in-Ok-Err-clause-serves : goal.returns-in-Ok-Err-clause-serves
 returns-in-Ok-Err-clause-serves g c =
     let h = rw c.in-Ok-Err.field-0-is at c.in-Ok-Err.ensures.compiles in
     let order = unit c.args.file.now c.args.to.now in
-    serves_no_unit c.args.file.now c.args.to.now h.0 c.in-Ok-Err.why _ _ _ _ _ _ _ h.2
-    (after order (only h.0) _ _ _ _ _ _ _ (tells order _ _ _ h.1 tt) c.in-Ok-Err.ensures.holds c.in-Ok-Err.ensures.counted c.refuse.ensures.own (counted_keeps [] (keeps_of order) _ _ c.refuse.result c.refuse.ensures.counted))
-    c.refuse.ensures.memory c.refuse.ensures.did
+    serves_no_unit c.args.file.now c.args.to.now h.0 c.in-Ok-Err.why _ _ _ _ _ _ _ _ _ _ h.2
+    (after order (only h.0) _ _ _ _ _ _ _ _ _ _ (tells order _ _ _ h.1 tt) c.in-Ok-Err.ensures.holds c.in-Ok-Err.ensures.counted (fetched_file order (only h.0) _ _ (called_fetch _ _ c.in-Ok-Err.ensures.called)) c.refuse.ensures.own (counted_keeps [] (keeps_of order) _ _ c.refuse.result c.refuse.ensures.counted) (called_same 0 _ _ _ c.refuse.ensures.called))
+    c.refuse.ensures.memory c.refuse.ensures.did c.refuse.ensures.called
 
 pub returns-in-Ok-Ok-clause-serves : goal.returns-in-Ok-Ok-clause-serves
 returns-in-Ok-Ok-clause-serves g c =
     let h = rw c.in-Ok-Ok.field-0-is at c.in-Ok-Ok.ensures.compiles in
     let order = unit c.args.file.now c.args.to.now in
     let holds = g.W.World.holds in
-    serves_unit c.args.file.now c.args.to.now h.0 c.in-Ok-Ok.bytes.items _ _ _ _ _ _ _ h.2
-    (after order (only h.0) _ _ _ _ _ _ _ (tells order _ _ _ h.1 tt) c.in-Ok-Ok.ensures.holds c.in-Ok-Ok.ensures.counted c.keep_bytes.ensures.own c.keep_bytes.ensures.counted)
+    serves_unit c.args.file.now c.args.to.now h.0 c.in-Ok-Ok.bytes.items _ _ _ _ _ _ _ _ _ _ h.2
+    (after order (only h.0) _ _ _ _ _ _ _ _ _ _ (tells order _ _ _ h.1 tt) c.in-Ok-Ok.ensures.holds c.in-Ok-Ok.ensures.counted (fetched_file order (only h.0) _ _ (called_fetch _ _ c.in-Ok-Ok.ensures.called)) c.keep_bytes.ensures.own c.keep_bytes.ensures.counted c.keep_bytes.ensures.called)
     (subst (λ (bytes : Bytes). KeepsSuch (λ kept. kept ≡ bytes) c.args.to.now (holds c.unit_in.new.world) (holds c.keep_bytes.new.world) c.keep_bytes.result) c.as_slice.ensures.value c.keep_bytes.ensures.keeps)
