@@ -1,4 +1,4 @@
-//! Tests of images, instructions, code and the machines, through the public calls of their crates.
+//! Tests of instructions, code and the machines, through the public calls of their crates.
 #![tactic(auto)]
 
 #[cfg(test)]

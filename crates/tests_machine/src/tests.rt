@@ -1,7 +1,5 @@
 mod assembly;
 mod code;
-mod elf;
-mod image;
 mod insn;
 mod machine;
 mod made;

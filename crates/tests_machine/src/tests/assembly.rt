@@ -6,7 +6,6 @@ use rv_insn::{BranchOp, ImmOp};
 use rv_word::Micro;
 use rv_word::Register::{First, Second};
 use std::alloc::Global;
-use std::process::Abort;
 use std::test::Fail;
 
 const MARK: Item = Item::Mark(7);
@@ -30,7 +29,7 @@ const OTHER: Item = Item::JumpTo { label: 8 };
 
 // Items, and the words that an assembler gives for them (RISC-V Unprivileged ISA, "RV32/64G Instruction
 // Set Listings"), or why they are refused.
-const ROWS: [(&[Item], Result<&[u32], AsmError>); 9] = [
+const ROWS: &[(&[Item], Result<&[u32], AsmError>)] = &[
     (&[JUMP], Err(AsmError::UnknownLabel(7))),
     (&[MARK, MARK], Err(AsmError::DoubleLabel(7))),
     (&[OTHER, MARK, MARK], Err(AsmError::DoubleLabel(7))),
@@ -47,32 +46,34 @@ fn items_are_assembled_or_refused(rt: HostRuntime) -> Result<(), Fail> {
     for (items, want) in ROWS {
         keep_limits(items)?;
         match assemble(rt.alloc(), items) {
-            Ok(assembled) => assert!(rt; want == Ok(assembled.words.as_slice())),
-            Err(error) => assert!(rt; want == Err(error)),
+            Ok(assembled) => assert!(rt; *want == Ok(assembled.words.as_slice())),
+            Err(error) => assert!(rt; *want == Err(error)),
         }
     }
     Ok(())
 }
 
+const MARKED: &[Item] = &[
+    Item::Mark(9),
+    FAR,
+    Item::Mark(8),
+    MARK,
+    OTHER,
+    Item::Mark(1),
+];
+
+const PLACES: &[LabelAt] = &[
+    LabelAt { label: 9, word: 0 },
+    LabelAt { label: 8, word: 2 },
+    LabelAt { label: 7, word: 2 },
+    LabelAt { label: 1, word: 3 },
+];
+
 #[test]
 fn labels_come_in_order_of_their_marks(rt: HostRuntime) -> Result<(), Fail> {
-    let items = [
-        Item::Mark(9),
-        FAR,
-        Item::Mark(8),
-        MARK,
-        OTHER,
-        Item::Mark(1),
-    ];
-    keep_limits(&items)?;
-    let assembled = assemble(rt.alloc(), &items)?;
-    let places = [(9, 0), (8, 2), (7, 2), (1, 3)];
-    assert_eq!(rt;
-        assembled.labels.as_slice(),
-        places
-            .map(|(label, word)| LabelAt { label, word })
-            .as_slice()
-    );
+    keep_limits(MARKED)?;
+    let assembled = assemble(rt.alloc(), MARKED)?;
+    assert_eq!(rt; assembled.labels.as_slice(), PLACES);
     Ok(())
 }
 
@@ -111,58 +112,62 @@ fn add_between(items: &mut Vec<Item>, count: u32) -> Result<(), OutOfMemory> {
     Ok(())
 }
 
-// A branch forward over so many instructions.
-fn forward(alloc: Global, op: BranchOp, between: u32) -> Result<Vec<Item>, OutOfMemory> {
-    let mut items = Vec::new(alloc);
-    add_branch(&mut items, op)?;
-    add_between(&mut items, between)?;
-    add_target(&mut items)?;
-    Ok(items)
-}
-
-// A branch back over so many instructions, to which code jumps first.
-fn backward(alloc: Global, op: BranchOp, between: u32) -> Result<Vec<Item>, OutOfMemory> {
-    let mut items = Vec::new(alloc);
+// Appends a branch over so many instructions: forward, or back, where code jumps to it first.
+fn add_around(
+    items: &mut Vec<Item>,
+    is_back: bool,
+    op: BranchOp,
+    between: u32,
+) -> Result<(), OutOfMemory> {
+    if !is_back {
+        add_branch(items, op)?;
+        add_between(items, between)?;
+        return add_target(items);
+    }
     items.push(OTHER)?;
-    add_target(&mut items)?;
-    add_between(&mut items, between)?;
+    add_target(items)?;
+    add_between(items, between)?;
     items.push(Item::Mark(8))?;
-    add_branch(&mut items, op)?;
-    Ok(items)
+    add_branch(items, op)
 }
 
-// The items have so many words, and put the text.
-fn puts(
-    rt: &impl Abort,
-    alloc: Global,
-    items: &[Item],
-    words: usize,
-    text: &[u8],
-) -> Result<(), Fail> {
+// How many words the items have, and whether they put the text.
+fn put(alloc: Global, items: &[Item], text: &[u8]) -> Result<(usize, bool), Fail> {
     keep_limits(items)?;
-    assert_eq!(rt; assemble(alloc, items)?.words.len(), words);
-    let (end, output) = run(alloc, 1024, items)?;
-    assert_eq!(rt; end, Ending::Ended);
-    assert_eq!(rt; output.bytes(), text);
-    Ok(())
+    let count = assemble(alloc, items)?.words.len();
+    Ok((
+        count,
+        run(alloc, 1024, items, text)? == (Ending::Ended, true),
+    ))
 }
 
-// A branch has one word if its label is in reach, and three if not. Its code and that at the label have 6 words each.
+// Branches between equal registers, and what is put where they are taken or not.
+const BRANCHES: &[(BranchOp, &[u8])] = &[
+    (BranchOp::Beq, b"y"),
+    (BranchOp::Bne, b"n"),
+    (BranchOp::Blt, b"n"),
+    (BranchOp::Bge, b"y"),
+    (BranchOp::Bltu, b"n"),
+    (BranchOp::Bgeu, b"y"),
+];
+
+// Whether the branch goes back, the instructions between it and its label, and the words of the whole: a branch has one
+// word if its label is in reach, and three if not. Its code and that at the label have 6 words each.
+const DISTANCES: &[(bool, u32, usize)] = &[
+    (false, 1000, 1013),
+    (false, 1100, 1115),
+    (true, 1000, 1014),
+    (true, 1100, 1116),
+];
+
 #[test]
 fn branches_go_however_far(rt: HostRuntime) -> Result<(), Fail> {
-    let alloc = rt.alloc();
-    for (op, text) in [
-        (BranchOp::Beq, b"y"),
-        (BranchOp::Bne, b"n"),
-        (BranchOp::Blt, b"n"),
-        (BranchOp::Bge, b"y"),
-        (BranchOp::Bltu, b"n"),
-        (BranchOp::Bgeu, b"y"),
-    ] {
-        puts(&rt, alloc, &forward(alloc, op, 1000)?, 1013, text)?;
-        puts(&rt, alloc, &forward(alloc, op, 1100)?, 1115, text)?;
-        puts(&rt, alloc, &backward(alloc, op, 1000)?, 1014, text)?;
-        puts(&rt, alloc, &backward(alloc, op, 1100)?, 1116, text)?;
+    for (op, text) in BRANCHES {
+        for (is_back, between, words) in DISTANCES {
+            let mut items = Vec::new(rt.alloc());
+            add_around(&mut items, *is_back, *op, *between)?;
+            assert!(rt; put(rt.alloc(), &items, text)? == (*words, true));
+        }
     }
     Ok(())
 }

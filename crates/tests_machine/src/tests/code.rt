@@ -4,20 +4,7 @@ use pe_code::{
     AddressList, Entry, EntryList, NodeList, PeCode, PeInsn, PeItem, PeItemList, is_valid, print_pe,
 };
 use std::alloc::Global;
-use std::process::Abort;
 use std::test::Fail;
-
-fn prints(
-    rt: &impl Abort,
-    names: &Names,
-    alloc: Global,
-    insn: PeInsn,
-    want: &str,
-) -> Result<(), Fail> {
-    let text = print_pe(alloc, names, &insn)?;
-    assert_eq!(rt; text.as_slice(), want.as_bytes());
-    Ok(())
-}
 
 fn addresses(alloc: Global, items: &[u32]) -> Result<AddressList, OutOfMemory> {
     let mut list = AddressList::new(alloc);
@@ -27,39 +14,83 @@ fn addresses(alloc: Global, items: &[u32]) -> Result<AddressList, OutOfMemory> {
     Ok(list)
 }
 
-// Name 0 is `len`, and there is no name 99.
+// The prints of instructions. Name 0 is `len`, and there is no name 99.
+const PRINTS: &[&str] = &[
+    "use 0 3",
+    "answer -12",
+    "answer true",
+    "answer 65",
+    "op1 not 4",
+    "op2 add 17 18",
+    "cond 1 2 3",
+    "case 16 3",
+    "passvar 2 5",
+    "passdata 21 5",
+    "field len 9",
+    "pick  9",
+    "letvar 1 8",
+    "letdata false 8",
+    "done",
+    "while 6 7",
+    "put char 4",
+    "read 4294967295",
+];
+
+// The instruction that has the print with the number.
+fn printed(alloc: Global, number: usize) -> Result<PeInsn, OutOfMemory> {
+    Ok(match number {
+        0 => PeInsn::UseVar(0, 3),
+        1 => PeInsn::Answer(Datum::Int(-12)),
+        2 => PeInsn::Answer(Datum::Bool(true)),
+        3 => PeInsn::Answer(Datum::Char(65)),
+        4 => PeInsn::Op1(UnOp::Not, 4),
+        5 => PeInsn::Op2(BinOp::Add, 17, 18),
+        6 => PeInsn::Cond(1, 2, 3),
+        7 => PeInsn::Case(16, addresses(alloc, &[17, 18, 19])?),
+        8 => PeInsn::PassVar(2, 5),
+        9 => PeInsn::PassData(Datum::Int(21), 5),
+        10 => PeInsn::Field(0, 9),
+        11 => PeInsn::Pick(99, 9),
+        12 => PeInsn::LetVar(1, 8),
+        13 => PeInsn::LetData(Datum::Bool(false), 8),
+        14 => PeInsn::Done,
+        15 => PeInsn::While(6, 7),
+        16 => PeInsn::Put(PutKind::Char, 4),
+        _ => PeInsn::Read(4294967295),
+    })
+}
+
 #[test]
 fn instructions_are_printed(rt: HostRuntime) -> Result<(), Fail> {
-    let alloc = rt.alloc();
-    let names = Names::new(alloc)?;
-    let parts = addresses(alloc, &[17, 18, 19])?;
-    let table = Vec::from_array(
-        alloc,
-        [
-            (PeInsn::UseVar(0, 3), "use 0 3"),
-            (PeInsn::Answer(Datum::Int(-12)), "answer -12"),
-            (PeInsn::Answer(Datum::Bool(true)), "answer true"),
-            (PeInsn::Answer(Datum::Char(65)), "answer 65"),
-            (PeInsn::Op1(UnOp::Not, 4), "op1 not 4"),
-            (PeInsn::Op2(BinOp::Add, 17, 18), "op2 add 17 18"),
-            (PeInsn::Cond(1, 2, 3), "cond 1 2 3"),
-            (PeInsn::Case(16, parts), "case 16 3"),
-            (PeInsn::PassVar(2, 5), "passvar 2 5"),
-            (PeInsn::PassData(Datum::Int(21), 5), "passdata 21 5"),
-            (PeInsn::Field(0, 9), "field len 9"),
-            (PeInsn::Pick(99, 9), "pick  9"),
-            (PeInsn::LetVar(1, 8), "letvar 1 8"),
-            (PeInsn::LetData(Datum::Bool(false), 8), "letdata false 8"),
-            (PeInsn::Done, "done"),
-            (PeInsn::While(6, 7), "while 6 7"),
-            (PeInsn::Put(PutKind::Char, 4), "put char 4"),
-            (PeInsn::Read(4294967295), "read 4294967295"),
-        ],
-    )?;
-    for (insn, want) in table {
-        prints(&rt, &names, alloc, insn, want)?;
+    let names = Names::new(rt.alloc())?;
+    for (number, want) in PRINTS.iter().enumerate() {
+        let text = print_pe(rt.alloc(), &names, &printed(rt.alloc(), number)?)?;
+        assert!(rt; text.as_slice() == want.as_bytes(), "{want}");
     }
     Ok(())
+}
+
+// What stands first or second in code.
+#[derive(Clone, Copy)]
+enum Part {
+    Let(u32),
+    UseVar(u32, u32),
+    Done,
+    Seq(u32),
+    Bind,
+    // Over this and three more parts.
+    Case(u32),
+}
+
+fn insn(alloc: Global, part: Part) -> Result<PeInsn, OutOfMemory> {
+    match part {
+        Part::Let(node) => Ok(PeInsn::Let(node, 1)),
+        Part::UseVar(k, shape) => Ok(PeInsn::UseVar(k, shape)),
+        Part::Done => Ok(PeInsn::Done),
+        Part::Seq(second) => Ok(PeInsn::Seq(2, second)),
+        Part::Bind => Ok(PeInsn::Bind(2)),
+        Part::Case(index) => Ok(PeInsn::Case(index, addresses(alloc, &[2, 2, 2, 2])?)),
+    }
 }
 
 fn item(insn: PeInsn, depth: u32) -> PeItem {
@@ -73,16 +104,20 @@ fn item(insn: PeInsn, depth: u32) -> PeItem {
 // Code with these two items and a third, where node 7 is a thunk node and enters at the third.
 fn code_of(
     alloc: Global,
-    first: PeInsn,
-    second: PeInsn,
+    first: Part,
+    second: Part,
     depths: [u32; 3],
 ) -> Result<PeCode, OutOfMemory> {
     let mut items = PeItemList::new(alloc);
-    items.push(item(first, depths[0]))?;
-    items.push(item(second, depths[1]))?;
+    items.push(item(insn(alloc, first)?, depths[0]))?;
+    items.push(item(insn(alloc, second)?, depths[1]))?;
     items.push(item(PeInsn::Done, depths[2]))?;
     let mut entries = EntryList::new(alloc);
-    entries.push(entry(7, 0, 2))?;
+    entries.push(Entry {
+        node: 7,
+        shape: 0,
+        address: 2,
+    })?;
     let mut thunks = NodeList::new(alloc);
     thunks.push(7)?;
     Ok(PeCode {
@@ -94,90 +129,146 @@ fn code_of(
     })
 }
 
-fn entry(node: u32, shape: u32, address: u32) -> Entry {
-    Entry {
-        node,
-        shape,
-        address,
+// Each of these but the first breaks one point alone.
+const ITEMS: &[(Part, Part, [u32; 3], bool)] = &[
+    (Part::Let(7), Part::UseVar(0, 0), [0, 1, 0], true),
+    (Part::Let(7), Part::UseVar(0, 0), [1, 2, 1], false),
+    (Part::Done, Part::UseVar(0, 0), [0, 513, 0], false),
+    (Part::Seq(3), Part::Done, [0, 0, 0], false),
+    (Part::Seq(1), Part::Done, [0, 1, 0], false),
+    (Part::Bind, Part::Done, [0, 1, 0], false),
+    (Part::Let(7), Part::UseVar(1, 0), [0, 1, 0], false),
+    (Part::Let(7), Part::UseVar(0, 1), [0, 1, 0], false),
+    (Part::Let(8), Part::UseVar(0, 0), [0, 1, 0], false),
+    (Part::Let(7), Part::UseVar(0, 0), [0, 1, 1], false),
+    (Part::Case(2), Part::Done, [0, 0, 0], false),
+];
+
+#[test]
+fn items_are_judged(rt: HostRuntime) -> Result<(), Fail> {
+    for (first, second, depths, want) in ITEMS {
+        let code = code_of(rt.alloc(), *first, *second, *depths)?;
+        assert!(rt; is_valid(&code) == *want);
     }
+    Ok(())
 }
 
 fn valid_code(alloc: Global) -> Result<PeCode, OutOfMemory> {
-    code_of(alloc, PeInsn::Let(7, 1), PeInsn::UseVar(0, 0), [0, 1, 0])
+    code_of(alloc, Part::Let(7), Part::UseVar(0, 0), [0, 1, 0])
 }
 
-// Each of these but the first breaks one point alone.
-#[test]
-fn items_are_judged(rt: HostRuntime) -> Result<(), Fail> {
-    let alloc = rt.alloc();
-    let four = addresses(alloc, &[2, 2, 2, 2])?;
-    let table = Vec::from_array(
-        alloc,
-        [
-            (PeInsn::Let(7, 1), PeInsn::UseVar(0, 0), [0, 1, 0], true),
-            (PeInsn::Let(7, 1), PeInsn::UseVar(0, 0), [1, 2, 1], false),
-            (PeInsn::Done, PeInsn::UseVar(0, 0), [0, 513, 0], false),
-            (PeInsn::Seq(2, 3), PeInsn::Done, [0, 0, 0], false),
-            (PeInsn::Seq(2, 1), PeInsn::Done, [0, 1, 0], false),
-            (PeInsn::Bind(2), PeInsn::Done, [0, 1, 0], false),
-            (PeInsn::Let(7, 1), PeInsn::UseVar(1, 0), [0, 1, 0], false),
-            (PeInsn::Let(7, 1), PeInsn::UseVar(0, 1), [0, 1, 0], false),
-            (PeInsn::Let(8, 1), PeInsn::UseVar(0, 0), [0, 1, 0], false),
-            (PeInsn::Let(7, 1), PeInsn::UseVar(0, 0), [0, 1, 1], false),
-            (PeInsn::Case(2, four), PeInsn::Done, [0, 0, 0], false),
-        ],
-    )?;
-    for (first, second, depths, want) in table {
-        assert_eq!(rt; is_valid(&code_of(alloc, first, second, depths)?), want);
-    }
-    Ok(())
-}
+// An entry that is added to valid code, its shapes and assignment, the items that are added, and whether it is valid then.
+const TABLES: &[(Option<Entry>, u32, Option<u32>, u32, bool)] = &[
+    (
+        Some(Entry {
+            node: 7,
+            shape: 0,
+            address: 2,
+        }),
+        1,
+        Some(0),
+        0,
+        false,
+    ),
+    (
+        Some(Entry {
+            node: 9,
+            shape: 0,
+            address: 3,
+        }),
+        1,
+        Some(0),
+        0,
+        false,
+    ),
+    (
+        Some(Entry {
+            node: 9,
+            shape: 1,
+            address: 2,
+        }),
+        1,
+        Some(0),
+        0,
+        false,
+    ),
+    (
+        Some(Entry {
+            node: 9,
+            shape: 0,
+            address: 2,
+        }),
+        1,
+        Some(0),
+        0,
+        true,
+    ),
+    (None, 1, Some(1), 0, false),
+    (None, 209_715, None, 0, true),
+    (None, 209_716, None, 0, false),
+    (None, 1, Some(0), 65_534, false),
+];
 
 #[test]
 fn tables_are_judged(rt: HostRuntime) -> Result<(), Fail> {
-    let alloc = rt.alloc();
-    for (wrong, want) in [
-        (entry(7, 0, 2), false),
-        (entry(9, 0, 3), false),
-        (entry(9, 1, 2), false),
-        (entry(9, 0, 2), true),
-    ] {
-        let mut code = valid_code(alloc)?;
-        code.entries.push(wrong)?;
-        assert_eq!(rt; is_valid(&code), want);
+    for (added, shapes, assignment, more, want) in TABLES {
+        let mut code = valid_code(rt.alloc())?;
+        if let Some(entry) = added {
+            code.entries.push(*entry)?;
+        }
+        code.shapes = *shapes;
+        code.assignment = *assignment;
+        for _ in 0..*more {
+            code.items.push(item(PeInsn::Done, 0))?;
+        }
+        assert!(rt; is_valid(&code) == *want);
     }
-    for (shapes, assignment, want) in [
-        (1, Some(1), false),
-        (209_715, None, true),
-        (209_716, None, false),
-    ] {
-        let mut code = valid_code(alloc)?;
-        code.shapes = shapes;
-        code.assignment = assignment;
-        assert_eq!(rt; is_valid(&code), want);
-    }
-    let mut code = valid_code(alloc)?;
-    code.items = PeItemList::new(alloc);
-    assert!(rt; !is_valid(&code));
-    let mut code = valid_code(alloc)?;
-    for _ in 0..65_534u32 {
-        code.items.push(item(PeInsn::Done, 0))?;
-    }
+    let mut code = valid_code(rt.alloc())?;
+    code.items = PeItemList::new(rt.alloc());
     assert!(rt; !is_valid(&code));
     Ok(())
 }
 
+const ENTRIES: &[Entry] = &[
+    Entry {
+        node: 9,
+        shape: 4,
+        address: 1,
+    },
+    Entry {
+        node: 3,
+        shape: 6,
+        address: 2,
+    },
+    Entry {
+        node: 9,
+        shape: 2,
+        address: 0,
+    },
+    Entry {
+        node: 3,
+        shape: 6,
+        address: 1,
+    },
+];
+
+// A node, a shape, and the address of the first entry that has both.
+const ADDRESSES: &[(u32, u32, Option<u32>)] = &[
+    (3, 6, Some(2)),
+    (9, 2, Some(0)),
+    (9, 4, Some(1)),
+    (9, 3, None),
+    (10, 0, None),
+];
+
 #[test]
 fn entries_are_found(rt: HostRuntime) -> Result<(), Fail> {
-    let alloc = rt.alloc();
-    let mut code = valid_code(alloc)?;
-    for (node, shape, address) in [(9, 4, 1), (3, 6, 2), (9, 2, 0), (3, 6, 1)] {
-        code.entries.push(entry(node, shape, address))?;
+    let mut code = valid_code(rt.alloc())?;
+    for entry in ENTRIES {
+        code.entries.push(*entry)?;
     }
-    assert_eq!(rt; code.entry(3, 6), Some(2));
-    assert_eq!(rt; code.entry(9, 2), Some(0));
-    assert_eq!(rt; code.entry(9, 4), Some(1));
-    assert_eq!(rt; code.entry(9, 3), None);
-    assert_eq!(rt; code.entry(10, 0), None);
+    for (node, shape, address) in ADDRESSES {
+        assert!(rt; code.entry(*node, *shape) == *address);
+    }
     Ok(())
 }

@@ -35,8 +35,13 @@ pub fn keep_limits(items: &[Item]) -> Result<(), Fail>
     Err("no items of assembly".into())
 }
 
-// How the image of items ends on no input, and what it puts.
-pub fn run(alloc: Global, stack_words: u32, items: &[Item]) -> Result<(Ending, SteadySink), Fail> {
+// How the image of items ends on no input, and whether it puts these bytes.
+pub fn run(
+    alloc: Global,
+    stack_words: u32,
+    items: &[Item],
+    due: &[u8],
+) -> Result<(Ending, bool), Fail> {
     keep_limits(items)?;
     let assembled = assemble(alloc, items)?;
     let mut places = PlaceList::new(alloc);
@@ -55,5 +60,5 @@ pub fn run(alloc: Global, stack_words: u32, items: &[Item]) -> Result<(Ending, S
     let mut input = SteadySource::new(Vec::new(alloc));
     let mut output = SteadySink::new(alloc, 1024)?;
     let run = run_machine(&mut m, &mut input, &mut output, 1_000_000);
-    Ok((run.end, output))
+    Ok((run.end, output.bytes() == due))
 }

@@ -1,7 +1,7 @@
 ghost use Rattle.std.specs.Prelude.{◌+◌, ◌^◌, ◌<◌, ◌≤◌};
 
 use crate::tests::made::{AT, run};
-use fy_base::{Ending, FaultKind, OutOfMemory, SteadySink};
+use fy_base::{Ending, FaultKind, OutOfMemory};
 use pe_frame::{FramePlan, plan_frame};
 use rv_asm::Item;
 use rv_flow::{lower_block, lower_entries};
@@ -19,58 +19,68 @@ const FAULT: u32 = FIRST_FREE;
 
 const START: u32 = FIRST_FREE + 1;
 
-// The routines in code with these entries, which ends at a finished command, and the block of a fault.
-fn code(alloc: Global, entries: &[u32]) -> Result<Vec<Item>, Fail> {
+// Adds to no items the routines in code with these entries, which ends at a finished command, and the block of a fault.
+fn add_code(alloc: Global, items: &mut Vec<Item>, entries: &[u32]) -> Result<(), Fail> {
     let count = u32::try_from(entries.len())?;
-    let mut items = Vec::new(alloc);
-    lower_entries(&mut items, entries)?;
-    lower_block(&mut items, count, 0, MEET, &[Micro::End])?;
-    lower_block(&mut items, count, 0, GO, &[Micro::Enter(Datum)])?;
+    lower_entries(items, entries)?;
+    lower_block(items, count, 0, MEET, &[Micro::End])?;
+    lower_block(items, count, 0, GO, &[Micro::Enter(Datum)])?;
     items.append(&mut routines(alloc)?)?;
-    add_fault(&mut items, FAULT, FaultKind::Range, 0)?;
-    Ok(items)
+    Ok(add_fault(items, FAULT, FaultKind::Range, 0)?)
 }
+
+// How a run of the routine with the datum ends, and whether it puts the text.
+fn told(alloc: Global, label: u32, value: i64, text: &str) -> Result<(Ending, bool), Fail> {
+    let mut items = Vec::new(alloc);
+    add_code(alloc, &mut items, &[START])?;
+    let micros = [Micro::Set(Datum, value.cast_unsigned()), Micro::Jump(label)];
+    lower_block(&mut items, 1, 0, START, &micros)?;
+    run(alloc, 1024, &items, text.as_bytes())
+}
+
+const PUTS: &[(u32, i64, &str)] = &[
+    (PUT_INT, 0, "0"),
+    (PUT_INT, 7, "7"),
+    (PUT_INT, -1, "-1"),
+    (PUT_INT, 10, "10"),
+    (PUT_INT, -100, "-100"),
+    (PUT_INT, i64::MAX, "9223372036854775807"),
+    (PUT_INT, i64::MIN, "-9223372036854775808"),
+    (PUT_TRUE, 0, "true"),
+    (PUT_FALSE, 0, "false"),
+];
 
 #[test]
 fn data_are_put_and_ends_are_told(rt: HostRuntime) -> Result<(), Fail> {
     let alloc = rt.alloc();
+    for (label, value, text) in PUTS {
+        assert!(rt;
+            told(alloc, *label, *value, text)? == (Ending::Ended, true),
+            "{text}"
+        );
+    }
+    assert!(rt; told(alloc, EXHAUSTED, 0, "")? == (Ending::Exhausted, true));
     let fault = Ending::Fault {
         kind: FaultKind::Range,
         place: AT,
     };
-    for (label, value, end, text) in [
-        (PUT_INT, 0, Ending::Ended, "0"),
-        (PUT_INT, 7, Ending::Ended, "7"),
-        (PUT_INT, -1, Ending::Ended, "-1"),
-        (PUT_INT, 10, Ending::Ended, "10"),
-        (PUT_INT, -100, Ending::Ended, "-100"),
-        (PUT_INT, i64::MAX, Ending::Ended, "9223372036854775807"),
-        (PUT_INT, i64::MIN, Ending::Ended, "-9223372036854775808"),
-        (PUT_TRUE, 0, Ending::Ended, "true"),
-        (PUT_FALSE, 0, Ending::Ended, "false"),
-        (EXHAUSTED, 0, Ending::Exhausted, ""),
-        (FAULT, 0, fault, ""),
-    ] {
-        let mut items = code(alloc, &[START])?;
-        let micros = [Micro::Set(Datum, value.cast_unsigned()), Micro::Jump(label)];
-        lower_block(&mut items, 1, 0, START, &micros)?;
-        let (ended, output) = run(alloc, 1024, &items)?;
-        assert_eq!(rt; ended, end, "{text}");
-        assert_eq!(rt; output.bytes(), text.as_bytes(), "{text}");
-    }
+    assert!(rt; told(alloc, FAULT, 0, "")? == (fault, true));
     Ok(())
 }
 
+// The depths of frames, and their words.
+const PLANS: &[(u32, u32)] = &[(0, 3), (1, 4), (2, 8), (100, 104), (512, 516)];
+
 #[test]
 fn frames_are_planned(rt: HostRuntime) {
-    for (depth, words) in [(0, 3), (1, 4), (2, 8), (100, 104), (512, 516)] {
-        assert!(rt; depth <= 512);
+    for (depth, words) in PLANS {
+        assert!(rt; *depth <= 512);
         let want = FramePlan {
-            words,
+            words: *words,
             thunk_at: 0,
             display_at: 3,
         };
-        assert_eq!(rt; plan_frame(depth), want);
+        assert!(rt; plan_frame(*depth) == want);
     }
 }
 
@@ -156,20 +166,21 @@ fn add_numbers(bytes: &mut Vec<u8>, from: u32, count: u32) -> Result<(), AllocEr
     Ok(())
 }
 
-// How a run ends that makes a frame at a depth, behind the frame around it, and what it puts.
-fn making(alloc: Global, stack_words: u32, depth: u32) -> Result<(Ending, SteadySink), Fail>
+// How a run ends that makes a frame at a depth, behind the frame around it, and whether it puts these bytes.
+fn making(alloc: Global, stack_words: u32, depth: u32, due: &[u8]) -> Result<(Ending, bool), Fail>
     requires some { 1 ≤ depth }
     requires most { depth ≤ 512 }
 {
     let plan = plan_frame(depth);
     let at = AROUND + plan_frame(depth - 1).words;
-    let mut items = code(alloc, &[START, SHOW])?;
+    let mut items = Vec::new(alloc);
+    add_code(alloc, &mut items, &[START, SHOW])?;
     add_making(&mut items, at, plan.words as u16)?;
     add_showing(&mut items, plan.display_at + depth)?;
-    run(alloc, stack_words, &items)
+    run(alloc, stack_words, &items, due)
 }
 
-// What it puts: of the three words before the display, of the address of the frame around, of that frame's display, and of
+// What it is to put: of the three words before the display, of the address of the frame around, of that frame's display, and of
 // the word behind the frame.
 fn made(alloc: Global, depth: u32) -> Result<Vec<u8>, AllocError>
     requires some { 1 ≤ depth }
@@ -184,17 +195,19 @@ fn made(alloc: Global, depth: u32) -> Result<Vec<u8>, AllocError>
     Ok(bytes)
 }
 
+const DEPTHS: &[u32] = &[1, 2, 100, 512];
+
 #[test]
 fn frames_are_made(rt: HostRuntime) -> Result<(), Fail> {
     let alloc = rt.alloc();
-    for depth in [1, 2, 100, 512] {
-        assert!(rt; 1 <= depth && depth <= 512);
-        let (end, output) = making(alloc, 2048, depth)?;
-        assert_eq!(rt; end, Ending::Ended, "{depth}");
-        assert_eq!(rt; output.bytes(), made(alloc, depth)?.as_slice(), "{depth}");
+    for depth in DEPTHS {
+        assert!(rt; 1 <= *depth && *depth <= 512);
+        let due = made(alloc, *depth)?;
+        assert!(rt;
+            making(alloc, 2048, *depth, &due)? == (Ending::Ended, true),
+            "{depth}"
+        );
     }
-    let (end, output) = making(alloc, 1024, 512)?;
-    assert_eq!(rt; end, Ending::Exhausted);
-    assert!(rt; output.bytes().is_empty());
+    assert!(rt; making(alloc, 1024, 512, &[])? == (Ending::Exhausted, true));
     Ok(())
 }
