@@ -1,25 +1,11 @@
-use crate::tests::made::{AT, boxed};
+use crate::tests::made::{AT, boxed, first_of, types_of};
 use fy_base::{Datum, OutOfMemory};
 use fy_derive::{Derivation, DeriveError, check_as, nesting_of, nodes_of};
 use fy_least::{FindError, find, find_as};
 use fy_phrase::Phrase;
-use fy_types::{Atom, Ty, TyList};
+use fy_types::{Ty, TyList};
 use std::alloc::Global;
-use std::rc::Rc;
 use std::test::Fail;
-
-fn procedure(alloc: Global, domain: Atom, rest: Atom) -> Result<Ty, OutOfMemory> {
-    let domain = Rc::new(alloc, Ty::Atom(domain))?;
-    Ok(Ty::Arrow(domain, Rc::new(alloc, Ty::Atom(rest))?))
-}
-
-// The types of `f` and `g`.
-fn context(alloc: Global) -> Result<TyList, OutOfMemory> {
-    let mut types = TyList::new(alloc);
-    types.push(procedure(alloc, Atom::Int, Atom::Comm)?)?;
-    types.push(procedure(alloc, Atom::Char, Atom::Int)?)?;
-    Ok(types)
-}
 
 // `f (g 'A')`, where `f` and `g` are bound around the phrase, `f` outermost.
 fn calls(alloc: Global) -> Result<Phrase, OutOfMemory> {
@@ -29,30 +15,76 @@ fn calls(alloc: Global) -> Result<Phrase, OutOfMemory> {
     Ok(Phrase::App(outer, boxed(alloc, inner)?, AT))
 }
 
+// The members of the first type, a meet.
+fn members_of(d: &Derivation) -> Result<&TyList, Fail> {
+    match d {
+        Derivation::Sub(Ty::Meet(members), _) => Ok(members),
+        _ => Err(Fail::from("no meet")),
+    }
+}
+
 // The node at which the derivation is refused as one of the type for the calls, or nothing.
-fn refused(alloc: Global, d: &Derivation, ty: &Ty) -> Result<Option<u32>, Fail> {
+fn refused(alloc: Global, context: &TyList, ty: &Ty, d: &Derivation) -> Result<Option<u32>, Fail> {
     if nodes_of(d) > 262144 || nesting_of(d) > 2048 {
         return Err(Fail::from("past the limits"));
     }
-    match check_as(alloc, &context(alloc)?, &calls(alloc)?, ty, d) {
+    match check_as(alloc, context, &calls(alloc)?, ty, d) {
         Ok(()) => Ok(None),
         Err(DeriveError::Wrong(node)) => Ok(Some(node)),
         Err(DeriveError::OutOfMemory) => Err(Fail::from("out of memory")),
     }
 }
 
+// The derivation that is found for the calls, if they have the type.
+fn found(alloc: Global, context: &TyList, ty: &Ty) -> Result<Option<Derivation>, Fail> {
+    match find_as(alloc, context, &calls(alloc)?, ty) {
+        Ok(d) => Ok(Some(d)),
+        Err(FindError::NoType(_)) => Ok(None),
+        Err(error) => Err(error.into()),
+    }
+}
+
+// A type, another one and the meet of those of `f` and `g`, and the node at which what is found for the first is refused for the
+// other, if it is found.
+const WANTED: &[(&[u8], Option<Option<u32>>)] = &[
+    (
+        b"sub [comm] sub [ns] sub [(int -> comm) & (char -> int)] ns",
+        Some(Some(0)),
+    ),
+    (
+        b"sub [ns] sub [ns] sub [(int -> comm) & (char -> int)] ns",
+        Some(None),
+    ),
+    (
+        b"sub [int] sub [ns] sub [(int -> comm) & (char -> int)] ns",
+        None,
+    ),
+];
+
 #[test]
 fn types_of_variables_around_a_phrase(rt: HostRuntime) -> Result<(), Fail> {
     let alloc = rt.alloc();
+    for (text, node) in WANTED {
+        let types = types_of(alloc, text)?;
+        let (ty, others) = first_of(&types)?;
+        let (other, rest) = first_of(others)?;
+        let context = members_of(rest)?;
+        match found(alloc, context, ty)? {
+            Some(d) => {
+                assert_eq!(rt; refused(alloc, context, ty, &d)?, None);
+                let at = refused(alloc, context, other, &d)?;
+                assert!(rt; *node == Some(at));
+            }
+            None => assert!(rt; node.is_none()),
+        }
+    }
+    Ok(())
+}
+
+#[test]
+fn no_types_of_free_variables(rt: HostRuntime) -> Result<(), Fail> {
+    let alloc = rt.alloc();
     let p = calls(alloc)?;
-    let comm = Ty::Atom(Atom::Comm);
-    let d = find_as(alloc, &context(alloc)?, &p, &comm)?;
-    assert_eq!(rt; refused(alloc, &d, &comm)?, None);
-    assert_eq!(rt; refused(alloc, &d, &Ty::Ns)?, Some(0));
-    let other = find_as(alloc, &context(alloc)?, &p, &Ty::Ns)?;
-    assert_eq!(rt; refused(alloc, &other, &Ty::Ns)?, None);
     assert!(rt; matches!(find(alloc, &p), Err(FindError::NoType(_))));
-    let int = find_as(alloc, &context(alloc)?, &p, &Ty::Atom(Atom::Int));
-    assert!(rt; matches!(int, Err(FindError::NoType(_))));
     Ok(())
 }

@@ -5,72 +5,135 @@ use fy_types::{Atom, Ty, TyList};
 use std::alloc::Global;
 use std::test::Fail;
 
-fn var(alloc: Global, k: u32) -> Result<Box<Phrase>, OutOfMemory> {
-    boxed(alloc, Phrase::Var(k, AT))
+fn leaf(digit: u8) -> Phrase {
+    match digit {
+        b'0' => Phrase::Var(0, AT),
+        b'1' => Phrase::Var(1, AT),
+        b'2' => Phrase::Lit(Datum::Int(1), AT),
+        b'3' => Phrase::Lit(Datum::Bool(true), AT),
+        b'4' => Phrase::Skip(AT),
+        _ => Phrase::Mark(MarkKind::Cell(3), AT),
+    }
 }
 
-fn skip(alloc: Global) -> Result<Box<Phrase>, OutOfMemory> {
-    boxed(alloc, Phrase::Skip(AT))
+fn with_one(letter: u8, a: Box<Phrase>) -> Phrase {
+    match letter {
+        b'a' => Phrase::Accept(1, DataTy::Char, a, AT),
+        b'e' => Phrase::Escape(6, a, AT),
+        b'f' => Phrase::Field(0, a, AT),
+        b'i' => Phrase::Read(a, AT),
+        b'l' => Phrase::Forever(a, AT),
+        b'n' => Phrase::Unary(UnOp::Neg, a, AT),
+        b'p' => Phrase::Put(PutKind::Int, a, AT),
+        b'r' => Phrase::Rec(7, Ty::Atom(Atom::Comm), a, AT),
+        _ => Phrase::Sel(a, 0, AT),
+    }
 }
 
-// Expressions of 12 nodes in which variable 0 stands three times.
-fn expressions(alloc: Global) -> Result<Phrase, OutOfMemory> {
-    let one = boxed(alloc, Phrase::Lit(Datum::Int(1), AT))?;
-    let negated = boxed(alloc, Phrase::Unary(UnOp::Neg, one, AT))?;
-    let sum = boxed(
-        alloc,
-        Phrase::Binary(BinOp::Add, negated, var(alloc, 0)?, AT),
-    )?;
-    let mut parts = Parts::new(alloc);
-    parts.push(Phrase::Var(0, AT))?;
-    parts.push(Phrase::Skip(AT))?;
-    let case = boxed(alloc, Phrase::Case(var(alloc, 0)?, parts, AT))?;
-    let cell = boxed(alloc, Phrase::Mark(MarkKind::Cell(3), AT))?;
-    let choice = Phrase::Cond(sum, case, cell, AT);
-    let field = boxed(alloc, Phrase::Field(0, boxed(alloc, choice)?, AT))?;
-    Ok(Phrase::Sel(field, 0, AT))
+fn with_two(letter: u8, a: Box<Phrase>, b: Box<Phrase>) -> Phrase {
+    match letter {
+        b'A' => Phrase::Assign(a, b, AT),
+        b'C' => Phrase::App(a, b, AT),
+        b'L' => Phrase::LetIn(4, a, b, AT),
+        b'M' => Phrase::Merge(a, b, AT),
+        b'N' => Phrase::New(5, DataTy::Int, a, b, AT),
+        b'P' => Phrase::Binary(BinOp::Add, a, b, AT),
+        b'W' => Phrase::WhileDo(a, b, AT),
+        _ => Phrase::Seq(a, b, AT),
+    }
 }
 
-// Commands of 22 nodes, with a binder of depth 7.
-fn commands(alloc: Global) -> Result<Phrase, OutOfMemory> {
+fn abstraction(alloc: Global, a: Box<Phrase>) -> Result<Phrase, OutOfMemory> {
     let mut alternatives = TyList::new(alloc);
     alternatives.push(Ty::Atom(Atom::Int))?;
-    let put = boxed(alloc, Phrase::Put(PutKind::Int, var(alloc, 1)?, AT))?;
-    let procedure = boxed(alloc, Phrase::Lam(1, alternatives, put, AT))?;
-    let acceptor = boxed(alloc, Phrase::Accept(1, DataTy::Char, skip(alloc)?, AT))?;
-    let merge = boxed(alloc, Phrase::Merge(procedure, acceptor, AT))?;
-    let call = boxed(alloc, Phrase::App(merge, var(alloc, 0)?, AT))?;
-    let loops = boxed(alloc, Phrase::Forever(call, AT))?;
-    let fixed = boxed(alloc, Phrase::Rec(7, Ty::Atom(Atom::Comm), loops, AT))?;
-    let first = boxed(alloc, Phrase::Lit(Datum::Int(1), AT))?;
-    let assign = boxed(alloc, Phrase::Assign(var(alloc, 0)?, var(alloc, 1)?, AT))?;
-    let new = boxed(alloc, Phrase::New(5, DataTy::Int, first, assign, AT))?;
-    let escape = boxed(alloc, Phrase::Escape(6, skip(alloc)?, AT))?;
-    let test = boxed(alloc, Phrase::Lit(Datum::Bool(true), AT))?;
-    let input = boxed(alloc, Phrase::Read(escape, AT))?;
-    let repeat = boxed(alloc, Phrase::WhileDo(test, input, AT))?;
-    let all = boxed(alloc, Phrase::Seq(new, repeat, AT))?;
-    Ok(Phrase::LetIn(4, fixed, all, AT))
+    Ok(Phrase::Lam(1, alternatives, a, AT))
+}
+
+// What picks from a list of two parts.
+fn case_of(
+    alloc: Global,
+    a: Box<Phrase>,
+    b: Box<Phrase>,
+    c: Box<Phrase>,
+) -> Result<Phrase, OutOfMemory> {
+    let mut parts = Parts::new(alloc);
+    parts.push(Box::into_inner(b))?;
+    parts.push(Box::into_inner(c))?;
+    Ok(Phrase::Case(a, parts, AT))
+}
+
+// The next operand, from the last on.
+fn next(alloc: Global, stack: &mut Vec<Phrase>) -> Result<Box<Phrase>, Fail> {
+    match stack.pop() {
+        Some(p) => Ok(boxed(alloc, p)?),
+        None => Err(Fail::from("no operand")),
+    }
+}
+
+fn with_three(alloc: Global, letter: u8, stack: &mut Vec<Phrase>) -> Result<Phrase, Fail> {
+    let c = next(alloc, stack)?;
+    let b = next(alloc, stack)?;
+    let a = next(alloc, stack)?;
+    if letter == b'?' {
+        Ok(Phrase::Cond(a, b, c, AT))
+    } else {
+        Ok(case_of(alloc, a, b, c)?)
+    }
+}
+
+// The phrase of a letter, behind its operands.
+fn node(alloc: Global, letter: u8, stack: &mut Vec<Phrase>) -> Result<Phrase, Fail> {
+    match letter {
+        b'0'..=b'9' => Ok(leaf(letter)),
+        b'b' => Ok(abstraction(alloc, next(alloc, stack)?)?),
+        b'a'..=b'z' => Ok(with_one(letter, next(alloc, stack)?)),
+        b'A'..=b'Z' => {
+            let b = next(alloc, stack)?;
+            Ok(with_two(letter, next(alloc, stack)?, b))
+        }
+        _ => with_three(alloc, letter, stack),
+    }
+}
+
+fn phrase_of(alloc: Global, letters: &[u8]) -> Result<Phrase, Fail> {
+    let mut stack = Vec::new(alloc);
+    for letter in letters {
+        let made = node(alloc, *letter, &mut stack)?;
+        stack.push(made)?;
+    }
+    match stack.pop() {
+        Some(p) => Ok(p),
+        None => Err(Fail::from("no phrase")),
+    }
+}
+
+// Phrases of all forms in reverse Polish notation, a letter for each node. In these expressions variable 0 stands three times.
+const EXPRESSIONS: &[u8] = b"2n0P004#5?fs";
+
+const COMMANDS: &[u8] = b"1pb4aM0Clr201AN34eiWQL";
+
+const DEPTHS: &[(&[u8], u32)] = &[(EXPRESSIONS, 0), (COMMANDS, 7)];
+
+#[test]
+fn counts_and_copies_every_form(rt: HostRuntime) -> Result<(), Fail> {
+    let alloc = rt.alloc();
+    for (letters, depth) in DEPTHS {
+        let phrase = phrase_of(alloc, letters)?;
+        assert!(rt; node_count(&phrase) == letters.len() as u64 && depth_of(&phrase) == *depth);
+        let copy = copy_phrase(alloc, &phrase)?;
+        let copied = format!(in alloc; "{copy:?}")?;
+        assert_eq!(rt; copied, format!(in alloc; "{phrase:?}")?);
+    }
+    Ok(())
 }
 
 #[test]
-fn counts_copies_and_closes_every_form(rt: HostRuntime) -> Result<(), Fail> {
+fn closes_every_form(rt: HostRuntime) -> Result<(), Fail> {
     let alloc = rt.alloc();
-    let actual = expressions(alloc)?;
-    let body = commands(alloc)?;
-    let rows = [(&actual, 12u64, 0u32), (&body, 22, 7)];
-    for (phrase, nodes, depth) in rows {
-        assert_eq!(rt; node_count(phrase), nodes);
-        assert_eq!(rt; depth_of(phrase), depth);
-        let copy = copy_phrase(alloc, phrase)?;
-        assert_eq!(rt;
-            format!(in alloc; "{copy:?}")?,
-            format!(in alloc; "{phrase:?}")?
-        );
-    }
+    let actual = phrase_of(alloc, EXPRESSIONS)?;
+    let body = phrase_of(alloc, COMMANDS)?;
     let closed = close_with(alloc, &actual, &body)?;
-    assert_eq!(rt; node_count(&closed), 12 + 3 * 21);
-    assert_eq!(rt; depth_of(&closed), 7);
+    assert!(rt; node_count(&closed) == 12 + 3 * 21 && depth_of(&closed) == 7);
     assert_eq!(rt; closed.place(), AT);
     Ok(())
 }

@@ -1,204 +1,231 @@
-use fy_derive::Demand;
+use crate::tests::made::{first_of, types_of};
+use fy_derive::{Demand, Derivation};
 use fy_forms::{TypeError, join, meet, paths_of};
 use fy_order::{
     PathIndex, are_paths_below, is_form_below, one_end, others, rests_of_field, rests_of_takers,
     takers,
 };
 use fy_types::{
-    Atom, Names, Ty, TyList, copy_paths, copy_ty, is_below, is_subtype, print_ty, same_ty, ty_of,
+    Atom, Names, Paths, Ty, copy_paths, copy_ty, is_below, is_subtype, print_ty, same_ty, ty_of,
 };
 use std::alloc::Global;
 use std::rc::Rc;
 use std::test::Fail;
 
-fn atom(atom: Atom) -> Ty {
-    Ty::Atom(atom)
-}
-
-fn arrow(alloc: Global, domain: Ty, rest: Ty) -> Result<Ty, Fail> {
-    Ok(Ty::Arrow(Rc::new(alloc, domain)?, Rc::new(alloc, rest)?))
-}
-
-fn both(alloc: Global, a: Ty, b: Ty) -> Result<Ty, Fail> {
-    let mut all = TyList::new(alloc);
-    all.push(a)?;
-    all.push(b)?;
-    Ok(Ty::Meet(all))
-}
-
-fn intvar(alloc: Global) -> Result<Ty, Fail> {
-    both(alloc, atom(Atom::Int), atom(Atom::IntAcc))
-}
-
-// The meet of so many members, the last one `last` and the others `first`.
-fn many(alloc: Global, count: usize, first: Atom, last: Atom) -> Result<Ty, Fail> {
-    let mut all = TyList::new(alloc);
-    for _ in 1..count {
-        all.push(atom(first))?;
-    }
-    all.push(atom(last))?;
-    Ok(Ty::Meet(all))
-}
-
-fn fields(alloc: Global, count: usize) -> Result<Ty, Fail> {
-    let mut ty = atom(Atom::Int);
-    for _ in 0..count {
-        ty = Ty::Field(7, Rc::new(alloc, ty)?);
-    }
-    Ok(ty)
-}
-
-// The answers of both tests of subtyping.
-fn answers(alloc: Global, low: &Ty, high: &Ty) -> Result<(bool, bool), Fail> {
-    let p = paths_of(alloc, low)?;
-    let q = paths_of(alloc, high)?;
-    Ok((is_subtype(&p, &q), is_below(alloc, low, high)?))
-}
+// Two types, and whether the first is a subtype of the second.
+const QUESTIONS: &[(&[u8], bool)] = &[
+    (b"sub [int -> comm] sub [(int & intacc) -> comm] ns", true),
+    (b"sub [(int & intacc) -> comm] sub [int -> comm] ns", false),
+    (
+        b"sub [(int -> int) & (int -> bool)] sub [int -> (int & bool)] ns",
+        true,
+    ),
+    (b"sub [ns] sub [int -> ns] ns", true),
+    (b"sub [ns] sub [ns -> int] ns", false),
+    (b"sub [int -> compl] sub [int -> comm] ns", true),
+];
 
 #[test]
 fn answers_questions_of_subtyping(rt: HostRuntime) -> Result<(), Fail> {
     let alloc = rt.alloc();
-    let int_to_int_and_int_to_bool = both(
-        alloc,
-        arrow(alloc, atom(Atom::Int), atom(Atom::Int))?,
-        arrow(alloc, atom(Atom::Int), atom(Atom::Bool))?,
-    )?;
-    let int_and_bool = both(alloc, atom(Atom::Int), atom(Atom::Bool))?;
-    let table = [
-        (
-            arrow(alloc, atom(Atom::Int), atom(Atom::Comm))?,
-            arrow(alloc, intvar(alloc)?, atom(Atom::Comm))?,
-            true,
-        ),
-        (
-            arrow(alloc, intvar(alloc)?, atom(Atom::Comm))?,
-            arrow(alloc, atom(Atom::Int), atom(Atom::Comm))?,
-            false,
-        ),
-        (
-            int_to_int_and_int_to_bool,
-            arrow(alloc, atom(Atom::Int), int_and_bool)?,
-            true,
-        ),
-        (Ty::Ns, arrow(alloc, atom(Atom::Int), Ty::Ns)?, true),
-        (Ty::Ns, arrow(alloc, Ty::Ns, atom(Atom::Int))?, false),
-        (
-            arrow(alloc, atom(Atom::Int), atom(Atom::Compl))?,
-            arrow(alloc, atom(Atom::Int), atom(Atom::Comm))?,
-            true,
-        ),
-    ];
-    for (low, high, answer) in &table {
-        assert!(rt; answers(alloc, low, high)? == (*answer, *answer));
+    for (text, answer) in QUESTIONS {
+        let d = types_of(alloc, text)?;
+        let (low, others) = first_of(&d)?;
+        let (high, _) = first_of(others)?;
+        assert!(rt; is_below(alloc, low, high)? == *answer);
+        let low = paths_of(alloc, low)?;
+        assert!(rt; is_subtype(&low, &paths_of(alloc, high)?) == *answer);
     }
     Ok(())
 }
 
-// A field of the name, or a procedure that takes one.
-fn member(alloc: Global, name: u32, is_taken: bool) -> Result<Ty, Fail> {
-    let field = Ty::Field(name, Rc::new(alloc, atom(Atom::Int))?);
-    if is_taken {
-        arrow(alloc, field, atom(Atom::Int))
+// Two types and their join or their meet, and which of them it is.
+const BOUNDS: &[(&[u8], bool)] = &[
+    (
+        b"sub [int -> comm] sub [bool -> compl] sub [(int & bool) -> comm] ns",
+        true,
+    ),
+    (
+        b"sub [int & bool] sub [bool & char] sub [int & bool & char] ns",
+        false,
+    ),
+];
+
+fn bound_of(alloc: Global, a: &Ty, b: &Ty, is_join: bool) -> Result<Paths, Fail> {
+    let a = paths_of(alloc, a)?;
+    let b = paths_of(alloc, b)?;
+    if is_join {
+        Ok(join(alloc, &a, &b)?)
     } else {
-        Ok(field)
+        Ok(meet(alloc, &a, &b)?)
     }
-}
-
-const SHARED: [u32; 7] = [21, 22, 23, 24, 25, 26, 27];
-
-// The meet of a procedure for each of the names, which takes a member of that name and of the shared ones.
-fn readers(alloc: Global, names: &[u32], are_taken: bool) -> Result<Ty, Fail> {
-    let mut all = TyList::new(alloc);
-    for name in names {
-        let mut members = TyList::new(alloc);
-        members.push(member(alloc, *name, are_taken)?)?;
-        for shared in &SHARED {
-            members.push(member(alloc, *shared, are_taken)?)?;
-        }
-        all.push(arrow(alloc, Ty::Meet(members), atom(Atom::Int))?)?;
-    }
-    Ok(Ty::Meet(all))
-}
-
-const NAMES: [u32; 17] = [1, 2, 3, 4, 5, 6, 7, 8, 9, 10, 11, 12, 13, 14, 15, 16, 17];
-
-const TURNED: [u32; 17] = [17, 16, 15, 14, 13, 12, 11, 10, 9, 8, 7, 6, 5, 4, 3, 2, 1];
-
-const OTHERS: [u32; 17] = [18, 16, 15, 14, 13, 12, 11, 10, 9, 8, 7, 6, 5, 4, 3, 2, 1];
-
-#[test]
-fn many_paths_are_compared(rt: HostRuntime) -> Result<(), Fail> {
-    let alloc = rt.alloc();
-    for are_taken in &[false, true] {
-        let form = paths_of(alloc, &readers(alloc, &NAMES, *are_taken)?)?;
-        let turned = paths_of(alloc, &readers(alloc, &TURNED, *are_taken)?)?;
-        let others = paths_of(alloc, &readers(alloc, &OTHERS, *are_taken)?)?;
-        assert!(rt; is_form_below(alloc, &form, &turned)?);
-        assert!(rt; !is_form_below(alloc, &form, &others)?);
-        let index = PathIndex::of(alloc, &form)?;
-        assert!(rt; index.is_below(alloc, &turned)?);
-        assert!(rt; !index.is_below(alloc, &others)?);
-    }
-    Ok(())
-}
-
-#[test]
-fn rests_stand_behind_demands(rt: HostRuntime) -> Result<(), Fail> {
-    let alloc = rt.alloc();
-    let int = one_end(alloc, Atom::Int)?;
-    assert!(rt; are_paths_below(alloc, &int, &int)?);
-    let procedure = paths_of(alloc, &arrow(alloc, atom(Atom::Int), atom(Atom::Bool))?)?;
-    let taken = takers(alloc, &int, &procedure)?;
-    let rests = rests_of_takers(alloc, taken.as_slice(), &procedure)?;
-    assert!(rt; matches!(rests.as_slice(), [rest] if rest.end == Atom::Bool));
-    let record = paths_of(alloc, &fields(alloc, 1)?)?;
-    assert!(rt; rests_of_field(alloc, 7, &record)?.len() == 1);
-    assert!(rt; rests_of_field(alloc, 8, &record)?.len() == 0);
-    assert!(rt; others(alloc, Demand::Call, record)?.len() == 1);
-    Ok(())
 }
 
 #[test]
 fn joins_and_meets(rt: HostRuntime) -> Result<(), Fail> {
     let alloc = rt.alloc();
-    let a = paths_of(alloc, &arrow(alloc, atom(Atom::Int), atom(Atom::Comm))?)?;
-    let b = paths_of(alloc, &arrow(alloc, atom(Atom::Bool), atom(Atom::Compl))?)?;
-    let joined = ty_of(alloc, &copy_paths(alloc, &join(alloc, &a, &b)?)?)?;
-    let domain = both(alloc, atom(Atom::Int), atom(Atom::Bool))?;
-    assert!(rt; same_ty(&joined, &arrow(alloc, domain, atom(Atom::Comm))?));
-    let a = paths_of(alloc, &both(alloc, atom(Atom::Int), atom(Atom::Bool))?)?;
-    let b = paths_of(alloc, &both(alloc, atom(Atom::Bool), atom(Atom::Char))?)?;
-    let met = meet(alloc, &a, &b)?;
-    let is_expected = match met.as_slice() {
-        [first, second, third] => {
-            first.end == Atom::Int
-                && second.end == Atom::Bool
-                && third.end == Atom::Char
-                && first.elems.len() == 0
-                && second.elems.len() == 0
-                && third.elems.len() == 0
-        }
-        _ => false,
-    };
-    assert!(rt; is_expected);
+    for (text, is_join) in BOUNDS {
+        let d = types_of(alloc, text)?;
+        let (a, others) = first_of(&d)?;
+        let (b, others) = first_of(others)?;
+        let (wanted, _) = first_of(others)?;
+        let bound = bound_of(alloc, a, b, *is_join)?;
+        let copy = copy_paths(alloc, &bound)?;
+        assert!(rt; same_ty(&ty_of(alloc, &copy)?, wanted));
+    }
+    Ok(())
+}
+
+// What stands around a name in a procedure that takes a member of the name and seven others: fields, or procedures that take them.
+type Around = (&'static [u8], &'static [u8]);
+
+const OF_FIELDS: Around = (
+    b"(((",
+    b" : int) & (s : int) & (t : int) & (u : int) & (v : int) & (w : int) & (x : int) & (y : int)) -> int) & ",
+);
+
+const OF_PROCEDURES: Around = (
+    b"((((",
+    b" : int) -> int) & ((s : int) -> int) & ((t : int) -> int) & ((u : int) -> int) & ((v : int) -> int) & ((w : int) -> int) & ((x : int) -> int) & ((y : int) -> int)) -> int) & ",
+);
+
+// All names in order, so that each text has the same numbers for them.
+const NUMBERED: &[u8] =
+    b"sub [(a : int) & (b : int) & (c : int) & (d : int) & (e : int) & (f : int) & (g : int) & (h : int) & (i : int) & (j : int) & (k : int) & (l : int) & (m : int) & (n : int) & (o : int) & (p : int) & (q : int) & (r : int) & (s : int) & (t : int) & (u : int) & (v : int) & (w : int) & (x : int) & (y : int)] sub [";
+
+// The path form of the meet of such a procedure for each of the names.
+fn readers(alloc: Global, names: &[u8], around: &Around) -> Result<Paths, Fail> {
+    let mut text = Vec::new(alloc);
+    text.extend_from_slice(NUMBERED)?;
+    for name in names {
+        text.extend_from_slice(around.0)?;
+        text.push(*name)?;
+        text.extend_from_slice(around.1)?;
+    }
+    text.extend_from_slice(b"ns] ns")?;
+    let d = types_of(alloc, text.as_slice())?;
+    let (_, others) = first_of(&d)?;
+    let (ty, _) = first_of(others)?;
+    Ok(paths_of(alloc, ty)?)
+}
+
+const NAMES: &[u8] = b"abcdefghijklmnopq";
+
+const TURNED: &[u8] = b"qponmlkjihgfedcba";
+
+const OTHERS: &[u8] = b"rponmlkjihgfedcba";
+
+// Names and what stands around them, and whether the form for the first names is below the one for these.
+const ORDERS: &[(&[u8], Around, bool)] = &[
+    (TURNED, OF_FIELDS, true),
+    (OTHERS, OF_FIELDS, false),
+    (TURNED, OF_PROCEDURES, true),
+    (OTHERS, OF_PROCEDURES, false),
+];
+
+#[test]
+fn many_paths_are_compared(rt: HostRuntime) -> Result<(), Fail> {
+    let alloc = rt.alloc();
+    for (names, around, answer) in ORDERS {
+        let form = readers(alloc, NAMES, around)?;
+        let other = readers(alloc, names, around)?;
+        assert!(rt; form.len() == 17 && other.len() == 17);
+        assert!(rt; is_form_below(alloc, &form, &other)? == *answer);
+        let index = PathIndex::of(alloc, &form)?;
+        assert!(rt; index.is_below(alloc, &other)? == *answer);
+    }
     Ok(())
 }
 
 #[test]
+fn rests_stand_behind_calls(rt: HostRuntime) -> Result<(), Fail> {
+    let alloc = rt.alloc();
+    let d = types_of(alloc, b"sub [int -> bool] ns")?;
+    let (ty, _) = first_of(&d)?;
+    let procedure = paths_of(alloc, ty)?;
+    let int = one_end(alloc, Atom::Int)?;
+    assert!(rt; are_paths_below(alloc, &int, &int)?);
+    let taken = takers(alloc, &int, &procedure)?;
+    let rests = rests_of_takers(alloc, taken.as_slice(), &procedure)?;
+    assert!(rt; matches!(rests.as_slice(), [rest] if rest.end == Atom::Bool));
+    Ok(())
+}
+
+#[test]
+fn rests_stand_behind_fields(rt: HostRuntime) -> Result<(), Fail> {
+    let alloc = rt.alloc();
+    let d = types_of(alloc, b"sub [putint : int] ns")?;
+    let (ty, _) = first_of(&d)?;
+    let record = paths_of(alloc, ty)?;
+    assert!(rt; rests_of_field(alloc, 1, &record)?.len() == 1);
+    assert!(rt; rests_of_field(alloc, 2, &record)?.len() == 0);
+    assert!(rt; others(alloc, Demand::Call, record)?.len() == 1);
+    Ok(())
+}
+
+// The beginning of a text, what stands in it so many times, and its end.
+type Long = (&'static [u8], &'static [u8], usize, &'static [u8]);
+
+fn long_types(alloc: Global, spelled: &Long) -> Result<Derivation, Fail> {
+    let (head, piece, count, tail) = spelled;
+    let mut text = Vec::new(alloc);
+    text.extend_from_slice(head)?;
+    for _ in 0..*count {
+        text.extend_from_slice(piece)?;
+    }
+    text.extend_from_slice(tail)?;
+    types_of(alloc, text.as_slice())
+}
+
+const MANY_INTS: Long = (b"sub [", b"int & ", 4096, b"int] ns");
+
+const WITH_A_BOOL: Long = (b"sub [", b"int & ", 4096, b"bool] ns");
+
+const FIELDS: Long = (b"sub [", b"x : ", 480, b"int] ns");
+
+const MORE_FIELDS: Long = (b"sub [", b"x : ", 481, b"int] ns");
+
+// Types with the length of their path forms, where these are within the limits.
+const LENGTHS: &[(Long, Option<usize>)] = &[
+    ((b"sub [", b"int & ", 4095, b"int] ns"), Some(4096)),
+    (MANY_INTS, None),
+    ((b"sub [(", b"int & ", 4096, b"int) -> ns] ns"), Some(0)),
+    ((b"sub [", b"x : ", 479, b"int] ns"), Some(1)),
+    (FIELDS, None),
+];
+
+#[test]
 fn keeps_the_limits_of_path_forms(rt: HostRuntime) -> Result<(), Fail> {
     let alloc = rt.alloc();
-    let most = many(alloc, 4096, Atom::Int, Atom::Int)?;
-    let more = many(alloc, 4097, Atom::Int, Atom::Int)?;
-    assert!(rt; paths_of(alloc, &most)?.len() == 4096);
-    assert!(rt; matches!(paths_of(alloc, &more), Err(TypeError::TypeTooLarge)));
-    assert!(rt; paths_of(alloc, &arrow(alloc, more, Ty::Ns)?)?.len() == 0);
-    assert!(rt; paths_of(alloc, &fields(alloc, 479)?)?.len() == 1);
-    assert!(rt;
-        matches!(
-            paths_of(alloc, &fields(alloc, 480)?),
-            Err(TypeError::TypeTooLarge)
-        )
-    );
+    for (spelled, length) in LENGTHS {
+        let d = long_types(alloc, spelled)?;
+        let (ty, _) = first_of(&d)?;
+        match paths_of(alloc, ty) {
+            Ok(form) => assert!(rt; *length == Some(form.len())),
+            Err(error) => assert!(rt; length.is_none() && error == TypeError::TypeTooLarge),
+        }
+    }
+    Ok(())
+}
+
+// Types whose path forms are past the limits, and whether the first is below the second.
+const COMPARED: &[(Long, Long, bool)] = &[
+    (WITH_A_BOOL, MANY_INTS, true),
+    (MANY_INTS, WITH_A_BOOL, false),
+    (FIELDS, FIELDS, true),
+    (FIELDS, MORE_FIELDS, false),
+];
+
+#[test]
+fn compares_types_past_the_limits(rt: HostRuntime) -> Result<(), Fail> {
+    let alloc = rt.alloc();
+    for (low, high, answer) in COMPARED {
+        let low = long_types(alloc, low)?;
+        let high = long_types(alloc, high)?;
+        let (low, _) = first_of(&low)?;
+        let (high, _) = first_of(&high)?;
+        assert!(rt; is_below(alloc, low, high)? == *answer);
+    }
     Ok(())
 }
 
@@ -206,37 +233,37 @@ fn keeps_the_limits_of_path_forms(rt: HostRuntime) -> Result<(), Fail> {
 fn prints_a_sequence_type(rt: HostRuntime) -> Result<(), Fail> {
     let alloc = rt.alloc();
     let names = Names::new(alloc)?;
-    let ints = arrow(alloc, atom(Atom::Int), atom(Atom::Int))?;
-    let intseq = both(alloc, ints, Ty::Field(0, Rc::new(alloc, atom(Atom::Int))?))?;
-    let text = print_ty(alloc, &names, &copy_ty(alloc, &intseq)?)?;
+    let d = types_of(alloc, b"sub [(int -> int) & len : int] ns")?;
+    let (intseq, _) = first_of(&d)?;
+    let copy = copy_ty(alloc, intseq)?;
+    let text = print_ty(alloc, &names, &copy)?;
     assert!(rt; text.as_slice() == b"(int -> int) & (len : int)".as_slice());
-    let nameless = Ty::Field(13, Rc::new(alloc, Ty::Ns)?);
-    assert!(rt; print_ty(alloc, &names, &nameless)?.as_slice() == b" : ns".as_slice());
     Ok(())
 }
+
+// No text spells a field that has no name.
+#[test]
+fn prints_a_field_without_a_name(rt: HostRuntime) -> Result<(), Fail> {
+    let alloc = rt.alloc();
+    let names = Names::new(alloc)?;
+    let nameless = Ty::Field(13, Rc::new(alloc, Ty::Ns)?);
+    let text = print_ty(alloc, &names, &nameless)?;
+    assert!(rt; text.as_slice() == b" : ns".as_slice());
+    Ok(())
+}
+
+const TEXTS: &[(u32, Option<&[u8]>)] = &[(0, Some(b"len")), (13, Some(b"x")), (14, None)];
 
 #[test]
 fn numbers_texts_in_order(rt: HostRuntime) -> Result<(), Fail> {
     let mut names = Names::new(rt.alloc())?;
-    assert_eq!(rt; names.number(b"intvarseq")?, 12);
-    assert_eq!(rt; names.number(b"x")?, 13);
-    assert_eq!(rt; names.number(b"putint")?, 1);
-    assert_eq!(rt; names.number(b"x")?, 13);
-    assert_eq!(rt; names.text(0), Some(b"len".as_slice()));
-    assert_eq!(rt; names.text(13), Some(b"x".as_slice()));
-    assert_eq!(rt; names.text(14), None);
-    Ok(())
-}
-
-// Types whose path forms are past the limits are compared all the same.
-#[test]
-fn compares_types_past_the_limits(rt: HostRuntime) -> Result<(), Fail> {
-    let alloc = rt.alloc();
-    let ints = many(alloc, 4097, Atom::Int, Atom::Int)?;
-    let with_a_bool = many(alloc, 4097, Atom::Int, Atom::Bool)?;
-    assert!(rt; is_below(alloc, &with_a_bool, &ints)?);
-    assert!(rt; !is_below(alloc, &ints, &with_a_bool)?);
-    assert!(rt; is_below(alloc, &fields(alloc, 480)?, &fields(alloc, 480)?)?);
-    assert!(rt; !is_below(alloc, &fields(alloc, 480)?, &fields(alloc, 481)?)?);
+    let intvarseq = names.number(b"intvarseq")?;
+    let x = names.number(b"x")?;
+    let putint = names.number(b"putint")?;
+    let again = names.number(b"x")?;
+    assert!(rt; intvarseq == 12 && x == 13 && putint == 1 && again == 13);
+    for (number, text) in TEXTS {
+        assert!(rt; names.text(*number) == *text);
+    }
     Ok(())
 }
