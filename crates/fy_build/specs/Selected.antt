@@ -1,5 +1,5 @@
 -- Which code the image of a phrase is selected from, and how long the image is.
-use Rattle.std.specs.Prelude.{ℕ, ◌+◌, ◌*◌, ◌≤◌, length, All}
+use Rattle.std.specs.Prelude.{◌+◌, ◌*◌, ◌≤◌, length, All}
 use Rattle.fy_phrase.specs.Tree.{Tree}
 use Rattle.fy_phrase.specs.declared.shapes.ShapeTable.{ShapeTable}
 use Rattle.fy_derive.specs.Derivations.{PlainDerivation}

@@ -222,8 +222,8 @@ RunsImage (orders.link file to stack) = ⊥
 
 -- ---- images
 
--- the image of a phrase with so many stack words, by a derivation in use, whose shapes are numbered in order: its table has a row for each shape of the derivation, it is selected from the code that `trace` runs, with at most 60 words
--- for each entry and 4,096 beside, `audit` passes it, and it runs as the copy rule
+-- the image of a phrase with so many stack words, by a derivation in use, whose shapes are numbered in order: its table has a row for each shape of the derivation, it is selected from right code, laid out, that hands no constant as a thunk,
+-- with at most 60 words for each entry and 4,096 beside, `audit` passes it, and it runs as the copy rule
 pub record IsImageBy (phrase : Tree) (by : PlainDerivation) (stack : ℕ) (image : Image) : Type 0 where
   pub in_use : IsInUse phrase by
   pub ordered : AreInOrder in_use.table

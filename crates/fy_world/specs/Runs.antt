@@ -1,5 +1,5 @@
 -- Runs, and what is due for them: a status, an output, notes, the file that is kept and what is left at input.
-use Rattle.std.specs.Prelude.{ℕ, ◌≤◌, ◌<◌, List, [], ◌∷◌, ◌++◌, length, map, Some, None, option_to_list}
+use Rattle.std.specs.Prelude.{ℕ, ◌≤◌, List, [], ◌∷◌, ◌++◌, length, map, Some, None, option_to_list}
 use Rattle.std.specs.declared.option.Option.{Option}
 use Rattle.circular_buffer.specs.Buffer.{keep_last}
 use Rattle.fy_base.specs.Outside.{Bytes}

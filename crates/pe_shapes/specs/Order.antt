@@ -34,7 +34,7 @@ pub record AreInOrder (table : ShapeTable) : Type 0 where
   pub shapes : AllPairs (λ s t. comes_before s t ≡ true) (map plain_shape table.shapes)
   pub pairs : AllPairs IsPairBefore table.pairs
 
--- a phrase and a derivation have one table in order
+-- a phrase and a derivation have at most one table of just their pairs in order
 abbrev pub ShapeTablesAreOne : Type 0
 ShapeTablesAreOne =
     (p : Tree) (d : PlainDerivation) (one other : ShapeTable) → HasJustPairs one (shape_table p d) → HasJustPairs other (shape_table p d) → AreInOrder one → AreInOrder other → one ≡ other

@@ -27,7 +27,8 @@ const MOST_WORDS: u64 = 1_048_576;
 /// a type that some node of the derivation concludes for it. Nodes are counted in preorder, from 0.
 /// The derivation is one that [`check`](fy_derive::check) accepts. `TooManyShapes`,
 /// `TooManyEntries` and `TablesTooLarge` tell which limit is passed, in this order; `OutOfMemory` may
-/// always come. What the form of a pair asks of its parts is in the table too.
+/// always come. What the form of a pair asks of its parts is in the table too. The shapes stand in
+/// their order, and the pairs by node and then by shape.
 pub fn shapes_of(alloc: Global, p: &Phrase, d: &Derivation) -> Result<ShapeTable, ShapeError>
     requires nodes { phrase_nodes (reads p.now) ≤ 65536 }
     requires few { nodes (plain_derivation d.now) ≤ most_nodes }
