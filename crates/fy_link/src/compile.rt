@@ -3,6 +3,7 @@
 ghost use Rattle.std.specs.Prelude.{◌≡◌, ◌+◌, ◌≤◌, IfOk, IfErr, length};
 ghost use Rattle.fy_derive.specs.Printable.{IsPrintable};
 ghost use Rattle.fy_derive.specs.Reading.{plain_derivation};
+ghost use Rattle.fy_expand.specs.Judged.{most_text};
 ghost use Rattle.fy_lexer.specs.Identifiers.{AreIdentifiers};
 ghost use Rattle.fy_lexer.specs.Tokens.{HasAdded};
 ghost use Rattle.fy_link.specs.Read.{source_in};
@@ -32,7 +33,7 @@ use std::alloc::Global;
 /// then what stands behind the `==` is no program; then it is refused in parentheses inside an abstraction for each import. `Find`:
 /// the phrase doesn't have the unit's type, or a type is too large. And `OutOfMemory`.
 pub fn compile_unit(alloc: Global, names: &mut Names, source: &[u8]) -> Result<Unit, UnitError>
-    requires text { length source.now ≤ 1048576 }
+    requires text { length source.now ≤ most_text }
     requires names { length names.old ≤ 3000000000 }
     ensures source { IfOk result (λ unit. unit.source ≡ source.now) }
     ensures said { IfOk result (λ unit. IsSource names.old source.now names.new (source_in unit)) }

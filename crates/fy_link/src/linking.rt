@@ -4,7 +4,7 @@ ghost use Rattle.std.specs.Prelude.{◌≡◌, ◌<◌, ◌≤◌, ◌⊎◌, �
 ghost use Rattle.fy_phrase.specs.Reads.{reads};
 ghost use Rattle.fy_derive.specs.Derivations.{most_nesting, most_nodes, nesting, nodes};
 ghost use Rattle.fy_derive.specs.Reading.{plain_derivation};
-ghost use Rattle.fy_expand.specs.Judged.{IsJudgedFrom};
+ghost use Rattle.fy_expand.specs.Judged.{IsJudgedFrom, most_text};
 ghost use Rattle.fy_lexer.specs.Tokens.{HasAdded};
 ghost use Rattle.fy_link.specs.Composed.{composed_derivation};
 ghost use Rattle.fy_link.specs.Joined.{IsJoinedText, IsTextPart};
@@ -127,7 +127,7 @@ fn derived(alloc: Global, units: &[Unit]) -> Result<Derivation, LinkError>
 
 // The core phrase of a text.
 fn meaning(alloc: Global, names: &mut Names, text: &[u8]) -> Result<Phrase, LinkError>
-    requires text { length text.now ≤ 1048576 }
+    requires text { length text.now ≤ most_text }
     requires names { length names.old ≤ 3000000000 }
     ensures ok { IfOk result (λ p. IsJudgedFrom names.old text.now (Ok (reads p))) }
     ensures err { IfErr result (λ e. (e ≡ NoMemory) ⊎ IsTextRefused names.old text.now e) }

@@ -7,6 +7,7 @@ ghost use Rattle.fy_types.specs.declared.types.Atom.TheVariants.{Comm};
 ghost use Rattle.fy_types.specs.Reading.{plain_type, types_in};
 ghost use Rattle.fy_types.specs.Types.{arrow, atom as of_atom};
 ghost use Rattle.fy_link.specs.Units.{context_of};
+ghost use Rattle.fy_expand.specs.Judged.{most_text};
 ghost use Rattle.fy_grammar.specs.Program.{IsEnded};
 ghost use Rattle.fy_lexer.specs.Tokens.{HasAdded};
 ghost use Rattle.fy_lexer.specs.Again.{HaveNoEnd};
@@ -160,7 +161,7 @@ fn said_behind(alloc: Global, at: Place, header: &Header<'_>) -> Result<Said, Un
 
 /// What a source says, or why it is refused before typing. The names get those of its names that are new.
 pub(crate) fn said_in(alloc: Global, names: &mut Names, source: &[u8]) -> Result<Said, UnitError>
-    requires text { length source.now ≤ 1048576 }
+    requires text { length source.now ≤ most_text }
     requires names { length names.old ≤ 3000000000 }
     ensures ok { IfOk result (λ said. IsSource names.old source.now names.new (plain_said said)) }
     ensures equals_at { IfOk result (λ said. HasEquals names.old source.now names.new said.equals_at) }
