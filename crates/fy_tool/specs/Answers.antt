@@ -1,5 +1,5 @@
 -- How a call answers: all that is due was done, or the outside failed, or memory was wanting.
-use Rattle.std.specs.Prelude.{◌≡◌, ◌≢◌, ℕ, List, [], ◌∷◌, ◌++◌, ◌⊎◌, length, take, IfOk}
+use Rattle.std.specs.Prelude.{◌≡◌, ◌≢◌, ℕ, List, [], ◌∷◌, ◌++◌, ◌⊎◌, length, take, IfOk, IfSome, IsSomeAnd, MatchOption}
 use Rattle.std.specs.Option.{ForSome}
 use Rattle.std.specs.declared.option.Option.{Option}
 use Rattle.std.specs.declared.option.Option.TheVariants.{Some, None}
@@ -19,7 +19,7 @@ use Rattle.fy_world.specs.declared.world.Stop.TheVariants.{Fetch, Keep, Input, O
 use Rattle.fy_tool.specs.Due.{IsDue, Sources, TellsSources, reads_of, keeps_of, IsReadyFirst, RunsImage}
 use Rattle.fy_tool.specs.Fetched.{AreDue, IsUnfetched}
 
--- what a call reads, keeps, and asks of what is told
+-- what a call reads and keeps
 abbrev pub all_reads_of : Option Order → Sources → List Bytes
 all_reads_of None sources = []
 all_reads_of (Some order) sources = reads_of order sources
@@ -28,36 +28,20 @@ abbrev pub all_keeps_of : Option Order → List Bytes
 all_keeps_of None = []
 all_keeps_of (Some order) = keeps_of order
 
-abbrev pub AreAllDue : Option Order → Sources → List Bytes → Type 0
-AreAllDue None sources names = names ≡ []
-AreAllDue (Some order) sources names = AreDue order sources names
-
-abbrev pub TellsAll : Option Order → Option Folder → Sources → Type 0
-TellsAll None files sources = Unit {0}
-TellsAll (Some order) files sources = TellsSources order files sources
-
-abbrev pub IsAllReadyFirst : Option Order → Type 0
-IsAllReadyFirst None = Unit {0}
-IsAllReadyFirst (Some order) = IsReadyFirst order
-
-abbrev pub AllRunsImage : Option Order → Type 0
-AllRunsImage None = ⊥
-AllRunsImage (Some order) = RunsImage order
-
 -- what explains an answer: what the files hold that are read, where they are told, and the input, which is what was left where that is told, and which an image is
 -- run on only where it is of bytes, unless what is told isn't
 pub record Explains (order : Option Order) (files : Option Folder) (left : Option Bytes) (due : Due) : Type 0 where
   pub sources : Sources
-  pub told : TellsAll order files sources
+  pub told : IfSome order (λ order. TellsSources order files sources)
   pub input : Bytes
   pub fed : ForSome left (λ bytes. input ≡ bytes)
-  pub bytes : AllRunsImage order → ForSome left AreBytes → AreBytes input
+  pub bytes : IsSomeAnd order RunsImage → ForSome left AreBytes → AreBytes input
   pub is_due : IsDue sources input order due
 
 -- `fetch` was called at most once for each of some files that are due one after another, and `keep` for each that the order keeps; where none is due to be kept it wasn't called, but where memory was wanting
 pub record Called (order : Option Order) (sources : Sources) (due : Due) (Wanting : Type 0) (before now : FileCalls) : Type 0 where
   pub names : List Bytes
-  pub are : AreAllDue order sources names
+  pub are : MatchOption order (names ≡ []) (λ order. AreDue order sources names)
   pub called : HasCalled (length names) (length (all_keeps_of order)) before now
   pub unkept : due.kept ≡ None → ¬ Wanting → HasCalled (length names) 0 before now
 
@@ -70,7 +54,7 @@ pub record Serves (order : Option Order) (before now : Contents) (counts counts'
   pub fetched : result ≡ Err Fetch → IsUnfetched order explained.sources due counts counts'
   pub called : Called order explained.sources due (result ≡ Err Memory) calls calls'
   pub did : Did due before now result
-  pub ready : IsAllReadyFirst order → result ≡ Err Memory → now ≡ before
+  pub ready : IfSome order IsReadyFirst → result ≡ Err Memory → now ≡ before
 
 -- ---- the end of a call
 
@@ -133,7 +117,7 @@ pub record IsMemory (due : Due) (before now : Contents) : Type 0 where
 -- memory was wanting, and that wasn't told: no file changed, and where all memory is taken first nothing was done
 pub record IsLost (order : Option Order) (before now : Contents) : Type 0 where
   pub files : now.files ≡ before.files
-  pub ready : IsAllReadyFirst order → now ≡ record before { notes = now.notes }
+  pub ready : IfSome order IsReadyFirst → now ≡ record before { notes = now.notes }
 
 -- memory may have been wanting: that is told, or notes failed
 abbrev pub MayWant : ℕ → Stop → Type 0
@@ -157,5 +141,5 @@ pub record Answers (order : Option Order) (before now : Contents) (counts counts
   pub untold : status ≡ 7 → stop ≡ Notes → (due.notes ≢ []) ⊎ IsLost order before now
   pub memory : status ≡ 9 → IsMemory due before now
   -- where all memory is taken first, none of it was wanting once anything was taken, kept, put or told
-  pub ready : IsAllReadyFirst order → status ≡ 9 → now ≡ record before { notes = appended before.notes (last_line Memory) }
+  pub ready : IfSome order IsReadyFirst → status ≡ 9 → now ≡ record before { notes = appended before.notes (last_line Memory) }
   pub never_less : Later counts counts'

@@ -1,5 +1,5 @@
 -- What is due for an order: its status, its output, its notes, the file that it keeps and what it leaves at input.
-use Rattle.std.specs.Prelude.{◌≡◌, ◌⊎◌, ℕ, List, [], ◌∷◌, ◌++◌, length, codes, Some, None, unwrap_or, option_to_list, All}
+use Rattle.std.specs.Prelude.{◌≡◌, ◌⊎◌, ℕ, Bool, true, false, T, List, [], ◌∷◌, ◌++◌, length, codes, is_none, Some, None, unwrap_or, option_to_list, All}
 use Rattle.std.specs.declared.option.Option.{Option}
 use Rattle.fy_base.specs.Outside.{Bytes, Folder, Tells}
 use Rattle.fy_phrase.specs.Reads.{reads}
@@ -59,166 +59,106 @@ pub record Sources : Type 0 where
   pub derivation : Option Bytes
   pub units : List Listed
 
--- the derivation that an order names
-abbrev pub named_by : Order → Option Bytes
-named_by (orders.build file image stack named) = named
-named_by (orders.run file steps stack named image) = named
-named_by (orders.check file) = None
-named_by (orders.derive file) = None
-named_by (orders.exec image steps last) = None
-named_by (orders.copy file steps) = None
-named_by (orders.trace file steps) = None
-named_by (orders.list file) = None
-named_by (orders.sample number size) = None
-named_by (orders.audit image) = None
-named_by (orders.migrate from to) = None
-named_by (orders.elf from to) = None
-named_by (orders.unelf from to) = None
-named_by (orders.unit file to) = None
-named_by (orders.join file to) = None
-named_by (orders.link file to stack) = None
-
--- the text of a program that an order takes; `exec`, `audit`, `migrate` and `elf` take an image, `unelf` an ELF file, `unit` the source of a unit, and `join` and `link` a list
-abbrev pub text_of : Order → Sources → Option Bytes
-text_of (orders.check file) sources = sources.file
-text_of (orders.derive file) sources = sources.file
-text_of (orders.build file image stack named) sources = sources.file
-text_of (orders.run file steps stack named image) sources = sources.file
-text_of (orders.copy file steps) sources = sources.file
-text_of (orders.trace file steps) sources = sources.file
-text_of (orders.list file) sources = sources.file
-text_of (orders.sample number size) sources = Some (sample_text number size)
-text_of (orders.exec image steps last) sources = None
-text_of (orders.audit image) sources = None
-text_of (orders.migrate from to) sources = None
-text_of (orders.elf from to) sources = None
-text_of (orders.unelf from to) sources = None
-text_of (orders.unit file to) sources = None
-text_of (orders.join file to) sources = None
-text_of (orders.link file to stack) sources = None
-
--- the bytes of the image that an order takes
-abbrev pub image_of : Order → Sources → Option Bytes
-image_of (orders.exec image steps last) sources = sources.file
-image_of (orders.audit image) sources = sources.file
-image_of (orders.migrate from to) sources = sources.file
-image_of (orders.elf from to) sources = sources.file
-image_of (orders.unelf from to) sources = None
-image_of (orders.check file) sources = None
-image_of (orders.derive file) sources = None
-image_of (orders.build file image stack named) sources = None
-image_of (orders.run file steps stack named image) sources = None
-image_of (orders.copy file steps) sources = None
-image_of (orders.trace file steps) sources = None
-image_of (orders.list file) sources = None
-image_of (orders.sample number size) sources = None
-image_of (orders.unit file to) sources = None
-image_of (orders.join file to) sources = None
-image_of (orders.link file to stack) sources = None
-
--- the list of units that an order takes
-abbrev pub list_of : Order → Sources → Option Bytes
-list_of (orders.join file to) sources = sources.file
-list_of (orders.link file to stack) sources = sources.file
-list_of (orders.check file) sources = None
-list_of (orders.derive file) sources = None
-list_of (orders.build file image stack named) sources = None
-list_of (orders.exec image steps last) sources = None
-list_of (orders.run file steps stack named image) sources = None
-list_of (orders.copy file steps) sources = None
-list_of (orders.trace file steps) sources = None
-list_of (orders.list file) sources = None
-list_of (orders.sample number size) sources = None
-list_of (orders.audit image) sources = None
-list_of (orders.migrate from to) sources = None
-list_of (orders.elf from to) sources = None
-list_of (orders.unelf from to) sources = None
-list_of (orders.unit file to) sources = None
-
--- the file that an order names, if it reads one
-abbrev pub file_of : Order → Option Bytes
-file_of (orders.check file) = Some file
-file_of (orders.derive file) = Some file
-file_of (orders.build file image stack named) = Some file
-file_of (orders.exec image steps last) = Some image
-file_of (orders.run file steps stack named image) = Some file
-file_of (orders.copy file steps) = Some file
-file_of (orders.trace file steps) = Some file
-file_of (orders.list file) = Some file
-file_of (orders.sample number size) = None
-file_of (orders.audit image) = Some image
-file_of (orders.migrate from to) = Some from
-file_of (orders.elf from to) = Some from
-file_of (orders.unelf from to) = Some from
-file_of (orders.unit file to) = Some file
-file_of (orders.join file to) = Some file
-file_of (orders.link file to stack) = Some file
-
--- the files that an order reads
-abbrev pub reads_of : Order → Sources → List Bytes
-reads_of order sources = names_of sources.units ++ (option_to_list (file_of order) ++ option_to_list (named_by order))
-
 -- the name under which `run` keeps its image: FILE followed by `.img`, where no option names another
 abbrev pub kept_as : Bytes → Option Bytes → Bytes
 kept_as file image = unwrap_or image (file ++ codes ".img")
 
--- the files that an order keeps
+-- what an order takes: what a file holds, and as what, or a sample program, which no file holds
+pub data Taken : Type 0 where
+  program_text : (file : Bytes) → Taken
+  image_bytes : (file : Bytes) → Taken
+  elf_bytes : (file : Bytes) → Taken
+  unit_source : (file : Bytes) → Taken
+  unit_list : (file : Bytes) → Taken
+  sample_program : (number size : ℕ) → Taken
+
+-- the signature of an order: what it takes, the derivation that it names, the file that it keeps, whether it runs an image,
+-- and whether it takes all its memory before it takes, keeps, puts or tells anything
+pub record Signature : Type 0 where
+  pub takes : Taken
+  pub derivation : Option Bytes
+  pub keeps : Option Bytes
+  pub runs_image : Bool
+  pub ready_first : Bool
+
+-- of an order that does nothing beside: it names and keeps nothing, runs no image, and takes all its memory first
+abbrev pub taking : Taken → Signature
+taking taken = record { takes = taken; derivation = None; keeps = None; runs_image = false; ready_first = true }
+
+abbrev pub signature_of : Order → Signature
+signature_of (orders.check file) = taking (program_text file)
+signature_of (orders.derive file) = taking (program_text file)
+signature_of (orders.build file image stack named) = record (taking (program_text file)) { derivation = named; keeps = Some image }
+signature_of (orders.exec image steps last) = record (taking (image_bytes image)) { runs_image = true; ready_first = is_none last }
+signature_of (orders.run file steps stack named image) = record (taking (program_text file)) { derivation = named; keeps = Some (kept_as file image); runs_image = true }
+signature_of (orders.copy file steps) = record (taking (program_text file)) { ready_first = false }
+signature_of (orders.trace file steps) = record (taking (program_text file)) { ready_first = false }
+signature_of (orders.list file) = record (taking (program_text file)) { ready_first = false }
+signature_of (orders.sample number size) = record (taking (sample_program number size)) { keeps = Some (codes "sample.img"); runs_image = true }
+signature_of (orders.audit image) = taking (image_bytes image)
+signature_of (orders.migrate from to) = record (taking (image_bytes from)) { keeps = Some to }
+signature_of (orders.elf from to) = record (taking (image_bytes from)) { keeps = Some to }
+signature_of (orders.unelf from to) = record (taking (elf_bytes from)) { keeps = Some to }
+signature_of (orders.unit file to) = record (taking (unit_source file)) { keeps = Some to }
+signature_of (orders.join file to) = record (taking (unit_list file)) { keeps = Some to }
+signature_of (orders.link file to stack) = record (taking (unit_list file)) { keeps = Some to }
+
+-- the file that an order names, if it reads one
+abbrev pub taken_file : Taken → Option Bytes
+taken_file (program_text file) = Some file
+taken_file (image_bytes file) = Some file
+taken_file (elf_bytes file) = Some file
+taken_file (unit_source file) = Some file
+taken_file (unit_list file) = Some file
+taken_file (sample_program number size) = None
+
+abbrev pub file_of : Order → Option Bytes
+file_of order = taken_file (signature_of order).takes
+
+-- the derivation that it names
+abbrev pub named_by : Order → Option Bytes
+named_by order = (signature_of order).derivation
+
+-- the text of a program that it takes
+abbrev pub taken_text : Taken → Sources → Option Bytes
+taken_text (program_text file) sources = sources.file
+taken_text (sample_program number size) sources = Some (sample_text number size)
+taken_text _ sources = None
+
+abbrev pub text_of : Order → Sources → Option Bytes
+text_of order sources = taken_text (signature_of order).takes sources
+
+-- the bytes of an image that it takes
+abbrev pub taken_image : Taken → Sources → Option Bytes
+taken_image (image_bytes file) sources = sources.file
+taken_image _ sources = None
+
+abbrev pub image_of : Order → Sources → Option Bytes
+image_of order sources = taken_image (signature_of order).takes sources
+
+-- the list of units that it takes
+abbrev pub taken_list : Taken → Sources → Option Bytes
+taken_list (unit_list file) sources = sources.file
+taken_list _ sources = None
+
+abbrev pub list_of : Order → Sources → Option Bytes
+list_of order sources = taken_list (signature_of order).takes sources
+
+-- the files that it reads
+abbrev pub reads_of : Order → Sources → List Bytes
+reads_of order sources = names_of sources.units ++ (option_to_list (file_of order) ++ option_to_list (named_by order))
+
+-- the files that it keeps
 abbrev pub keeps_of : Order → List Bytes
-keeps_of (orders.build file image stack named) = image ∷ []
-keeps_of (orders.run file steps stack named image) = kept_as file image ∷ []
-keeps_of (orders.sample number size) = codes "sample.img" ∷ []
-keeps_of (orders.migrate from to) = to ∷ []
-keeps_of (orders.elf from to) = to ∷ []
-keeps_of (orders.unelf from to) = to ∷ []
-keeps_of (orders.unit file to) = to ∷ []
-keeps_of (orders.join file to) = to ∷ []
-keeps_of (orders.link file to stack) = to ∷ []
-keeps_of (orders.check file) = []
-keeps_of (orders.derive file) = []
-keeps_of (orders.exec image steps last) = []
-keeps_of (orders.copy file steps) = []
-keeps_of (orders.trace file steps) = []
-keeps_of (orders.list file) = []
-keeps_of (orders.audit image) = []
+keeps_of order = option_to_list (signature_of order).keeps
 
 -- an order that takes all its memory before it takes, keeps, puts or tells anything
 abbrev pub IsReadyFirst : Order → Type 0
-IsReadyFirst (orders.exec image steps (Some count)) = ⊥
-IsReadyFirst (orders.exec image steps None) = Unit {0}
-IsReadyFirst (orders.copy file steps) = ⊥
-IsReadyFirst (orders.trace file steps) = ⊥
-IsReadyFirst (orders.list file) = ⊥
-IsReadyFirst (orders.check file) = Unit {0}
-IsReadyFirst (orders.derive file) = Unit {0}
-IsReadyFirst (orders.build file image stack named) = Unit {0}
-IsReadyFirst (orders.run file steps stack named image) = Unit {0}
-IsReadyFirst (orders.sample number size) = Unit {0}
-IsReadyFirst (orders.audit image) = Unit {0}
-IsReadyFirst (orders.migrate from to) = Unit {0}
-IsReadyFirst (orders.elf from to) = Unit {0}
-IsReadyFirst (orders.unelf from to) = Unit {0}
-IsReadyFirst (orders.unit file to) = Unit {0}
-IsReadyFirst (orders.join file to) = Unit {0}
-IsReadyFirst (orders.link file to stack) = Unit {0}
+IsReadyFirst order = T (signature_of order).ready_first
 
 -- an order that runs an image
 abbrev pub RunsImage : Order → Type 0
-RunsImage (orders.exec image steps last) = Unit {0}
-RunsImage (orders.run file steps stack named image) = Unit {0}
-RunsImage (orders.sample number size) = Unit {0}
-RunsImage (orders.check file) = ⊥
-RunsImage (orders.derive file) = ⊥
-RunsImage (orders.build file image stack named) = ⊥
-RunsImage (orders.copy file steps) = ⊥
-RunsImage (orders.trace file steps) = ⊥
-RunsImage (orders.list file) = ⊥
-RunsImage (orders.audit image) = ⊥
-RunsImage (orders.migrate from to) = ⊥
-RunsImage (orders.elf from to) = ⊥
-RunsImage (orders.unelf from to) = ⊥
-RunsImage (orders.unit file to) = ⊥
-RunsImage (orders.join file to) = ⊥
-RunsImage (orders.link file to stack) = ⊥
+RunsImage order = T (signature_of order).runs_image
 
 -- ---- images
 
