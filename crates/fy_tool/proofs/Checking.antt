@@ -20,7 +20,7 @@ use Rattle.fy_phrase.specs.Sizes.{depth}
 use Rattle.fy_phrase.specs.CoreLimits.{KeepsCoreLimits}
 use Rattle.fy_expand.specs.declared.error.ExpandError.{ExpandError}
 use Rattle.fy_expand.specs.declared.error.ExpandError.TheVariants as expanding
-use Rattle.fy_expand.specs.Judged.{HasTokens, IsAllowed, IsJudged, too_long, no_tokens, no_program, too_deep, length_refused, tokens_refused, syntax_refused, depth_refused, expansion_refused}
+use Rattle.fy_expand.specs.Judged.{HasTokens, IsAllowed, IsJudged, no_tokens, no_program, too_deep, length_refused, tokens_refused, syntax_refused, depth_refused, expansion_refused}
 use Rattle.fy_expand.specs.Judged as judged
 use Rattle.fy_phrase.specs.WellMade.{HasDepths}
 use Rattle.fy_expand.proofs.DepthLemmas.{depth-below}

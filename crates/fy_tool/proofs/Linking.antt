@@ -1,5 +1,5 @@
 -- The units on a list in a file: read, and put together.
-use Rattle.std.proofs.Common.{◌≡◌, ◌≢◌, ℕ, ◌+◌, ◌≤◌, List, [], ◌∷◌, ◌++◌, length, sym, ap, ◌∙◌, refl, subst, arith, inl, inr, Some, None, Ok, Err}
+use Rattle.std.proofs.Common.{◌≡◌, ℕ, ◌+◌, ◌≤◌, List, [], ◌∷◌, ◌++◌, length, sym, ap, ◌∙◌, refl, subst, arith, inl, inr, Some, None, Ok, Err}
 use Rattle.std.proofs.lemmas.List.{length-append, length-map}
 use Rattle.std.proofs.lemmas.List.Elements.{All-nil}
 use Rattle.std.specs.Prelude.{IfOk, IfErr}
@@ -29,7 +29,7 @@ use Rattle.fy_world.proofs.Counting.{called_both, called_fetch, called_more, fau
 use Rattle.fy_world.proofs.Parts.{content_of}
 use Rattle.fy_tool.specs.Due.{AreListed, AreTold}
 use Rattle.fy_tool.specs.Units.{Listed, names_of, ListsUnits, ListsNone, IsLinkedBy, no_list, no_object, not_linked, PassesShapes}
-use Rattle.fy_tool.specs.Working.{IsBuildable, WasLinked, LinksList, WasUnlisted, CountsList, IsLinkedFrom, IsSomeLinked, ReadsObjects, HasReadTo, no_unit, up_to, HasUnfetched, StopsObjects, ShapesLinked, Tables}
+use Rattle.fy_tool.specs.Working.{WasLinked, LinksList, WasUnlisted, CountsList, IsLinkedFrom, IsSomeLinked, ReadsObjects, HasReadTo, no_unit, up_to, HasUnfetched, StopsObjects, ShapesLinked, Tables}
 use Rattle.fy_tool.specs.Fetched.{just_file, units_too, HasFetched}
 use Rattle.fy_tool.specs.declared.given.TurnedDown.{TurnedDown}
 use Rattle.fy_tool.specs.declared.link.Together.{Together}

@@ -1,5 +1,5 @@
 -- Units in the files on a list, read one after another.
-use Rattle.std.proofs.Common.{◌≡◌, ◌≢◌, ◌⊎◌, ℕ, zero, suc, ◌+◌, ◌*◌, ◌≤◌, ◌<◌, List, [], ◌∷◌, ◌++◌, length, map, take, drop, get_or, refl, sym, ap, ◌∙◌, subst, arith, inl, inr, Some, None, Ok, Err}
+use Rattle.std.proofs.Common.{◌≡◌, ◌⊎◌, ℕ, zero, suc, ◌+◌, ◌*◌, ◌≤◌, ◌<◌, List, [], ◌∷◌, ◌++◌, length, map, take, drop, get_or, refl, sym, ap, ◌∙◌, subst, arith, inl, inr, Some, None, Ok, Err}
 use Rattle.std.proofs.lemmas.List.{map-append, length-map, length-append, length_push, take-append-drop, take_all}
 use Rattle.std.proofs.lemmas.List.Elements.{All-nil, All-cons, All-append, All-push, All-weaker}
 use Rattle.std.specs.Borrow.{Bor}
@@ -7,7 +7,7 @@ use Rattle.std.specs.Prelude.{All, Any}
 use Rattle.std.specs.declared.option.Option.{Option}
 use Rattle.fy_base.specs.Outside.{Bytes, FileCalls, Folder, Rose, Tells, once_fetched}
 use Rattle.fy_lexer.specs.Tokens.{HasAdded}
-use Rattle.fy_link.specs.UnitBytes.{IsUnitRead, IsBadUnit}
+use Rattle.fy_link.specs.UnitBytes.{IsBadUnit}
 use Rattle.fy_link.specs.Units.{IsUnit}
 use Rattle.fy_link.specs.declared.error.UnitReadError.TheVariants as unread
 use Rattle.fy_link.specs.declared.unit.Unit.{Unit as UnitValue}
@@ -20,7 +20,7 @@ use Rattle.fy_world.specs.declared.world.Stop.TheVariants.{Fetch, Keep, Input, O
 use Rattle.fy_world.proofs.Counting.{called_both, called_fetch, called_more, faulted_after}
 use Rattle.fy_world.proofs.Parts.{content_of}
 use Rattle.fy_tool.specs.Due.{AreTold}
-use Rattle.fy_tool.specs.Units.{most_unit, Listed, names_of, AreUnitsRead, none, one_more, IsBadObject}
+use Rattle.fy_tool.specs.Units.{Listed, names_of, AreUnitsRead, none, one_more, IsBadObject}
 use Rattle.fy_tool.specs.Working.{ReadsObject, ReadsObjects, HasReadTo, no_unit, up_to, StopsObjects}
 use Rattle.fy_tool.specs.declared.objects.Objects.{Objects}
 use Rattle.fy_tool.proofs.Lists.{all_now, taken_now}

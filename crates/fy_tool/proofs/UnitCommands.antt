@@ -1,8 +1,6 @@
 -- From the parts of the commands of units to what is due for the words.
-use Rattle.std.proofs.Common.{◌≡◌, ◌≢◌, ◌⊎◌, ℕ, [], ◌∷◌, ◌++◌, ◌<◌, ◌≤◌, List, length, sym, ap, ◌∙◌, refl, subst, inl, inr, arith, Some, None, Ok, Err}
+use Rattle.std.proofs.Common.{◌≡◌, ◌≢◌, ℕ, [], ◌∷◌, ◌++◌, ◌≤◌, List, length, sym, ap, ◌∙◌, refl, subst, inl, inr, Some, None, Err}
 use Rattle.std.proofs.lemmas.List.{append-nil}
-use Rattle.std.proofs.lemmas.List.Elements.{All-nil}
-use Rattle.std.specs.Prelude.{IfOk, MatchResult}
 use Rattle.std.specs.declared.option.Option.{Option}
 use Rattle.std.specs.declared.result.Result.{Result}
 use Rattle.fy_base.specs.Outside.{Bytes, FileCalls, Folder, Tells}
@@ -23,7 +21,7 @@ use Rattle.fy_link.specs.declared.linking.Linked.{Linked}
 use Rattle.fy_types.specs.Names.{AreNames, first_names}
 use Rattle.fy_words.specs.Order.{Order, unit, join, link, stack_wanted}
 use Rattle.fy_world.specs.World.{Contents, Counts}
-use Rattle.fy_world.specs.Counted.{Faulted, Counted}
+use Rattle.fy_world.specs.Counted.{Faulted}
 use Rattle.fy_world.specs.Runs.{told}
 use Rattle.fy_world.specs.Did.{Did, IsOwn}
 use Rattle.fy_world.specs.Working.{KeepsSuch, Keeps}
@@ -33,7 +31,7 @@ use Rattle.fy_world.specs.declared.refusal.Refusal.{Refusal}
 use Rattle.fy_world.specs.declared.refusal.Refusal.TheVariants as refusal
 use Rattle.fy_world.specs.declared.unlinked.Unlinked.TheVariants as unlinked
 use Rattle.fy_world.specs.declared.world.Stop.{Stop}
-use Rattle.fy_world.specs.declared.world.Stop.TheVariants.{Input, Memory}
+use Rattle.fy_world.specs.declared.world.Stop.TheVariants.{Memory}
 use Rattle.fy_world.proofs.Counting.{called_none, faulted_keeps}
 use Rattle.fy_tool.specs.Checked.{lex_refusal, parse_refusal, expand_refusal}
 use Rattle.fy_tool.specs.Units.{Listed, names_of, IsNoUnit, not_compiled, unit_refusal, IsLinkedBy, IsNotLinked, no_list, no_object, not_linked as not_linked_units, PassesShapes, linked_refusal, link_note}

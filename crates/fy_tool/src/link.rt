@@ -1,10 +1,8 @@
 //! `join` and `link`: units put together.
 
-ghost use Rattle.std.specs.Prelude.{◌≡◌, ◌≤◌, ◌<◌, [], ◌∷◌, length, All, Some, IfOk, IfErr, MatchResult};
-ghost use Rattle.fy_link.specs.Links.{IsLinked};
+ghost use Rattle.std.specs.Prelude.{◌≡◌, ◌≤◌, ◌<◌, length, All, Some, IfOk, IfErr};
 ghost use Rattle.fy_link.specs.Units.{IsUnit};
 ghost use Rattle.fy_words.specs.Order.{IsStackInRange, join, link};
-ghost use Rattle.fy_world.specs.Did.{IsOwn};
 ghost use Rattle.fy_tool.specs.Answers.{Serves};
 ghost use Rattle.fy_tool.specs.Working.{CountsList, IsLinkedFrom, IsSomeLinked, LinksList, ShapesLinked};
 

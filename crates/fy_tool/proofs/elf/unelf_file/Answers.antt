@@ -1,4 +1,4 @@
-use Rattle.std.proofs.Common.{[], refl}
+use Rattle.std.proofs.Common.{[]}
 use Rattle.fy_words.specs.Order.{unelf}
 use Rattle.fy_world.proofs.Counting.{called_fetch, called_same, counted_keeps}
 use Rattle.fy_tool.specs.Due.{keeps_of}

@@ -1,5 +1,5 @@
-use Rattle.std.proofs.Common.{[], Some, refl, subst}
-use Rattle.fy_words.specs.Order.{link, stack_wanted}
+use Rattle.std.proofs.Common.{[], Some, subst}
+use Rattle.fy_words.specs.Order.{link}
 use Rattle.fy_world.proofs.Counting.{called_same, counted_keeps}
 use Rattle.fy_tool.specs.Due.{keeps_of}
 use Rattle.fy_tool.specs.Working.{Builds}

@@ -1,8 +1,7 @@
-use Rattle.std.proofs.Common.{◌≡◌, ◌∙◌, List, refl, sym, subst, map, Some, None, Ok, Err}
+use Rattle.std.proofs.Common.{◌∙◌, refl, sym, subst, map, Ok, Err}
 use Rattle.std.specs.Borrow.{Bor}
 use Rattle.fy_base.specs.Outside.{Bytes}
 use Rattle.fy_world.specs.World.{Contents}
-use Rattle.fy_tool.specs.Units.{ListsUnits}
 use Rattle.fy_tool.specs.Working.{ReadsObjects, StopsObjects, WasLinked}
 use Rattle.fy_tool.specs.declared.given.TurnedDown.{TurnedDown}
 use Rattle.fy_tool.proofs.Lists.{none_long}

@@ -1,4 +1,4 @@
-use Rattle.std.proofs.Common.{refl, sym, ap, ◌∙◌, map, subst, length, arith}
+use Rattle.std.proofs.Common.{ap, ◌∙◌, map, arith}
 use Rattle.std.specs.Borrow.{Bor}
 use Rattle.fy_base.specs.Outside.{Bytes}
 use Rattle.fy_tool.proofs.Lists.{ends_open, ends_with, few_lines, many_listed, names_listed}
