@@ -15,7 +15,7 @@ use Rattle.pe_code.specs.declared.code.PeCode.{PeCode}
 use Rattle.pe_code.specs.declared.code.PeItem.{PeItem}
 use Rattle.pe_code.specs.Code.{body_of}
 use Rattle.pe_code.specs.Valid.{IsValid}
-use Rattle.pe_right.specs.Constants.{no_data}
+use Rattle.pe_right.specs.Constants.{constant}
 use Rattle.pe_right.specs.Right.{IsCodeOf}
 use Rattle.pe_gen.specs.Sizes.{HasSizesOf}
 use Rattle.rv_operators.specs.Laws.{IsDatum}
@@ -34,7 +34,7 @@ some_shapes [] n s h = absurd (cc)
 some_shapes (x ∷ shapes) n s h = omega arith
 
 -- the program's own entry has a shape
-pub has_shapes : (p : Tree) (table : ShapeTable) (code : PeCode) → IsCodeOf no_data p table code → 1 ≤ code.shapes
+pub has_shapes : (p : Tree) (table : ShapeTable) (code : PeCode) → IsCodeOf constant p table code → 1 ≤ code.shapes
 has_shapes p table code right =
     let run = right.program in
     let some = some_shapes table.shapes run.0 _ run.1 in
@@ -73,9 +73,9 @@ has_table_words p d table code image shapes sizes counted is just =
 
 -- ---- its words
 
-pub few_words : (table : ShapeTable) (given code : PeCode) (image : Image) → SelectionIsShort → CodeIsShort → length given.items ≤ length table.pairs → length code.items ≡ length given.items
+pub few_words : (table : ShapeTable) (code : PeCode) (image : Image) → SelectionIsShort → CodeIsShort → length code.items ≤ length table.pairs
     → IsSelectionImage code image → length image.code ≤ 60 * length table.pairs + 4096
-few_words table given code image short brief few count is =
+few_words table code image short brief few is =
     let its = is.image_of in
     let words = (short code is.selectable).words in
     let most = brief (word_code code) its.assembled its.assembly in

@@ -1,4 +1,4 @@
--- Which code the image of a phrase is selected from, and how long the image is.
+-- Which code a phrase has, and which image is selected from such code, and how long it is.
 use Rattle.std.specs.Prelude.{◌+◌, ◌*◌, ◌≤◌, length, All}
 use Rattle.fy_phrase.specs.Tree.{Tree}
 use Rattle.fy_phrase.specs.declared.shapes.ShapeTable.{ShapeTable}
@@ -6,13 +6,24 @@ use Rattle.fy_derive.specs.Derivations.{PlainDerivation}
 use Rattle.fy_derive.specs.Shapes.{shape_table}
 use Rattle.fy_derive.specs.ShapeTables.{HasJustPairs}
 use Rattle.fy_image.specs.declared.image.Image.{Image}
+use Rattle.pe_code.specs.Valid.{IsValid}
 use Rattle.pe_code.specs.declared.code.PeCode.{PeCode}
 use Rattle.pe_right.specs.Constants.{constant}
 use Rattle.pe_right.specs.Direct.{HandsNoConstant}
+use Rattle.pe_right.specs.Follows.{FollowsCopyRule}
 use Rattle.pe_right.specs.Right.{IsCodeOf}
 use Rattle.pe_shapes.specs.Order.{AreInOrder}
 use Rattle.pe_gen.specs.Layout.{IsLaidOut}
 use Rattle.rv_select.specs.Images.{IsSelectionImage}
+
+-- the code of a phrase by a table of the demand shapes of a derivation in use, with constants handed as data: it is valid and right, so that it has an entry for each pair of the table and for no other,
+-- has an item for each pair whose node is no merge and no other, in order of node and shape behind the program's, hands no constant of the phrase as a thunk, and does what the copy rule does
+pub record IsRightCode (p : Tree) (table : ShapeTable) (code : PeCode) : Type 0 where
+  pub valid : IsValid code
+  pub right : IsCodeOf constant p table code
+  pub laid_out : IsLaidOut p code
+  pub hands_no_constant : All (λ item. HandsNoConstant p item.insn) code.items
+  pub follows : FollowsCopyRule constant p code
 
 -- the image is the selection of the code of the phrase and the table, laid out, that hands no constant as a thunk; it has at most 60 words for each pair of the table, and 4,096 beside
 pub record IsSelectedBy (p : Tree) (table : ShapeTable) (image : Image) : Type 0 where

@@ -7,6 +7,7 @@ ghost use Rattle.fy_derive.specs.ShapeTables.{HasJustPairs};
 ghost use Rattle.fy_derive.specs.Shapes.{shape_table};
 ghost use Rattle.fy_image.specs.Ranges.{IsImage};
 ghost use Rattle.fy_phrase.specs.Reads.{reads};
+ghost use Rattle.pe_gen.specs.Sizes.{HasSizesOf};
 ghost use Rattle.pe_right.specs.Typed.{IsTableOf};
 ghost use Rattle.pe_shapes.specs.Shaping.{KeepsLimits};
 ghost use Rattle.rv_asm.specs.Assembly.{IsAssembly};
@@ -15,7 +16,7 @@ ghost use Rattle.rv_guard.specs.Guarded.{IsGuarded};
 ghost use Rattle.rv_select.specs.Images.{IsSelectionImage};
 ghost use Rattle.rv_select.specs.Laws.{IsSelectable};
 ghost use Rattle.fy_build.specs.Headline.{RunsAsCopyRule};
-ghost use Rattle.fy_build.specs.Selected.{IsSelectedBy, IsSelectedFrom};
+ghost use Rattle.fy_build.specs.Selected.{IsRightCode, IsSelectedBy, IsSelectedFrom};
 ghost use Rattle.fy_build.specs.Building.{IsProgramPhrase, IsStackSize, HasTableWords, IsAccepted, IsRefused};
 ghost use Rattle.fy_build.specs.declared.error.BuildError.{BuildError};
 
@@ -73,6 +74,25 @@ pub fn build(
     Ok(image)
 }
 
+/// The push-enter code of a program's phrase by the table of demand shapes of a derivation that is
+/// accepted: it is right, hands no constant as a thunk, and does what the copy rule does.
+///
+/// # Errors
+///
+/// `OutOfMemory` alone.
+pub fn code_of(alloc: Global, p: &Phrase, table: &ShapeTable) -> Result<PeCode, OutOfMemory>
+    requires phrase { IsProgramPhrase (reads p.now) }
+    requires table { IsTableOf (reads p.now) table.now }
+    requires limits { KeepsLimits (reads p.now) table.now }
+    ensures right { IfOk result (λ code. IsRightCode (reads p.now) table.now code) }
+    ensures sizes { IfOk result (λ code. HasSizesOf (reads p.now) code) }
+    ensures few { IfOk result (λ code. length code.items ≤ length table.now.pairs) }
+{
+    let generated = generate(alloc, p, table)?;
+    let code = direct(alloc, p, &generated)?;
+    Ok(code)
+}
+
 /// The image of a program's phrase by the table of demand shapes of a derivation that is accepted, for
 /// who has judged the derivation and made the table already: [`build`] is this behind both.
 ///
@@ -97,8 +117,7 @@ pub fn image_of(
     ensures ranges { IfOk result (λ image. IsImage image) }
     ensures guarded { IfOk result (λ image. IsGuarded image) }
 {
-    let generated = generate(alloc, p, table)?;
-    let code = direct(alloc, p, &generated)?;
+    let code = code_of(alloc, p, table)?;
     read_values(code.items.as_slice());
     let image = image_of_code(alloc, &code, stack_words)?;
     code_runs_as_copy_rule();

@@ -9,6 +9,7 @@ use Rattle.fy_derive.specs.Print.{derivation_text}
 use Rattle.fy_derive.specs.Reading.{plain_derivation}
 use Rattle.fy_read.proofs.PrintedLemmas.{printed_is_text}
 use Rattle.pe_code.specs.declared.code.PeCode.{PeCode}
+use Rattle.fy_build.specs.Selected.{IsRightCode}
 use Rattle.fy_words.specs.Order.{check, derive, copy, trace, copy_wanted, trace_steps_wanted}
 use Rattle.fy_world.specs.World.{Contents, Counts}
 use Rattle.fy_world.specs.Runs.{written}
@@ -18,7 +19,7 @@ use Rattle.fy_world.specs.Working.{IsUnbegun, HasCopied}
 use Rattle.fy_world.specs.declared.world.Stop.{Stop}
 use Rattle.fy_world.specs.declared.world.Stop.TheVariants.{Memory}
 use Rattle.fy_tool.specs.Checked.{IsAccepted}
-use Rattle.fy_tool.specs.Due.{IsRightCode, accepted, accepts, derives, copies, traces}
+use Rattle.fy_tool.specs.Due.{accepted, accepts, derives, copies, traces}
 use Rattle.fy_tool.specs.Answers.{Serves}
 use Rattle.fy_tool.specs.Working.{IsOfText, HasTraced}
 use Rattle.fy_tool.specs.declared.texts.Program.{Program}

@@ -4,13 +4,7 @@ use Rattle.std.specs.declared.option.Option.{Option}
 use Rattle.fy_base.specs.Outside.{Bytes, Folder, Tells}
 use Rattle.fy_phrase.specs.Reads.{reads}
 use Rattle.fy_phrase.specs.Tree.{Tree}
-use Rattle.fy_phrase.specs.declared.shapes.ShapeTable.{ShapeTable}
-use Rattle.pe_code.specs.Valid.{IsValid}
 use Rattle.pe_code.specs.declared.code.PeCode.{PeCode}
-use Rattle.pe_right.specs.Constants.{constant}
-use Rattle.pe_right.specs.Direct.{HandsNoConstant}
-use Rattle.pe_right.specs.Right.{IsCodeOf}
-use Rattle.pe_right.specs.Follows.{FollowsCopyRule}
 use Rattle.fy_derive.specs.Derivations.{PlainDerivation}
 use Rattle.fy_derive.specs.Print.{derivation_text}
 use Rattle.fy_derive.specs.Reading.{plain_derivation}
@@ -28,9 +22,8 @@ use Rattle.rv_guard.specs.Guarded.{IsGuarded, IsUnguardedAt}
 use Rattle.rv_insn.specs.Program.{Program}
 use Rattle.rv_machine.specs.Start.{IsProgramOf}
 use Rattle.pe_shapes.specs.Order.{AreInOrder}
-use Rattle.pe_gen.specs.Layout.{IsLaidOut}
 use Rattle.fy_build.specs.Building.{HasTableWords}
-use Rattle.fy_build.specs.Selected.{IsSelectedBy}
+use Rattle.fy_build.specs.Selected.{IsRightCode, IsSelectedBy}
 use Rattle.fy_build.specs.Headline.{AreBytes, RunsAsCopyRule}
 use Rattle.fy_build.specs.Shown.{RunEnd, ShowsCopyRule}
 use Rattle.fy_least.specs.Pairs.{HasAllPairs}
@@ -186,17 +179,6 @@ pub record RunsBuilt (text : Bytes) (named derivation : Option Bytes) (stack ste
   pub spelled : IsSpelled Two image bytes
   pub is_run : IsRun (running_of built.is.runs.program image input (steps_wanted steps)) n end
   pub shows : AreBytes input → ShowsCopyRule end built.phrase image built.is.runs.program input n
-
--- ---- push-enter code
-
--- the code of a phrase by a table of the demand shapes of a derivation in use, with constants handed as data: it is valid and right, so that it has an entry for each pair of the table and for no other,
--- has an item for each pair whose node is no merge and no other, in order of node and shape behind the program's, hands no constant of the phrase as a thunk, and does what the copy rule does
-pub record IsRightCode (p : Tree) (table : ShapeTable) (code : PeCode) : Type 0 where
-  pub valid : IsValid code
-  pub right : IsCodeOf constant p table code
-  pub laid_out : IsLaidOut p code
-  pub hands_no_constant : All (λ item. HandsNoConstant p item.insn) code.items
-  pub follows : FollowsCopyRule constant p code
 
 -- ---- what is due
 

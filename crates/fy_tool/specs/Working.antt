@@ -39,7 +39,7 @@ use Rattle.fy_elf.specs.Elf.{IsElfBytes}
 use Rattle.fy_elf.specs.Memory.{LoadsAsStart}
 use Rattle.fy_elf.specs.Refusals as elf
 use Rattle.fy_elf.specs.declared.error.ElfError.{ElfError}
-use Rattle.fy_build.specs.Selected.{IsSelectedBy}
+use Rattle.fy_build.specs.Selected.{IsRightCode, IsSelectedBy}
 use Rattle.fy_build.specs.Building.{HasTableWords}
 use Rattle.fy_build.specs.Headline.{RunsAsCopyRule}
 use Rattle.fy_least.specs.Pairs.{HasAllPairs}
@@ -62,7 +62,7 @@ use Rattle.fy_world.specs.declared.world.Stop.{Stop}
 use Rattle.fy_world.specs.declared.world.Stop.TheVariants.{Fetch}
 use Rattle.fy_tool.specs.Checked.{IsProgramText, IsRefusedFor, HasNames, told_as, shapes_refusal}
 use Rattle.fy_tool.specs.Given.{IsGiven, IsTurnedDown}
-use Rattle.fy_tool.specs.Due.{IsRightCode, TellsNamed, AreListed, AreTold}
+use Rattle.fy_tool.specs.Due.{TellsNamed, AreListed, AreTold}
 use Rattle.fy_tool.specs.Fetched.{HasFetched, LastRose}
 use Rattle.fy_tool.specs.Units.{most_unit, Listed, names_of, ListsUnits, ListsNone, IsUnitOfText, IsNoUnit, AreUnitsRead, IsBadObject, IsLinkedBy, IsNotLinked, link_note}
 use Rattle.fy_tool.specs.declared.texts.Core.{Core}

@@ -1,32 +1,19 @@
 //! `trace`: a run of push-enter code, step by step.
 
 ghost use Rattle.std.specs.Prelude.{◌≡◌, ◌≤◌, [], ◌⊎◌, Some, IfOk};
-ghost use Rattle.fy_phrase.specs.Reads.{reads};
 ghost use Rattle.fy_words.specs.Order.{trace, trace_steps_wanted};
 ghost use Rattle.fy_world.specs.Counted.{Counted};
 ghost use Rattle.fy_world.specs.Did.{IsOwn};
 ghost use Rattle.fy_world.specs.Working.{IsUnbegun};
 ghost use Rattle.fy_tool.specs.Answers.{Serves};
-ghost use Rattle.fy_tool.specs.Due.{IsRightCode};
 ghost use Rattle.fy_tool.specs.Working.{HasTraced, IsOfSomeText};
 
 use crate::texts::{Program, program_in};
 use crate::wanted::trace_steps_wanted;
 use fy_base::OutOfMemory;
+use fy_build::code_of;
 use fy_world::{Note, Stop, World, refuse, run_stepped};
-use pe_code::PeCode;
-use pe_gen::{direct, generate};
 use std::alloc::Global;
-
-// The push-enter code of a program, in which constants are handed as data.
-fn code_of(alloc: Global, program: &Program) -> Result<PeCode, OutOfMemory>
-    requires text { IsOfSomeText program.now }
-    ensures { IfOk result (λ code. IsRightCode (reads program.now.phrase) program.now.table code) }
-{
-    let generated = generate(alloc, &program.phrase, &program.table)?;
-    let code = direct(alloc, &program.phrase, &generated)?;
-    Ok(code)
-}
 
 // Runs the push-enter code of a program, and tells each step.
 fn trace_program<W: World>(
@@ -44,7 +31,7 @@ fn trace_program<W: World>(
     ensures same { W.names world.new ≡ W.names world.old }
     ensures called { W.calls world.new ≡ W.calls world.old }
 {
-    match code_of(alloc, program) {
+    match code_of(alloc, &program.phrase, &program.table) {
         Ok(code) => run_stepped(alloc, &code, &program.names, steps, world),
         Err(OutOfMemory) => Err(Stop::Memory),
     }

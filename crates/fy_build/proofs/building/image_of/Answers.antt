@@ -1,4 +1,4 @@
-use Rattle.std.proofs.Common.{List, ◌≤◌, sym, ◌∙◌, subst}
+use Rattle.std.proofs.Common.{List, subst}
 use Rattle.std.specs.Prelude.{All}
 use Rattle.std.specs.Option.{ForSome}
 use Rattle.fy_phrase.specs.Reads.{reads}
@@ -8,64 +8,42 @@ use Rattle.pe_right.specs.Constants.{constant}
 use Rattle.rv_operators.specs.Laws.{IsDatum}
 use Rattle.rv_select.specs.Laws.{value_of}
 use Rattle.rv_select.specs.Program.{word_code}
-use Rattle.fy_build.proofs.Direct.{none_handed}
 use Rattle.fy_build.proofs.Imaging.{has_shapes, selectable, deepest_below, has_table_words, few_words}
 use Rattle.fy_build.proofs.building.image_of.Goals as goal
 
-pub direct-requires-clause-few : goal.direct-requires-clause-few
-direct-requires-clause-few c = c.requires.phrase.few
-
-pub direct-requires-clause-generated : goal.direct-requires-clause-generated
-direct-requires-clause-generated c =
-    let made = c.in_ok-generated.ensures in
-    record {
-      closed = c.requires.phrase.closed;
-      depths = c.requires.phrase.depths;
-      table = c.args.table.now;
-      typed = c.requires.table;
-      right = made.right;
-      valid = made.valid;
-      sizes = made.sizes;
-    }
-
 pub image_of_code-requires-clause-selectable : goal.image_of_code-requires-clause-selectable
 image_of_code-requires-clause-selectable c =
-    let generated = c.in_ok-generated.generated in
     let code = c.in_ok-code.code in
-    let made = c.in_ok-code.ensures in
-    let some = subst (λ n. 1 ≤ n) (sym made.direct.shapes) (has_shapes (reads c.args.p.now) c.args.table.now generated c.in_ok-generated.ensures.right) in
+    let is = c.in_ok-code.ensures.right in
     let values = subst (λ (items : List PeItem). All (λ item. ForSome (value_of item.insn) IsDatum) items) c.as_slice.ensures c.read_values.ensures in
-    selectable code some made.valid values
+    selectable code (has_shapes (reads c.args.p.now) c.args.table.now code is.right) is.valid values
 
 pub returns-clause-runs : goal.returns-clause-runs
 returns-clause-runs c =
     let p = reads c.args.p.now in
     let code = c.in_ok-code.code in
     let made = c.in_ok-code.ensures in
-    c.code_runs_as_copy_rule.ensures constant p code c.in_ok-image.image made.follows (deepest_below (depth p) code.items made.sizes.frames) c.in_ok-image.ensures.selection
+    c.code_runs_as_copy_rule.ensures constant p code c.in_ok-image.image made.right.follows (deepest_below (depth p) code.items made.sizes.frames) c.in_ok-image.ensures.selection
 
 pub returns-clause-table : goal.returns-clause-table
 returns-clause-table c = λ d just.
     let code = c.in_ok-code.code in
     let made = c.in_ok-code.ensures in
     let is = c.in_ok-image.ensures.selection in
-    has_table_words (reads c.args.p.now) d c.args.table.now code c.in_ok-image.image (made.direct.shapes ∙ c.in_ok-generated.ensures.right.shapes) made.sizes (c.selection_is_counted.ensures code is.selectable) is just
+    has_table_words (reads c.args.p.now) d c.args.table.now code c.in_ok-image.image made.right.right.shapes made.sizes (c.selection_is_counted.ensures code is.selectable) is just
 
 pub returns-clause-selected : goal.returns-clause-selected
 returns-clause-selected c =
-    let p = reads c.args.p.now in
-    let generated = c.in_ok-generated.generated in
     let code = c.in_ok-code.code in
-    let given = c.in_ok-generated.ensures in
     let made = c.in_ok-code.ensures in
     let is = c.in_ok-image.ensures.selection in
     record {
       code = code;
-      right = made.right c.args.table.now given.right;
-      laid_out = made.laid_out given.laid_out;
-      hands_no_constant = none_handed p generated code made.direct;
+      right = made.right.right;
+      laid_out = made.right.laid_out;
+      hands_no_constant = made.right.hands_no_constant;
       selection = is;
-      short = few_words c.args.table.now generated code c.in_ok-image.image c.selection_is_short.ensures c.code_is_short.ensures given.few made.direct.count is;
+      short = few_words c.args.table.now code c.in_ok-image.image c.selection_is_short.ensures c.code_is_short.ensures made.few is;
     }
 
 pub returns-clause-ranges : goal.returns-clause-ranges
