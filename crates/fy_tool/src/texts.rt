@@ -2,6 +2,7 @@
 
 ghost use Rattle.std.specs.Prelude.{◌≡◌, ◌≤◌, [], ◌∷◌, length, Some, IfOk, IfErr, MatchResult};
 ghost use Rattle.fy_base.specs.Outside.{once_fetched};
+ghost use Rattle.fy_expand.specs.Judged.{most_text};
 ghost use Rattle.fy_world.specs.Counted.{Counted, IsReadStop};
 ghost use Rattle.fy_tool.specs.Checked.{IsRefusedFor};
 ghost use Rattle.fy_tool.specs.Working.{Checks, IsCore, IsOfText, IsUnjudged, ReadsCore};
@@ -52,7 +53,7 @@ pub(crate) fn refused<T: Drop>(why: Option<Refusal>) -> Result<Result<T, Refusal
 
 // The core phrase of a text, or why it has none.
 fn core_of(alloc: Global, text: &[u8]) -> Result<Result<Core, Refusal>, Stop>
-    requires { length text.now ≤ 1048576 }
+    requires { length text.now ≤ most_text }
     ensures core { IfOk result (λ found. MatchResult found (IsCore text.now) (IsUnjudged text.now)) }
     ensures memory { IfErr result (λ stop. stop ≡ Stop.Memory) }
 {
@@ -98,7 +99,7 @@ pub(crate) fn core_in<W: World>(
 /// The program of a text, or why it is none: behind the stages of its core phrase come its typing with
 /// its limits, and the limits on the demand shapes of the derivation that is found.
 pub(crate) fn program_of(alloc: Global, text: &[u8]) -> Result<Result<Program, Refusal>, Stop>
-    requires { length text.now ≤ 1048576 }
+    requires { length text.now ≤ most_text }
     ensures checked { IfOk result (λ found. MatchResult found (IsOfText text.now) (IsRefusedFor text.now)) }
     ensures memory { IfErr result (λ stop. stop ≡ Stop.Memory) }
 {

@@ -2,6 +2,7 @@
 
 ghost use Rattle.std.specs.Prelude.{◌≡◌, ◌≤◌, [], ◌∷◌, length, Some, IfOk, IfErr, MatchResult};
 ghost use Rattle.fy_base.specs.Outside.{once_fetched};
+ghost use Rattle.fy_expand.specs.Judged.{most_text};
 ghost use Rattle.fy_words.specs.Order.{unit};
 ghost use Rattle.fy_world.specs.Counted.{Counted, IsReadStop};
 ghost use Rattle.fy_tool.specs.Answers.{Serves};
@@ -18,7 +19,7 @@ use std::alloc::Global;
 
 // The bytes of the unit whose source the text is, or why it is none's.
 fn unit_of(alloc: Global, text: &[u8]) -> Result<Result<Vec<u8>, Refusal>, Stop>
-    requires { length text.now ≤ 1048576 }
+    requires { length text.now ≤ most_text }
     ensures unit { IfOk result (λ found. MatchResult found (λ bytes. AreUnitBytes text.now bytes.items) (IsNoUnit text.now)) }
     ensures memory { IfErr result (λ stop. stop ≡ Stop.Memory) }
 {
