@@ -9,17 +9,14 @@ use Rattle.pe_shapes.specs.Counts.{HasMany, HasAtMost, IsCount}
 use Rattle.pe_shapes.specs.Shaping.{most_shapes, most_pairs, IsShapeOf, IsPairOf, IsShaping}
 use Rattle.pe_shapes.specs.declared.error.ShapeError.{ShapeError}
 use Rattle.pe_shapes.specs.declared.error.ShapeError.TheVariants as shaping
-use Rattle.fy_world.specs.declared.refusal.Refusal.{Refusal}
-use Rattle.fy_tool.specs.Checked.{IsInUse, shapes_refusal}
+use Rattle.fy_front.specs.declared.refusal.Refusal.{Refusal}
+use Rattle.fy_front.specs.Checked.{IsInUse, shapes_refusal}
+use Rattle.fy_front.proofs.Checking.{many_more}
 use Rattle.fy_tool.proofs.Pigeons.{many_few, counted_few, many_counted, table_shapes, table_pairs}
 
 -- the words of a table grow with its shapes
 pub words_grow : (p : Tree) (m n : ℕ) → m ≤ n → table_words p m ≤ table_words p n
 words_grow p m n le = mul-le m (4 + thunks p) n (4 + thunks p) le (omega arith)
-
--- what many have, many have that it implies
-pub many_more : {X : Type 0} (n : ℕ) (F G : X → Type 0) → ((x : X) → F x → G x) → HasMany n F → HasMany n G
-many_more n F G f many = record { members = many.members; number = many.number; distinct = many.distinct; each = λ x here. f x (many.each x here) }
 
 few_less : {X : Type 0} (n : ℕ) (F G : X → Type 0) → ((x : X) → G x → F x) → HasAtMost n F → HasAtMost n G
 few_less n F G g few = record { members = few.members; number = few.number; all = λ x has. few.all x (g x has) }

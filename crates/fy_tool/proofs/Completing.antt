@@ -33,10 +33,10 @@ use Rattle.pe_shapes.specs.declared.error.ShapeError.TheVariants as shaping
 use Rattle.fy_build.specs.Headline.{IsSameEnd, both_ended, both_faulted, IsOverStanding, IsSameOver, Reaches, AreBytes, RunsAsCopyRule}
 use Rattle.fy_words.specs.Order.{steps_wanted}
 use Rattle.fy_world.specs.Runs.{running_of}
-use Rattle.fy_world.specs.declared.refusal.Refusal.{Refusal}
-use Rattle.fy_world.specs.declared.refusal.Refusal.TheVariants as refusal
+use Rattle.fy_front.specs.declared.refusal.Refusal.{Refusal}
+use Rattle.fy_front.specs.declared.refusal.Refusal.TheVariants as refusal
 use Rattle.fy_world.proofs.WholeRuns.{whole_stays}
-use Rattle.fy_tool.specs.Checked.{IsProgramText, IsShownBy, IsLeastShape, IsLeastPair, IsRefusedFor, told_as, shapes_refusal, not_judged, too_large, no_command, many_shapes, many_entries, large_tables}
+use Rattle.fy_front.specs.Checked.{IsProgramText, IsShownBy, IsLeastShape, IsLeastPair, IsRefusedFor, told_as, shapes_refusal, not_judged, too_large, no_command, many_shapes, many_entries, large_tables}
 use Rattle.fy_tool.specs.Complete.{LeastShapesFit, AcceptedWhereLimitsHold, AcceptedTextIsNeverRefused, TextIsRefusedOneWay, RunCompletes}
 use Rattle.fy_tool.specs.Given.{by_text}
 use Rattle.fy_tool.proofs.Alike.{words_grow, shaping_same, one_shaping, shapes_kept}

@@ -26,14 +26,14 @@ use Rattle.fy_world.specs.declared.world.Stop.TheVariants.{Fetch, Memory}
 use Rattle.fy_world.proofs.Counting.{called_both, called_fetch, counted_behind, faulted_after}
 use Rattle.fy_world.specs.declared.note.Note.{Note}
 use Rattle.fy_world.specs.declared.note.Note.TheVariants as note
-use Rattle.fy_world.specs.declared.refusal.Refusal.{Refusal}
-use Rattle.fy_tool.specs.Checked.{IsRefusedFor}
+use Rattle.fy_front.specs.declared.refusal.Refusal.{Refusal}
+use Rattle.fy_front.specs.Checked.{IsRefusedFor, IsCore, IsOfText, IsUnjudged}
 use Rattle.fy_tool.specs.Given.{Spells, handed, unread, wrong, too_long, by_text, before_typing, by_derivation, by_shapes}
-use Rattle.fy_tool.specs.Working.{IsCore, IsOfText, IsUnjudged, ReadFrom, Tables, ChecksGiven, GivenBy, WasGiven, WasUngiven}
+use Rattle.fy_tool.specs.Working.{ReadFrom, Tables, ChecksGiven, GivenBy, WasGiven, WasUngiven}
 use Rattle.fy_tool.specs.Fetched.{just_file, derivation_too, HasFetched}
 use Rattle.fy_tool.specs.declared.given.TurnedDown.{TurnedDown}
-use Rattle.fy_tool.specs.declared.texts.Core.{Core}
-use Rattle.fy_tool.specs.declared.texts.Program.{Program}
+use Rattle.fy_front.specs.declared.texts.Core.{Core}
+use Rattle.fy_front.specs.declared.texts.Program.{Program}
 use Rattle.fy_tool.proofs.ImageCommands.{given_found}
 use Rattle.fy_tool.proofs.ReadUnits.{the_one}
 

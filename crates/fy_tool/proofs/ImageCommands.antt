@@ -35,10 +35,12 @@ use Rattle.fy_world.proofs.Counting.{called_none}
 use Rattle.fy_tool.specs.Audited.{Audits}
 use Rattle.fy_tool.specs.Due.{Sources, IsImageBy, IsBuilt, RunsBuilt, IsReadyFirst, image_of, kept_as, unread, builds, lists, executes, runs, samples, audits, unguarded, migrates}
 use Rattle.fy_tool.specs.Answers.{Serves}
-use Rattle.fy_tool.specs.Working.{IsOfText, IsGivenFor, IsBuildable, IsImageFor, Builds, BuildsAndRuns, BuildsAndSamples, Lists}
+use Rattle.fy_tool.specs.Working.{IsGivenFor, IsBuildable, IsImageFor, Builds, BuildsAndRuns, BuildsAndSamples, Lists}
 use Rattle.fy_tool.specs.Given.{found}
-use Rattle.fy_tool.specs.declared.texts.Program.{Program}
-use Rattle.fy_tool.proofs.Programs.{judged-whole, judged-closed, judged-depths, judged-made, judged-nodes, judged-depth}
+use Rattle.fy_front.specs.Checked.{IsOfText}
+use Rattle.fy_front.specs.declared.texts.Program.{Program}
+use Rattle.fy_front.proofs.Nodes.{judged-nodes}
+use Rattle.fy_tool.proofs.Programs.{judged-whole, judged-closed, judged-depths, judged-made, judged-depth}
 use Rattle.fy_tool.proofs.Serving.{holding, After, done, done_quietly, none_done, only}
 
 -- ---- images of texts

@@ -1,5 +1,4 @@
 pub mod Programs
-pub mod Checking
 pub mod Serving
 pub mod TextCommands
 pub mod ImageCommands

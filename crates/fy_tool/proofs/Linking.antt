@@ -21,7 +21,7 @@ use Rattle.fy_link.specs.declared.linking.Linked.{Linked}
 use Rattle.fy_world.specs.World.{Counts}
 use Rattle.fy_world.specs.Counted.{Faulted, HasCalled, IsReadStop}
 use Rattle.fy_world.specs.declared.note.Note.TheVariants as note
-use Rattle.fy_world.specs.declared.refusal.Refusal.{Refusal}
+use Rattle.fy_front.specs.declared.refusal.Refusal.{Refusal}
 use Rattle.fy_world.specs.declared.unlinked.Unlinked.TheVariants as unlinked
 use Rattle.fy_world.specs.declared.world.Stop.{Stop}
 use Rattle.fy_world.specs.declared.world.Stop.TheVariants.{Fetch, Memory}
@@ -34,7 +34,7 @@ use Rattle.fy_tool.specs.Fetched.{just_file, units_too, HasFetched}
 use Rattle.fy_tool.specs.declared.given.TurnedDown.{TurnedDown}
 use Rattle.fy_tool.specs.declared.link.Together.{Together}
 use Rattle.fy_tool.specs.declared.objects.Objects.{Objects}
-use Rattle.fy_tool.specs.declared.texts.Program.{Program}
+use Rattle.fy_front.specs.declared.texts.Program.{Program}
 use Rattle.fy_tool.proofs.ReadUnits.{all_fetched, bad_fetched, counted_units, faulted_before, the_one}
 use Rattle.fy_tool.proofs.Serving.{none_listed}
 

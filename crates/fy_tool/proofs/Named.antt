@@ -25,7 +25,7 @@ use Rattle.fy_read.proofs.PieceLemmas.{after_whole}
 use Rattle.pe_shapes.specs.Shaping.{IsShaping}
 use Rattle.fy_world.specs.Note.{read_note}
 use Rattle.fy_world.specs.declared.note.Note.{Note}
-use Rattle.fy_tool.specs.Checked.{IsInUse, HasNames}
+use Rattle.fy_front.specs.Checked.{IsInUse, HasNames}
 use Rattle.fy_tool.specs.Complete.{NamedDerivationIsAccepted}
 use Rattle.fy_tool.specs.Given.{Spells, IsDerivationRefused, too_long, unread, wrong, before_typing, by_derivation, by_shapes}
 use Rattle.fy_tool.proofs.Alike.{shapes_kept}

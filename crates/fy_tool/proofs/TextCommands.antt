@@ -18,12 +18,12 @@ use Rattle.fy_world.specs.Stepping.{HasStepped}
 use Rattle.fy_world.specs.Working.{IsUnbegun, HasCopied}
 use Rattle.fy_world.specs.declared.world.Stop.{Stop}
 use Rattle.fy_world.specs.declared.world.Stop.TheVariants.{Memory}
-use Rattle.fy_tool.specs.Checked.{IsAccepted}
+use Rattle.fy_front.specs.Checked.{IsAccepted, IsOfText}
 use Rattle.fy_tool.specs.Due.{accepted, accepts, derives, copies, traces}
 use Rattle.fy_tool.specs.Answers.{Serves}
-use Rattle.fy_tool.specs.Working.{IsOfText, HasTraced}
-use Rattle.fy_tool.specs.declared.texts.Program.{Program}
-use Rattle.fy_tool.proofs.Checking.{in_use}
+use Rattle.fy_tool.specs.Working.{HasTraced}
+use Rattle.fy_front.specs.declared.texts.Program.{Program}
+use Rattle.fy_front.proofs.Checking.{in_use}
 use Rattle.fy_tool.proofs.Serving.{After, done, done_quietly, none_done, only}
 
 -- `check` of a text that is accepted

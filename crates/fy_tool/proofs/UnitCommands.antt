@@ -1,6 +1,7 @@
 -- From the parts of the commands of units to what is due for the words.
-use Rattle.std.proofs.Common.{◌≡◌, ◌≢◌, ℕ, [], ◌∷◌, ◌++◌, ◌≤◌, List, length, sym, ap, ◌∙◌, refl, subst, inl, inr, Some, None, Err}
+use Rattle.std.proofs.Common.{◌≡◌, ◌≢◌, ℕ, [], ◌∷◌, ◌++◌, ◌≤◌, List, length, sym, ap, ◌∙◌, refl, subst, inl, inr, Some, None, Ok, Err}
 use Rattle.std.proofs.lemmas.List.{append-nil}
+use Rattle.std.specs.Prelude.{IfOk, MatchResult}
 use Rattle.std.specs.declared.option.Option.{Option}
 use Rattle.std.specs.declared.result.Result.{Result}
 use Rattle.fy_base.specs.Outside.{Bytes, FileCalls, Folder, Tells}
@@ -27,29 +28,30 @@ use Rattle.fy_world.specs.Did.{Did, IsOwn}
 use Rattle.fy_world.specs.Working.{KeepsSuch, Keeps}
 use Rattle.fy_world.specs.declared.note.Note.{Note}
 use Rattle.fy_world.specs.declared.note.Note.TheVariants as note
-use Rattle.fy_world.specs.declared.refusal.Refusal.{Refusal}
-use Rattle.fy_world.specs.declared.refusal.Refusal.TheVariants as refusal
+use Rattle.fy_front.specs.declared.refusal.Refusal.{Refusal}
+use Rattle.fy_front.specs.declared.refusal.Refusal.TheVariants as refusal
 use Rattle.fy_world.specs.declared.unlinked.Unlinked.TheVariants as unlinked
 use Rattle.fy_world.specs.declared.world.Stop.{Stop}
 use Rattle.fy_world.specs.declared.world.Stop.TheVariants.{Memory}
 use Rattle.fy_world.proofs.Counting.{called_none, faulted_keeps}
-use Rattle.fy_tool.specs.Checked.{lex_refusal, parse_refusal, expand_refusal}
+use Rattle.fy_front.specs.Checked.{lex_refusal, parse_refusal, expand_refusal}
 use Rattle.fy_tool.specs.Units.{Listed, names_of, IsNoUnit, not_compiled, unit_refusal, IsLinkedBy, IsNotLinked, no_list, no_object, not_linked as not_linked_units, PassesShapes, linked_refusal, link_note}
 use Rattle.fy_tool.specs.Due.{IsImageBy, Sources, TellsSources, AreTold, AreListed, list_of, compiles, no_unit, not_linked, joins, misshapes, links, reads_of, keeps_of}
 use Rattle.fy_tool.specs.Fetched.{HasFetched, HasFetchedDue, LastRose, LastDueRose}
 use Rattle.fy_tool.specs.Answers.{Serves}
 use Rattle.fy_tool.specs.Working.{AreUnitBytes, Builds, IsBuildable, WasUnlisted}
-use Rattle.fy_tool.specs.declared.texts.Program.{Program}
-use Rattle.fy_tool.proofs.Checking.{Checked, Found, found_so}
+use Rattle.fy_front.specs.declared.texts.Program.{Program}
 use Rattle.fy_tool.proofs.ImageCommands.{by_image}
 use Rattle.fy_tool.proofs.Serving.{After, called_fetched, done_quietly, none_done, only, serves_stopped}
 
 -- ---- `unit`
 
+-- what compiling a unit answers of a text that is the source of none; a refusal was found, or memory was wanting
 pub not_unit : {T : Type 0} (P : T → Type 0) (names : List Bytes) (text : Bytes) (error : UnitError) (result : Result (Result T Refusal) Stop) → length text ≤ 1048576 → names ≡ first_names → IsUnitFault names text error
-    → Found (unit_refusal error) result → Checked P (IsNoUnit text) result
-not_unit P names text error result short e fault found =
-    found_so P (IsNoUnit text) (unit_refusal error) result found (λ w told. not_compiled error w short (subst (λ n. IsUnitFault n text error) e fault) told)
+    → IfOk result (λ found. MatchResult found (λ _. ⊥) (λ w. unit_refusal error ≡ Some w)) → IfOk result (λ found. MatchResult found P (IsNoUnit text))
+not_unit P names text error (Err stop) short e fault found = tt
+not_unit P names text error (Ok (Ok x)) short e fault found = absurd found
+not_unit P names text error (Ok (Err w)) short e fault found = not_compiled error w short (subst (λ n. IsUnitFault n text error) e fault) found
 
 are_first : AreNames first_names
 are_first = record { later = []; begins = sym (append-nil first_names); distinct = refl }

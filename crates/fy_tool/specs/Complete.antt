@@ -19,8 +19,8 @@ use Rattle.fy_build.specs.Headline.{AreBytes, IsOverStanding, IsSameOver}
 use Rattle.fy_build.specs.Shown.{RunEnd}
 use Rattle.fy_words.specs.Order.{steps_wanted}
 use Rattle.fy_world.specs.declared.note.Note.{Note}
-use Rattle.fy_world.specs.declared.refusal.Refusal.{Refusal}
-use Rattle.fy_tool.specs.Checked.{IsProgramText, IsInUse, IsAccepted, IsRefusedFor, IsLeastShape, IsLeastPair}
+use Rattle.fy_front.specs.declared.refusal.Refusal.{Refusal}
+use Rattle.fy_front.specs.Checked.{IsProgramText, IsInUse, IsAccepted, IsRefusedFor, IsLeastShape, IsLeastPair}
 use Rattle.fy_tool.specs.Given.{Spells, IsTurnedDown}
 use Rattle.fy_tool.specs.Due.{RunsBuilt}
 

@@ -39,8 +39,8 @@ use Rattle.fy_world.specs.Shown.{listing}
 use Rattle.fy_world.specs.Steps.{StepEnd, IsSteppedRun}
 use Rattle.fy_world.specs.declared.note.Note.{Note}
 use Rattle.fy_world.specs.declared.note.Note.TheVariants as note
-use Rattle.fy_world.specs.declared.refusal.Refusal.{Refusal}
-use Rattle.fy_tool.specs.Checked.{IsProgramText, IsInUse, IsAccepted, HasNames}
+use Rattle.fy_front.specs.declared.refusal.Refusal.{Refusal}
+use Rattle.fy_front.specs.Checked.{IsProgramText, IsInUse, IsAccepted, HasNames}
 use Rattle.fy_tool.specs.Given.{IsGiven, IsTurnedDown}
 use Rattle.fy_tool.specs.Units.{Listed, ListsUnits, names_of, IsUnitOfText, IsNoUnit, IsLinkedBy, IsNotLinked, PassesShapes}
 

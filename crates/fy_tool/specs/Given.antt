@@ -17,8 +17,8 @@ use Rattle.pe_shapes.specs.declared.error.ShapeError.{ShapeError}
 use Rattle.fy_world.specs.Note.{read_note}
 use Rattle.fy_world.specs.declared.note.Note.{Note}
 use Rattle.fy_world.specs.declared.note.Note.TheVariants as note
-use Rattle.fy_world.specs.declared.refusal.Refusal.{Refusal}
-use Rattle.fy_tool.specs.Checked.{IsProgramText, IsRefusedFor, HasNames, told_as, shapes_refusal}
+use Rattle.fy_front.specs.declared.refusal.Refusal.{Refusal}
+use Rattle.fy_front.specs.Checked.{IsProgramText, IsRefusedFor, HasNames, told_as, shapes_refusal}
 
 -- the most bytes of the text of a derivation
 abbrev pub most_written : ℕ

@@ -1,4 +1,3 @@
-pub mod Checked
 pub mod Given
 pub mod Units
 pub mod Due

@@ -22,10 +22,10 @@ use Rattle.pe_shapes.specs.declared.error.ShapeError.{ShapeError}
 use Rattle.fy_world.specs.Note.{ended_lines}
 use Rattle.fy_world.specs.declared.note.Note.{Note}
 use Rattle.fy_world.specs.declared.note.Note.TheVariants as note
-use Rattle.fy_world.specs.declared.refusal.Refusal.{Refusal}
-use Rattle.fy_world.specs.declared.refusal.Refusal.TheVariants as refusal
+use Rattle.fy_front.specs.declared.refusal.Refusal.{Refusal}
+use Rattle.fy_front.specs.declared.refusal.Refusal.TheVariants as refusal
 use Rattle.fy_world.specs.declared.unlinked.Unlinked.TheVariants as unlinked
-use Rattle.fy_tool.specs.Checked.{lex_refusal, parse_refusal, expand_refusal, find_refusal, shapes_refusal}
+use Rattle.fy_front.specs.Checked.{lex_refusal, parse_refusal, expand_refusal, find_refusal, shapes_refusal}
 
 -- ---- the unit of a text
 

@@ -8,15 +8,12 @@ use Rattle.std.specs.declared.vec.Vec.{Vec}
 use Rattle.fy_base.specs.Outside.{Bytes, FileCalls, Folder, Rose, Tells}
 use Rattle.fy_phrase.specs.Tree.{Tree}
 use Rattle.fy_phrase.specs.Reads.{reads}
-use Rattle.fy_phrase.specs.Sizes.{depth}
 use Rattle.fy_phrase.specs.declared.shapes.ShapeTable.{ShapeTable}
 use Rattle.fy_expand.specs.Judged.{IsJudged, IsJudgedFrom}
-use Rattle.fy_expand.specs.Judged as judged
 use Rattle.fy_derive.specs.Derivations.{PlainDerivation}
 use Rattle.fy_derive.specs.Judging.{conclusion_of, refusal}
 use Rattle.fy_derive.specs.Limits.{KeepsLimits}
 use Rattle.fy_derive.specs.Print.{derivation_text}
-use Rattle.fy_derive.specs.Printable.{IsPrintable}
 use Rattle.fy_derive.specs.Reading.{plain_derivation}
 use Rattle.fy_derive.specs.Shapes.{shape_table}
 use Rattle.fy_derive.specs.ShapeTables.{HasJustPairs}
@@ -42,7 +39,6 @@ use Rattle.fy_elf.specs.declared.error.ElfError.{ElfError}
 use Rattle.fy_build.specs.Selected.{IsRightCode, IsSelectedBy}
 use Rattle.fy_build.specs.Building.{HasTableWords}
 use Rattle.fy_build.specs.Headline.{RunsAsCopyRule}
-use Rattle.fy_least.specs.Pairs.{HasAllPairs}
 use Rattle.fy_link.specs.Links.{IsLinked, IsUnlinked}
 use Rattle.fy_link.specs.UnitBytes.{IsUnitRead, IsBadUnit, unit_bytes}
 use Rattle.fy_link.specs.Units.{IsUnit}
@@ -57,48 +53,21 @@ use Rattle.fy_world.specs.Stepping.{HasStepped}
 use Rattle.fy_world.specs.Did.{Did}
 use Rattle.fy_world.specs.Working.{IsUnbegun, Keeps, KeepsAndRuns, KeepsAndSamples, listed}
 use Rattle.fy_world.specs.declared.note.Note.{Note}
-use Rattle.fy_world.specs.declared.refusal.Refusal.{Refusal}
+use Rattle.fy_front.specs.declared.refusal.Refusal.{Refusal}
 use Rattle.fy_world.specs.declared.world.Stop.{Stop}
 use Rattle.fy_world.specs.declared.world.Stop.TheVariants.{Fetch}
-use Rattle.fy_tool.specs.Checked.{IsProgramText, IsRefusedFor, HasNames, told_as, shapes_refusal}
+use Rattle.fy_front.specs.Checked.{IsRefusedFor, shapes_refusal, IsCore, IsUnjudged, IsOfText}
 use Rattle.fy_tool.specs.Given.{IsGiven, IsTurnedDown}
 use Rattle.fy_tool.specs.Due.{TellsNamed, AreListed, AreTold}
 use Rattle.fy_tool.specs.Fetched.{HasFetched, LastRose}
 use Rattle.fy_tool.specs.Units.{most_unit, Listed, names_of, ListsUnits, ListsNone, IsUnitOfText, IsNoUnit, AreUnitsRead, IsBadObject, IsLinkedBy, IsNotLinked, link_note}
-use Rattle.fy_tool.specs.declared.texts.Core.{Core}
-use Rattle.fy_tool.specs.declared.texts.Program.{Program}
+use Rattle.fy_front.specs.declared.texts.Core.{Core}
+use Rattle.fy_front.specs.declared.texts.Program.{Program}
 use Rattle.fy_tool.specs.declared.given.TurnedDown.{TurnedDown}
 use Rattle.fy_tool.specs.declared.link.Together.{Together}
 use Rattle.fy_tool.specs.declared.objects.Objects.{Objects}
 
 -- ---- texts
-
--- the core phrase and the names of a text
-pub record IsCore (text : Bytes) (core : Core) : Type 0 where
-  pub is_judged : IsJudged text (Ok (reads core.phrase))
-  pub shallow : depth (reads core.phrase) ≤ 1023
-  pub named : HasNames text core.names
-  pub few_names : length core.names ≤ 4000000000
-
--- a text has no core phrase, and so it is told
-pub record IsUnjudged (text : Bytes) (why : Refusal) : Type 0 where
-  pub cause : judged.Refusal
-  pub is_judged : IsJudged text (Err cause)
-  pub told : told_as cause ≡ Some why
-
--- the program of a text, with its names and a derivation that it is a command, which keeps the limits and can be written under these names, has each demand shape that some
--- derivation has, and whose demand shapes keep their limits
-pub record IsOfText (text : Bytes) (program : Program) : Type 0 where
-  pub is_program : IsProgramText text (reads program.phrase)
-  pub shallow : depth (reads program.phrase) ≤ 1023
-  pub named : HasNames text program.names
-  pub derived : refusal (conclusion_of (reads program.phrase) (plain_derivation program.derivation)) ≡ None
-  pub limits : KeepsLimits (plain_derivation program.derivation)
-  pub printable : IsPrintable program.names (plain_derivation program.derivation)
-  pub full : HasAllPairs [] (reads program.phrase) (plain_derivation program.derivation)
-  pub table_is : HasJustPairs program.table (shape_table (reads program.phrase) (plain_derivation program.derivation))
-  pub table_limits : KeepsShapeLimits (reads program.phrase) program.table
-  pub table_ordered : AreInOrder program.table
 
 -- the phrase of a text with a derivation in use: the one that is named, or else one that the text has
 pub record IsGivenFor (text : Bytes) (named written : Option Bytes) (program : Program) : Type 0 where

@@ -11,10 +11,10 @@ ghost use Rattle.fy_tool.specs.Answers.{Serves};
 ghost use Rattle.fy_tool.specs.Working.{Builds, IsBuildable, IsImageFor};
 
 use crate::given::given_in;
-use crate::texts::Program;
 use crate::wanted::stack_wanted;
 use fy_base::OutOfMemory;
 use fy_build::image_of;
+use fy_front::Program;
 use fy_image::Image;
 use fy_world::{Stop, World, keep_image, refuse};
 use std::alloc::Global;

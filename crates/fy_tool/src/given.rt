@@ -10,13 +10,13 @@ ghost use Rattle.fy_phrase.specs.Sizes.{nodes};
 ghost use Rattle.fy_world.specs.Counted.{Counted, IsReadStop};
 ghost use Rattle.fy_tool.specs.Working.{ChecksGiven, GivenBy, ReadFrom, Tables, WasUngiven};
 
-use crate::refused::shapes_refusal;
-use crate::texts::{Core, Program, core_in, program_in};
+use crate::texts::{core_in, program_in};
 use fy_derive::{Derivation, DeriveError, check};
+use fy_front::{Core, Program, Refusal, shapes_refusal};
 use fy_phrase::{Phrase, ShapeTable};
 use fy_read::read_derivation;
 use fy_types::Names;
-use fy_world::{Note, Refusal, Stop, World, read_note};
+use fy_world::{Note, Stop, World, read_note};
 use pe_shapes::shapes_of;
 use std::alloc::Global;
 

@@ -11,12 +11,12 @@ use crate::given::{TurnedDown, table_of};
 use crate::listed::names_on;
 use crate::objects::{Objects, objects_in};
 use crate::refused::link_note;
-use crate::texts::Program;
 use crate::wanted::stack_wanted;
 use fy_base::OutOfMemory;
+use fy_front::{Program, Refusal};
 use fy_link::{Linked, link};
 use fy_types::Names;
-use fy_world::{Note, Refusal, Stop, Unlinked, World, keep_bytes, refuse};
+use fy_world::{Note, Stop, Unlinked, World, keep_bytes, refuse};
 use std::alloc::Global;
 
 // The most bytes of a list, and one more.

@@ -8,8 +8,9 @@ ghost use Rattle.fy_tool.specs.Answers.{Serves};
 ghost use Rattle.fy_tool.specs.Working.{IsBuildable, Lists};
 
 use crate::build::image_for;
-use crate::texts::{Program, program_in};
+use crate::texts::program_in;
 use crate::wanted::STACK_WORDS;
+use fy_front::Program;
 use fy_world::{Note, Stop, World, list_image, refuse};
 use std::alloc::Global;
 

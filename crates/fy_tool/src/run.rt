@@ -12,9 +12,9 @@ ghost use Rattle.fy_tool.specs.Working.{BuildsAndRuns, IsBuildable};
 
 use crate::build::image_for;
 use crate::given::given_in;
-use crate::texts::Program;
 use crate::wanted::{stack_wanted, steps_wanted};
 use fy_build::runs_show_copy_rule;
+use fy_front::Program;
 use fy_world::{Stop, World, keep_and_run, refuse};
 use std::alloc::Global;
 

@@ -8,12 +8,13 @@ ghost use Rattle.fy_tool.specs.Answers.{Serves};
 ghost use Rattle.fy_tool.specs.Working.{BuildsAndSamples, IsBuildable, IsSampleOf};
 
 use crate::build::image_for;
-use crate::texts::{Program, program_of};
+use crate::texts::program_from;
 use crate::wanted::{RUN_LIMIT, STACK_WORDS};
 use fy_base::OutOfMemory;
 use fy_build::runs_show_copy_rule;
+use fy_front::{Program, Refusal};
 use fy_sample::{sample_text, samples_are_short};
-use fy_world::{Note, Refusal, Stop, World, keep_and_sample, refuse};
+use fy_world::{Note, Stop, World, keep_and_sample, refuse};
 use std::alloc::Global;
 
 // The name under which the image is kept.
@@ -30,7 +31,7 @@ fn program_for(alloc: Global, number: u32, size: u32) -> Result<Result<Program, 
         Ok(text) => text,
         Err(OutOfMemory) => return Err(Stop::Memory),
     };
-    program_of(alloc, text.as_slice())
+    program_from(alloc, text.as_slice())
 }
 
 // Keeps the image of a program, runs it and writes a summary.

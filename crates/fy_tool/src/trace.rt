@@ -8,10 +8,11 @@ ghost use Rattle.fy_world.specs.Working.{IsUnbegun};
 ghost use Rattle.fy_tool.specs.Answers.{Serves};
 ghost use Rattle.fy_tool.specs.Working.{HasTraced, IsOfSomeText};
 
-use crate::texts::{Program, program_in};
+use crate::texts::program_in;
 use crate::wanted::trace_steps_wanted;
 use fy_base::OutOfMemory;
 use fy_build::code_of;
+use fy_front::Program;
 use fy_world::{Note, Stop, World, refuse, run_stepped};
 use std::alloc::Global;
 

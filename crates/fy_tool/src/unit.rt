@@ -9,12 +9,13 @@ ghost use Rattle.fy_tool.specs.Answers.{Serves};
 ghost use Rattle.fy_tool.specs.Units.{IsNoUnit};
 ghost use Rattle.fy_tool.specs.Working.{AreUnitBytes, Compiles};
 
-use crate::refused::unit_refusal;
-use crate::texts::{TEXT_LIMIT, refused};
+use crate::refused::{refused, unit_refusal};
+use crate::texts::TEXT_LIMIT;
 use fy_base::OutOfMemory;
+use fy_front::Refusal;
 use fy_link::{compile_unit, write_unit};
 use fy_types::Names;
-use fy_world::{Note, Refusal, Stop, World, keep_bytes, refuse};
+use fy_world::{Note, Stop, World, keep_bytes, refuse};
 use std::alloc::Global;
 
 // The bytes of the unit whose source the text is, or why it is none's.

@@ -16,7 +16,6 @@ pub use images::{
     execute, keep_and_run, keep_and_sample, keep_bytes, keep_elf, keep_image, list_image,
 };
 pub use note::{Note, elf_note, read_note, refusal_note};
-pub use refusal::Refusal;
 pub use runs::run_copied;
 pub use steps::run_stepped;
 pub use telling::{refuse, tell, write};

@@ -4,11 +4,12 @@ ghost use Rattle.std.specs.Prelude.{◌≡◌, ◌≤◌, ◌+◌, [], ◌∷◌
 ghost use Rattle.std.specs.Fmt.{decimal};
 ghost use Rattle.fy_world.specs.Note.{note_text, place_text, maybe_decimal, maybe_place_text, fault_name, trap_name, refusal_note, elf_note, read_note};
 
-use crate::refusal::Refusal;
+use crate::refusal::{refusal_place, refusal_word};
 use crate::unlinked::Unlinked;
 use arrayvec::ArrayString;
 use fy_base::{FaultKind, Place, TrapKind};
 use fy_elf::ElfError;
+use fy_front::Refusal;
 use fy_image::ImageError;
 use fy_read::ReadError;
 
@@ -166,7 +167,7 @@ pub fn line_of(note: Note) -> Line
         Note::StepsSpent => begun("steps spent"),
         Note::CopyLimit => begun("copy limit"),
         Note::Trapped(kind) => begun(trap_name(kind)),
-        Note::Refused(why) => begun(why.word()),
+        Note::Refused(why) => begun(refusal_word(why)),
         Note::DerivationText(_) => begun("derivation text "),
         Note::DerivationSize => begun("derivation size"),
         Note::DerivationDeep => begun("derivation deep"),
@@ -191,7 +192,7 @@ pub fn line_of(note: Note) -> Line
     };
     match note {
         Note::Fault { place, .. } => push_place(&mut line, place),
-        Note::Refused(why) => push_maybe_place(&mut line, why.place()),
+        Note::Refused(why) => push_maybe_place(&mut line, refusal_place(why)),
         Note::Link(why) => push_maybe_number(&mut line, why.unit()),
         Note::Instructions(count) | Note::ImageTrailing(count) | Note::DerivationText(count) => {
             push_number(&mut line, count)

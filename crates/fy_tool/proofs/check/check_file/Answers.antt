@@ -3,7 +3,7 @@ use Rattle.fy_words.specs.Order.{check}
 use Rattle.fy_world.specs.declared.note.Note.TheVariants as note
 use Rattle.fy_world.proofs.Counting.{called_fetch, called_same}
 use Rattle.fy_tool.specs.Given.{by_text}
-use Rattle.fy_tool.proofs.Checking.{is_accepted}
+use Rattle.fy_front.proofs.Checking.{is_accepted}
 use Rattle.fy_tool.proofs.Serving.{after, fetched_file, only, serves_down, serves_unread, tells}
 use Rattle.fy_tool.proofs.TextCommands.{serves_accepted}
 use Rattle.fy_tool.proofs.check.check_file.Goals as goal

@@ -3,7 +3,7 @@ use Rattle.fy_base.specs.Outside.{Tells}
 use Rattle.fy_phrase.specs.Reads.{reads}
 use Rattle.fy_world.specs.World.{Contents}
 use Rattle.fy_tool.proofs.Derived.{all_fetched, all_given, both_fetched, derivation_unfetched, second_faulted, text_unfetched, was_long, was_unjudged}
-use Rattle.fy_tool.proofs.Programs.{judged-nodes}
+use Rattle.fy_front.proofs.Nodes.{judged-nodes}
 use Rattle.fy_tool.proofs.given.named_in.Goals as goal
 
 pub returns-in-Ok-Err-clause-given : goal.returns-in-Ok-Err-clause-given

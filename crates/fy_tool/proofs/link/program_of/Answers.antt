@@ -1,7 +1,7 @@
 use Rattle.std.proofs.Common.{refl}
 use Rattle.fy_phrase.specs.Reads.{reads}
 use Rattle.fy_tool.proofs.Linking.{program_linked}
-use Rattle.fy_tool.proofs.Programs.{judged-nodes}
+use Rattle.fy_front.proofs.Nodes.{judged-nodes}
 use Rattle.fy_tool.proofs.link.program_of.Goals as goal
 
 pub table_of-requires-clause-nodes : goal.table_of-requires-clause-nodes

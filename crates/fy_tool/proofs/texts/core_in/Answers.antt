@@ -1,4 +1,4 @@
-use Rattle.fy_tool.proofs.Checking.{unjudged_long}
+use Rattle.fy_front.proofs.Checking.{unjudged_long}
 use Rattle.fy_tool.proofs.texts.core_in.Goals as goal
 
 pub returns-in_default-clause-read : goal.returns-in_default-clause-read

@@ -1,4 +1,4 @@
-use Rattle.fy_tool.proofs.Checking.{long_text}
+use Rattle.fy_front.proofs.Checking.{long_text}
 use Rattle.fy_tool.proofs.texts.program_in.Goals as goal
 
 pub returns-in_default-clause-read : goal.returns-in_default-clause-read

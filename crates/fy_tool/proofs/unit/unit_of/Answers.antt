@@ -1,4 +1,4 @@
-use Rattle.fy_tool.proofs.Checking.{few_first}
+use Rattle.fy_front.proofs.Checking.{few_first}
 use Rattle.fy_tool.proofs.UnitCommands.{not_unit, unit_written}
 use Rattle.fy_tool.specs.Working.{AreUnitBytes}
 use Rattle.fy_tool.proofs.unit.unit_of.Goals as goal

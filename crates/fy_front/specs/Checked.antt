@@ -1,7 +1,7 @@
 -- Which texts are accepted, and why the others are refused: by the first stage that refuses, where the stages are the length, the tokens,
 -- the syntax with its nesting, the expansion, the core limits, the typing with its limits, and the limits on the demand shapes of the
 -- derivation that is in use.
-use Rattle.std.specs.Prelude.{◌≡◌, ℕ, ◌+◌, List, [], Some, None, Ok, Err}
+use Rattle.std.specs.Prelude.{◌≡◌, ℕ, ◌+◌, ◌≤◌, List, [], length, Some, None, Ok, Err}
 use Rattle.std.specs.declared.option.Option.{Option}
 use Rattle.fy_base.specs.Outside.{Bytes}
 use Rattle.fy_types.specs.Names.{first_names}
@@ -13,6 +13,8 @@ use Rattle.fy_lexer.specs.declared.token.Token.{Token}
 use Rattle.fy_lexer.specs.Tokens.{IsTokensOf}
 use Rattle.fy_grammar.specs.declared.error.ParseError.{ParseError}
 use Rattle.fy_grammar.specs.declared.error.ParseError.TheVariants as parsing
+use Rattle.fy_phrase.specs.Reads.{reads}
+use Rattle.fy_phrase.specs.Sizes.{depth}
 use Rattle.fy_phrase.specs.Tree.{Tree}
 use Rattle.fy_phrase.specs.declared.shapes.ShapeTable.{ShapeTable}
 use Rattle.fy_expand.specs.declared.error.ExpandError.{ExpandError}
@@ -22,6 +24,8 @@ use Rattle.fy_expand.specs.Judged as judged
 use Rattle.fy_derive.specs.Derivations.{PlainDerivation}
 use Rattle.fy_derive.specs.Judging.{conclusion_of, refusal as refusal_of}
 use Rattle.fy_derive.specs.Limits.{KeepsLimits}
+use Rattle.fy_derive.specs.Printable.{IsPrintable}
+use Rattle.fy_derive.specs.Reading.{plain_derivation}
 use Rattle.fy_derive.specs.Typing.{HasType}
 use Rattle.fy_derive.specs.Least.{visits, least_shape_table}
 use Rattle.fy_derive.specs.Shapes.{PlainShape, shape_table}
@@ -32,11 +36,16 @@ use Rattle.fy_least.specs.Pairs.{HasAllPairs}
 use Rattle.fy_least.specs.declared.error.FindError.{FindError}
 use Rattle.fy_least.specs.declared.error.FindError.TheVariants as finding
 use Rattle.pe_shapes.specs.Counts.{HasMany, HasAtMost}
+use Rattle.pe_shapes.specs.Order.{AreInOrder}
 use Rattle.pe_shapes.specs.Shaping.{most_shapes, most_pairs, IsShapeOf, IsPairOf, PassesWords, KeepsLimits as KeepsShapeLimits}
 use Rattle.pe_shapes.specs.declared.error.ShapeError.{ShapeError}
 use Rattle.pe_shapes.specs.declared.error.ShapeError.TheVariants as shaping
-use Rattle.fy_world.specs.declared.refusal.Refusal.{Refusal}
-use Rattle.fy_world.specs.declared.refusal.Refusal.TheVariants as refusal
+use Rattle.fy_front.specs.declared.error.FrontError.{FrontError}
+use Rattle.fy_front.specs.declared.error.FrontError.TheVariants.{Refused, OutOfMemory}
+use Rattle.fy_front.specs.declared.refusal.Refusal.{Refusal}
+use Rattle.fy_front.specs.declared.refusal.Refusal.TheVariants as refusal
+use Rattle.fy_front.specs.declared.texts.Core.{Core}
+use Rattle.fy_front.specs.declared.texts.Program.{Program}
 
 -- the refusal that each error is; none where memory was wanting
 abbrev pub lex_refusal : LexError → Option Refusal
@@ -139,3 +148,42 @@ pub data IsRefusedFor (text : Bytes) : Refusal → Type 0 where
 pub record HasNames (text : Bytes) (names : List Bytes) : Type 0 where
   pub tokens : List Token
   pub read : IsTokensOf first_names text tokens names
+
+-- ---- what is made of a text
+
+-- the core phrase and the names of a text
+pub record IsCore (text : Bytes) (core : Core) : Type 0 where
+  pub is_judged : IsJudged text (Ok (reads core.phrase))
+  pub shallow : depth (reads core.phrase) ≤ 1023
+  pub named : HasNames text core.names
+  pub few_names : length core.names ≤ 4000000000
+
+-- a text has no core phrase, and so it is told
+pub record IsUnjudged (text : Bytes) (why : Refusal) : Type 0 where
+  pub cause : judged.Refusal
+  pub is_judged : IsJudged text (Err cause)
+  pub told : told_as cause ≡ Some why
+
+-- the program of a text, with its names and a derivation that it is a command, which keeps the limits and can be written under these names, has each demand shape that some
+-- derivation has, and whose demand shapes keep their limits
+pub record IsOfText (text : Bytes) (program : Program) : Type 0 where
+  pub is_program : IsProgramText text (reads program.phrase)
+  pub shallow : depth (reads program.phrase) ≤ 1023
+  pub named : HasNames text program.names
+  pub derived : refusal_of (conclusion_of (reads program.phrase) (plain_derivation program.derivation)) ≡ None
+  pub limits : KeepsLimits (plain_derivation program.derivation)
+  pub printable : IsPrintable program.names (plain_derivation program.derivation)
+  pub full : HasAllPairs [] (reads program.phrase) (plain_derivation program.derivation)
+  pub table_is : HasJustPairs program.table (shape_table (reads program.phrase) (plain_derivation program.derivation))
+  pub table_limits : KeepsShapeLimits (reads program.phrase) program.table
+  pub table_ordered : AreInOrder program.table
+
+-- the failure that a refusal is, or else want of memory
+abbrev pub failure_of : Option Refusal → FrontError
+failure_of (Some why) = Refused why
+failure_of None = OutOfMemory
+
+-- a refusal is one of these; where memory was wanting, nothing is said
+abbrev pub IfRefused : (Refusal → Type 0) → FrontError → Type 0
+IfRefused R (Refused why) = R why
+IfRefused R OutOfMemory = Unit {0}

@@ -1,6 +1,6 @@
 -- Texts that are checked.
-use Rattle.std.proofs.Common.{◌≡◌, ℕ, ◌+◌, ◌<◌, ◌≤◌, List, [], ◌∙◌, length, refl, sym, ap, subst, arith, inl, inr}
-use Rattle.std.specs.Prelude.{◌≢◌, ◌⊎◌, IfOk, MatchResult, Some, None, Ok, Err}
+use Rattle.std.proofs.Common.{◌≡◌, ℕ, ◌+◌, ◌<◌, ◌≤◌, List, [], length, IsErrAnd, refl, sym, ap, subst, arith, inl, inr}
+use Rattle.std.specs.Prelude.{◌≢◌, ◌⊎◌, IfErr, Some, None, Ok, Err}
 use Rattle.std.specs.declared.option.Option.{Option}
 use Rattle.std.specs.declared.result.Result.{Result}
 use Rattle.fy_base.specs.Outside.{Bytes}
@@ -41,26 +41,22 @@ use Rattle.pe_shapes.specs.Counts.{HasMany, IsCount}
 use Rattle.pe_shapes.specs.Shaping.{most_shapes, most_pairs, IsShapeOf, IsPairOf, IsShaping}
 use Rattle.pe_shapes.specs.declared.error.ShapeError.{ShapeError}
 use Rattle.pe_shapes.specs.declared.error.ShapeError.TheVariants as shaping
-use Rattle.fy_tool.specs.Checked.{lex_refusal, parse_refusal, expand_refusal, find_refusal, shapes_refusal, IsProgramText, IsInUse, IsShownBy, IsLeastShape, IsLeastPair, IsAccepted, IsRefusedFor, not_judged, too_large, no_command, many_shapes, many_entries, large_tables, HasNames}
-use Rattle.fy_tool.specs.declared.texts.Program.{Program as ProgramOfText}
-use Rattle.fy_tool.specs.Working.{IsOfText, IsUnjudged}
-use Rattle.fy_tool.proofs.Alike.{many_more}
-use Rattle.fy_world.specs.declared.refusal.Refusal.{Refusal}
-use Rattle.fy_world.specs.declared.refusal.Refusal.TheVariants as refusal
-use Rattle.fy_world.specs.declared.world.Stop.{Stop}
+use Rattle.fy_front.specs.Checked.{lex_refusal, parse_refusal, expand_refusal, find_refusal, shapes_refusal, IsProgramText, IsInUse, IsShownBy, IsLeastShape, IsLeastPair, IsAccepted, IsRefusedFor, not_judged, too_large, no_command, many_shapes, many_entries, large_tables, HasNames, failure_of, IfRefused, IsOfText, IsUnjudged}
+use Rattle.fy_front.specs.declared.texts.Program.{Program as ProgramOfText}
+use Rattle.fy_front.specs.declared.error.FrontError.{FrontError}
+use Rattle.fy_front.specs.declared.error.FrontError.TheVariants.{Refused, OutOfMemory}
+use Rattle.fy_front.specs.declared.refusal.Refusal.{Refusal}
+use Rattle.fy_front.specs.declared.refusal.Refusal.TheVariants as refusal
 
--- what a check of a text answers
-abbrev pub Checked : {T : Type 0} → (T → Type 0) → (Refusal → Type 0) → Result (Result T Refusal) Stop → Type 0
-Checked P R result = IfOk result (λ found. MatchResult found P R)
+-- the exit of a `?`
+pub handed : {T : Type 0} (result : Result T FrontError) (error : FrontError) (P : FrontError → Type 0) → IsErrAnd result (λ (e : FrontError). e ≡ error) → P error → IfErr result P
+handed (Ok x) error P is shown = absurd is
+handed (Err e) error P is shown = subst P (sym is) shown
 
--- a refusal was found, or memory was wanting
-abbrev pub Found : {T : Type 0} → Option Refusal → Result (Result T Refusal) Stop → Type 0
-Found why result = IfOk result (λ found. MatchResult found (λ _. ⊥) (λ w. why ≡ Some w))
-
-pub found_so : {T : Type 0} (P : T → Type 0) (R : Refusal → Type 0) (why : Option Refusal) (result : Result (Result T Refusal) Stop) → Found why result → ((w : Refusal) → why ≡ Some w → R w) → Checked P R result
-found_so P R why (Err stop) found is = tt
-found_so P R why (Ok (Ok x)) found is = absurd found
-found_so P R why (Ok (Err w)) found is = is w found
+-- what is a refusal is one of these
+failed : (R : Refusal → Type 0) (why : Option Refusal) → ((w : Refusal) → why ≡ Some w → R w) → IfRefused R (failure_of why)
+failed R (Some w) is = is w refl
+failed R None is = tt
 
 -- the predefined names are few
 pub few_first : (names : List Bytes) → names ≡ first_names → length names ≤ 3000000000
@@ -85,21 +81,15 @@ lex_told (lexing.NumberTooLarge p) w e same = cc
 lex_told lexing.TooManyTokens w e same = cc
 lex_told lexing.OutOfMemory w e same = cc
 
-pub not_lexed : {T : Type 0} (P : T → Type 0) (names : List Bytes) (text : Bytes) (error : LexError) (result : Result (Result T Refusal) Stop) → length text ≤ 1048576 → names ≡ first_names → IsFaultOf names text error
-    → Found (lex_refusal error) result → Checked P (IsUnjudged text) result
-not_lexed P names text error result short e fault found =
-    found_so P (IsUnjudged text) (lex_refusal error) result found
+pub not_lexed : (names : List Bytes) (text : Bytes) (error : LexError) → length text ≤ 1048576 → names ≡ first_names → IsFaultOf names text error → IfRefused (IsUnjudged text) (failure_of (lex_refusal error))
+not_lexed names text error short e fault =
+    failed (IsUnjudged text) (lex_refusal error)
     (λ w told. record { cause = tokens_refused error; is_judged = (no_tokens short (subst (λ n. IsFaultOf n text error) e fault) (lex_told error w told)); told = told })
 
-pub not_parsed : {T : Type 0} (P : T → Type 0) (text : Bytes) (tokens : List Token) (error : ParseError) (result : Result (Result T Refusal) Stop) → HasTokens text tokens → IsRefusal tokens error → Found (parse_refusal error) result
-    → Checked P (IsUnjudged text) result
-not_parsed P text tokens (parsing.Syntax place) result has is found =
-    found_so P (IsUnjudged text) (Some (refusal.Syntax place)) result found
-    (λ w told. record { cause = syntax_refused place; is_judged = (no_program has is); told = told })
-not_parsed P text tokens (parsing.TooDeep place) result has is found =
-    found_so P (IsUnjudged text) (Some (refusal.Deep place)) result found
-    (λ w told. record { cause = depth_refused place; is_judged = (too_deep has is); told = told })
-not_parsed P text tokens parsing.OutOfMemory result has is found = found_so P (IsUnjudged text) None result found (λ w told. absurd cc)
+pub not_parsed : (text : Bytes) (tokens : List Token) (error : ParseError) → HasTokens text tokens → IsRefusal tokens error → IfRefused (IsUnjudged text) (failure_of (parse_refusal error))
+not_parsed text tokens (parsing.Syntax place) has is = record { cause = syntax_refused place; is_judged = no_program has is; told = refl }
+not_parsed text tokens (parsing.TooDeep place) has is = record { cause = depth_refused place; is_judged = too_deep has is; told = refl }
+not_parsed text tokens parsing.OutOfMemory has is = tt
 
 expand_told : (error : ExpandError) (w : Refusal) → expand_refusal error ≡ Some w → error ≢ expanding.OutOfMemory
 expand_told (expanding.UnknownName p) w e same = cc
@@ -114,11 +104,11 @@ expand_told expanding.TooLarge w e same = cc
 expand_told expanding.TooManyVisits w e same = cc
 expand_told expanding.OutOfMemory w e same = cc
 
-pub not_expanded : {T : Type 0} (P : T → Type 0) (text : Bytes) (tokens : List Token) (tree : written.Tree) (error : ExpandError) (result : Result (Result T Refusal) Stop) → HasTokens text tokens → IsTheProgram tokens tree
+pub not_expanded : (text : Bytes) (tokens : List Token) (tree : written.Tree) (error : ExpandError) → HasTokens text tokens → IsTheProgram tokens tree
     → (error ≡ expanding.OutOfMemory) ⊎ ((text : Bytes) (tokens : List Token) → HasTokens text tokens → IsAllowed tokens tree → IsJudged text (Err (expansion_refused error)))
-    → Found (expand_refusal error) result → Checked P (IsUnjudged text) result
-not_expanded P text tokens tree error result has program refused found =
-    found_so P (IsUnjudged text) (expand_refusal error) result found
+    → IfRefused (IsUnjudged text) (failure_of (expand_refusal error))
+not_expanded text tokens tree error has program refused =
+    failed (IsUnjudged text) (expand_refusal error)
     (λ w told. elim refused [
       | inl memory ↦ absurd (expand_told error w told memory)
       | inr is ↦ record { cause = expansion_refused error; is_judged = is text tokens has (is_allowed tokens tree program); told = told }
@@ -143,25 +133,26 @@ unjudged_long text longer = record { cause = length_refused; is_judged = judged.
 pub refused_unjudged : (text : Bytes) (why : Refusal) → IsUnjudged text why → IsRefusedFor text why
 refused_unjudged text why is = not_judged is.cause is.is_judged is.told
 
+-- so is one that has no core phrase for that, or memory was wanting
+pub without_core : (text : Bytes) (error : FrontError) → IfRefused (IsUnjudged text) error → IfRefused (IsRefusedFor text) error
+without_core text (Refused why) is = refused_unjudged text why is
+without_core text OutOfMemory is = tt
+
 pub long_text : (text : Bytes) → 1048576 < length text → IsRefusedFor text refusal.Length
 long_text text longer = refused_unjudged text refusal.Length (unjudged_long text longer)
 
 -- ---- typing
 
 -- what finding a derivation answers of a text with this core phrase
-pub not_found : {T : Type 0} (P : T → Type 0) (text : Bytes) (p : Tree) (error : FindError) (result : Result (Result T Refusal) Stop) → IsJudged text (Ok p) → IsFinding p (Err error) → Found (find_refusal error) result → Checked P (IsRefusedFor text) result
-not_found P text p (finding.NoType place) result is (within, none, blamed) found =
-    found_so P (IsRefusedFor text) (Some (refusal.NoType place)) result found
-    (λ w told.
-    let same : refusal.NoType (blame_of [] p) ≡ w = ap refusal.NoType (sym blamed) ∙ (let e : Some (refusal.NoType place) ≡ Some w = told in cc) in
-    subst (λ r. IsRefusedFor text r) same (no_command_in p is within none))
+pub not_found : (text : Bytes) (p : Tree) (error : FindError) → IsJudged text (Ok p) → IsFinding p (Err error) → IfRefused (IsRefusedFor text) (failure_of (find_refusal error))
+not_found text p (finding.NoType place) is (within, none, blamed) =
+    let same : refusal.NoType (blame_of [] p) ≡ refusal.NoType place = ap refusal.NoType (sym blamed) in
+    subst (λ r. IsRefusedFor text r) same (no_command_in p is within none)
   where
     no_command_in : (p : Tree) → IsJudged text (Ok p) → KeepTypeLimits (visits 0 [] p) → ¬ HasType [] p (atom Comm) → IsRefusedFor text (refusal.NoType (blame_of [] p))
     no_command_in p is within none = no_command p is within none
-not_found P text p finding.TypeTooLarge result is passes found =
-    found_so P (IsRefusedFor text) (Some refusal.LeastSize) result found
-    (λ w told. let same : refusal.LeastSize ≡ w = cc in subst (λ r. IsRefusedFor text r) same (too_large p is passes))
-not_found P text p finding.OutOfMemory result is memory found = found_so P (IsRefusedFor text) None result found (λ w told. absurd cc)
+not_found text p finding.TypeTooLarge is passes = too_large p is passes
+not_found text p finding.OutOfMemory is memory = tt
 
 -- a phrase that a derivation concludes `comm` for is a command
 pub is_program : (text : Bytes) (p : Tree) (d : PlainDerivation) → IsJudged text (Ok p) → KeepTypeLimits (visits 0 [] p) → refusal_of (conclusion_of p d) ≡ None → IsProgramText text p
@@ -170,28 +161,19 @@ is_program text p d is within accepted = record { is_judged = is; within = withi
 -- ---- demand shapes
 
 -- what many have, many have that it implies
+pub many_more : {X : Type 0} (n : ℕ) (F G : X → Type 0) → ((x : X) → F x → G x) → HasMany n F → HasMany n G
+many_more n F G f many = record { members = many.members; number = many.number; distinct = many.distinct; each = λ x here. f x (many.each x here) }
+
 counted_more : {X : Type 0} (n : ℕ) (F G : X → Type 0) → ((x : X) → F x → G x) → IsCount F n → HasMany n G
 counted_more n F G f count = record { members = count.members; number = count.number; distinct = count.distinct; each = λ x here. f x (count.each x here) }
 
 -- what finding the demand shapes of a derivation answers of a text with this core phrase
-pub not_shaped : {T : Type 0} (P : T → Type 0) (text : Bytes) (p : Tree) (d : PlainDerivation) (error : ShapeError) (result : Result (Result T Refusal) Stop) → IsShownBy text p d → IsShaping (Err error) p d → Found (shapes_refusal error) result
-    → Checked P (IsRefusedFor text) result
-not_shaped P text p d shaping.TooManyShapes result is many found =
-    found_so P (IsRefusedFor text) (Some refusal.Shapes) result found
-    (λ w told.
-    let same : refusal.Shapes ≡ w = cc in
-    subst (λ r. IsRefusedFor text r) same (many_shapes p d is many (many_more (most_shapes + 1) (IsShapeOf p d) (IsLeastShape p) (λ s has. (has.0, shapes-least p d has.0 s has.1)) many)))
-not_shaped P text p d shaping.TooManyEntries result is (few, many) found =
-    found_so P (IsRefusedFor text) (Some refusal.Entries) result found
-    (λ w told.
-    let same : refusal.Entries ≡ w = cc in
-    subst (λ r. IsRefusedFor text r) same (many_entries p d is few many (many_more (most_pairs + 1) (IsPairOf p d) (IsLeastPair p) (λ x has. shapes-least p d x.0 x.1 has) many)))
-not_shaped P text p d shaping.TablesTooLarge result is (passes, few) found =
-    found_so P (IsRefusedFor text) (Some refusal.Tables) result found
-    (λ w told.
-    let same : refusal.Tables ≡ w = cc in
-    subst (λ r. IsRefusedFor text r) same (large_tables p d is passes few (counted_more passes.shapes (IsShapeOf p d) (IsLeastShape p) (λ s has. (has.0, shapes-least p d has.0 s has.1)) passes.counted)))
-not_shaped P text p d shaping.OutOfMemory result is memory found = found_so P (IsRefusedFor text) None result found (λ w told. absurd cc)
+pub not_shaped : (text : Bytes) (p : Tree) (d : PlainDerivation) (error : ShapeError) → IsShownBy text p d → IsShaping (Err error) p d → IfRefused (IsRefusedFor text) (failure_of (shapes_refusal error))
+not_shaped text p d shaping.TooManyShapes is many = many_shapes p d is many (many_more (most_shapes + 1) (IsShapeOf p d) (IsLeastShape p) (λ s has. (has.0, shapes-least p d has.0 s has.1)) many)
+not_shaped text p d shaping.TooManyEntries is (few, many) = many_entries p d is few many (many_more (most_pairs + 1) (IsPairOf p d) (IsLeastPair p) (λ x has. shapes-least p d x.0 x.1 has) many)
+not_shaped text p d shaping.TablesTooLarge is (passes, few) =
+    large_tables p d is passes few (counted_more passes.shapes (IsShapeOf p d) (IsLeastShape p) (λ s has. (has.0, shapes-least p d has.0 s has.1)) passes.counted)
+not_shaped text p d shaping.OutOfMemory is memory = tt
 
 -- the derivation of a program is in use
 abbrev pub in_use : {text : Bytes} {program : ProgramOfText} → IsOfText text program → IsInUse (reads program.phrase) (plain_derivation program.derivation)

@@ -1,0 +1,73 @@
+//! All passes of the front, in their order.
+
+ghost use Rattle.std.specs.Prelude.{◌≤◌, length, IfOk, IfErr};
+ghost use Rattle.fy_expand.specs.Judged.{most_text};
+ghost use Rattle.fy_front.specs.Checked.{IsRefusedFor, IfRefused, IsCore, IsOfText, IsUnjudged};
+
+use crate::error::FrontError;
+use fy_derive::Derivation;
+use fy_expand::expand;
+use fy_grammar::parse;
+use fy_least::find;
+use fy_lexer::lex;
+use fy_phrase::{Phrase, ShapeTable};
+use fy_types::Names;
+use pe_shapes::shapes_of;
+use std::alloc::Global;
+
+/// A core phrase, and the names of its text.
+#[derive(Debug, Drop)]
+pub struct Core {
+    pub phrase: Phrase,
+    pub names: Names,
+}
+
+/// What a text stands for: its core phrase, a derivation that this is a command, the table of the
+/// derivation's demand shapes, and its names.
+#[derive(Debug, Drop)]
+pub struct Program {
+    pub phrase: Phrase,
+    pub derivation: Derivation,
+    pub table: ShapeTable,
+    pub names: Names,
+}
+
+/// The core phrase of a text. The stages are its tokens, its syntax with its nesting, its expansion and
+/// the core limits.
+///
+/// # Errors
+///
+/// `Refused` as the first stage refuses that does, and `OutOfMemory`.
+pub fn core_of(alloc: Global, text: &[u8]) -> Result<Core, FrontError>
+    requires { length text.now ≤ most_text }
+    ensures core { IfOk result (IsCore text.now) }
+    ensures refused { IfErr result (IfRefused (IsUnjudged text.now)) }
+{
+    let mut names = Names::new(alloc)?;
+    let tokens = lex(alloc, &mut names, text)?;
+    let tree = parse(alloc, tokens.as_slice())?;
+    let phrase = expand(alloc, &tree)?;
+    Ok(Core { phrase, names })
+}
+
+/// The program of a text: behind the stages of its core phrase come its typing with its limits, and the
+/// limits on the demand shapes of the derivation that is found.
+///
+/// # Errors
+///
+/// `Refused` as the first stage refuses that does, and `OutOfMemory`.
+pub fn program_of(alloc: Global, text: &[u8]) -> Result<Program, FrontError>
+    requires { length text.now ≤ most_text }
+    ensures program { IfOk result (IsOfText text.now) }
+    ensures refused { IfErr result (IfRefused (IsRefusedFor text.now)) }
+{
+    let core = core_of(alloc, text)?;
+    let derivation = find(alloc, &core.phrase)?;
+    let table = shapes_of(alloc, &core.phrase, &derivation)?;
+    Ok(Program {
+        phrase: core.phrase,
+        derivation,
+        table,
+        names: core.names,
+    })
+}
