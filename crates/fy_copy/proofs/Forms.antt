@@ -17,7 +17,7 @@ use Rattle.fy_phrase.specs.declared.phrase.Phrase.TheVariants.{rolls-Lit, rolls-
 use Rattle.fy_phrase.specs.Tree.{Tree, Trees, lit, skip, mark, lam, accept, let_in, rec, escape}
 use Rattle.fy_phrase.specs.Reads.{reads, reads_form, reads_list}
 use Rattle.fy_phrase.specs.Contexts.{CopyContext, drop_c, esc_c, Pushed}
-use Rattle.fy_phrase.specs.Copy.{Cell, CopyState, CopyMove, goes, sticks, push, bound, taken, stored, lam_meets, accept_meets, standing_at, going, ended, jumped, is_target, step_at}
+use Rattle.fy_phrase.specs.Copy.{Row, single, CopyState, CopyMove, goes, sticks, push, pushed, bound, taken, stored, lam_meets, accept_meets, standing_at, going, ended, jumped, is_target, step_at}
 use Rattle.fy_copy.specs.Shown.{pushed_of, context_of, contexts_onto}
 use Rattle.fy_copy.specs.Moves.{Moved, Binds}
 use Rattle.fy_copy.specs.declared.context.Context.{Context}
@@ -28,7 +28,7 @@ use Rattle.fy_copy.specs.declared.progress.Body.{Body}
 use Rattle.fy_copy.specs.declared.state.Phase.{Phase}
 use Rattle.fy_copy.specs.declared.state.Phase.TheVariants as phase
 use Rattle.fy_copy.proofs.Stacks.{contexts_onto-push}
-use Rattle.fy_copy.proofs.CellLemmas.{chosen_if, other_if}
+use Rattle.fy_copy.proofs.StoreLemmas.{chosen_if, other_if}
 
 -- ---- what phrases read as
 
@@ -73,11 +73,11 @@ standing_finished p at fs over len is none all =
 
 -- ---- a jump at its own context
 
-abbrev state_with : Tree → List (Pushed CopyContext) → List Cell → ℕ → ℕ → CopyState
-state_with p cs cells next load = record { focus = p; contexts = cs; store = cells; next = next; load = load }
+abbrev state_with : Tree → List (Pushed CopyContext) → List Row → ℕ → ℕ → CopyState
+state_with p cs rows next load = record { focus = p; contexts = cs; store = rows; next = next; load = load }
 
-pub same_but : (p q : Tree) (cs : List (Pushed CopyContext)) (cells : List Cell) (i j load : ℕ) → p ≡ q → i ≡ j → state_with p cs cells i load ≡ state_with q cs cells j load
-same_but p q cs cells i j load focus next = ap (λ (x : Tree). state_with x cs cells i load) focus ∙ ap (λ (k : ℕ). state_with q cs cells k load) next
+pub same_but : (p q : Tree) (cs : List (Pushed CopyContext)) (rows : List Row) (i j load : ℕ) → p ≡ q → i ≡ j → state_with p cs rows i load ≡ state_with q cs rows j load
+same_but p q cs rows i j load focus next = ap (λ (x : Tree). state_with x cs rows i load) focus ∙ ap (λ (k : ℕ). state_with q cs rows k load) next
 
 pub jumped_to : (turn : Turn) (n m : ℕ) (here : Place) (frame : Frame) (rest items : List Frame) (first : CopyMove) (s u t : CopyState) → first ≡ jumped n here (contexts_onto [] items) s → items ≡ rest ++ frame ∷ []
     → frame.context ≡ held.Escape m → m ≡ n → u ≡ record s { focus = skip here; contexts = contexts_onto [] rest; load = frame.base } → Moved turn (goes u) t → Moved turn first t
@@ -125,13 +125,17 @@ escape_steps focus d body at inner turn made s r u t is same stays pushes moves 
     bound_at (reads focus) (escape d (reads inner) at) turn made d s u t (reads_escape focus d body at is ∙ ap (λ (q : Phrase). escape d (reads q) at) (sym same)) moves
     (subst P (sym e) (binds d (push (esc_c s.next) s)))
 
-pub stored_steps : (turn : Turn) (made : Body) (d : ℕ) (v : Datum) (body : Tree) (here : Place) (s r u t : CopyState) → r ≡ record s { store = (record { number = s.next; value = v }) ∷ s.store } → u ≡ push (drop_c s.next) r
+pub stored_steps : (turn : Turn) (made : Body) (d : ℕ) (v : Datum) (body : Tree) (here : Place) (s r u t : CopyState) → r ≡ record s { store = (record { number = s.next; content = single v }) ∷ s.store } → u ≡ push (drop_c s.next) r
     → ((m : CopyMove) → Binds made d m u → Moved turn m t) → ((e : ℕ) (x : CopyState) → Binds made e (bound e (mark (marks.Cell s.next) here) body x) x) → Moved turn (stored v d body here s) t
 stored_steps turn made d v body here s r u t holds pushes moves binds =
-    let last : CopyState = record (push (drop_c s.next) s) { store = (record { number = s.next; value = v }) ∷ s.store } in
+    let last : CopyState = record (push (drop_c s.next) s) { store = (record { number = s.next; content = single v }) ∷ s.store } in
     let e : u ≡ last = pushes ∙ ap (λ (x : CopyState). push (drop_c s.next) x) holds in
     let P : CopyState → Type 0 = λ x. Binds made d (bound d (mark (marks.Cell s.next) here) body last) x in
     moves (stored v d body here s) (subst P (sym e) (binds d last))
+
+-- a context is pushed on the same, and the focus reads so
+pub begun : (k : CopyContext) (p q : Tree) (s r : CopyState) (t : CopyState) → pushed k p r ≡ goes t → r ≡ s → p ≡ q → pushed k q s ≡ goes t
+begun k p q s r t to same focus = ap (λ (x : Tree). pushed k x s) (sym focus) ∙ ap (λ (x : CopyState). pushed k p x) (sym same) ∙ to
 
 -- ---- an acceptor
 
@@ -156,6 +160,9 @@ accept_sticks d body here (held.New e b) s other = refl
 accept_sticks d body here (held.Drop n) s other = refl
 accept_sticks d body here (held.Put kind) s other = refl
 accept_sticks d body here (held.Escape n) s other = refl
+accept_sticks d body here (held.Cells e b at) s other = refl
+accept_sticks d body here (held.Fill f) s other = refl
+accept_sticks d body here (held.Element n) s other = refl
 accept_sticks d body here (held.Store v) s other = absurd (other v refl)
 
 -- ---- phases

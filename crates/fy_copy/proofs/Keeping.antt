@@ -1,5 +1,5 @@
 -- A step keeps depths, loads and numbers.
-use Rattle.std.proofs.Common.{◌≡◌, ℕ, zero, suc, ◌+◌, ◌-◌, ◌*◌, ◌^◌, ◌≤◌, Bool, true, false, max, List, [], ◌∷◌, subst, arith, pos, negsuc, Some, None}
+use Rattle.std.proofs.Common.{◌≡◌, ℕ, zero, suc, ◌+◌, ◌-◌, ◌*◌, ◌^◌, ◌≤◌, Bool, true, false, max, List, [], ◌∷◌, length, subst, arith, pos, negsuc, Some, None}
 use Rattle.std.specs.Prelude.{nat_eq, nat_lt, if◌then◌else◌}
 use Rattle.std.specs.declared.option.Option.{Option}
 use Rattle.fy_base.specs.declared.data.Place.{Place}
@@ -9,14 +9,15 @@ use Rattle.fy_base.specs.declared.data.BinOp.{BinOp}
 use Rattle.fy_base.specs.declared.data.BinOp.TheVariants.{Add, Sub, Mul, Div, Rem, Eq, Ne, Lt, Le, Gt, Ge, And, Or}
 use Rattle.fy_base.specs.declared.arithmetic.Applied.{Applied}
 use Rattle.fy_base.specs.declared.arithmetic.Applied.TheVariants.{Gives, Faults, NoSense}
+use Rattle.fy_base.specs.declared.data.FaultKind.TheVariants.{Range}
 use Rattle.fy_base.specs.Outside.{Bytes}
 use Rattle.fy_base.specs.Arithmetic.{unary_result, binary_result, written_text}
 use Rattle.fy_phrase.specs.declared.phrase.MarkKind.TheVariants as marks
-use Rattle.fy_phrase.specs.Tree.{Tree, Trees, var, lit, unary, binary, cond, case, lam, app, field, sel, merge, let_in, rec, skip, seq, assign, while_do, forever, new, escape, accept, put, read, mark, no_trees, and_tree}
+use Rattle.fy_phrase.specs.Tree.{Tree, Trees, var, lit, unary, binary, cond, case, lam, app, field, sel, merge, let_in, rec, skip, seq, assign, while_do, forever, new, cells, escape, accept, put, read, mark, no_trees, and_tree}
 use Rattle.fy_phrase.specs.Sizes.{depth, all_depth}
 use Rattle.fy_phrase.specs.Closing.{closed_at, all_closed_at}
-use Rattle.fy_phrase.specs.Contexts.{CopyContext, op_1, op_l, op_r, if_c, case_c, arg_c, pick_c, then_c, assign_c, store_c, while_c, body_c, loop_c, new_c, drop_c, put_c, esc_c, Pushed}
-use Rattle.fy_phrase.specs.Copy.{CopyState, CopyMove, goes, puts, takes, faults, sticks, focus_on, push, focused, pushed, bound, answered, taken, operated, left_meets, chosen, part_at, focused_if_some, indexed, written, datum_meets, skip_meets, lam_meets, field_meets, accept_meets, demands, demanded, loaded, assigned, cell_meets, cell_under, is_target, store_after, jumped, value_of, byte_or_end, step_at, copy_step}
+use Rattle.fy_phrase.specs.Contexts.{CopyContext, op_1, op_l, op_r, if_c, case_c, arg_c, pick_c, then_c, assign_c, store_c, while_c, body_c, loop_c, new_c, drop_c, put_c, esc_c, cells_c, fill_c, element_c, Pushed}
+use Rattle.fy_phrase.specs.Copy.{Content, single, several, Which, own, element, CopyState, CopyMove, goes, puts, takes, faults, sticks, focus_on, push, focused, pushed, bound, answered, taken, operated, left_meets, chosen, part_at, focused_if_some, indexed, written, counted, element_picked, datum_meets, one_more, bound_filled, filled, datum_under, datum_focused, skip_meets, lam_meets, field_meets, accept_meets, demands, demanded, loaded, assigned, cell_meets, cell_under, measured, sequence_meets, is_target, store_after, jumped, content_of, value_of, byte_or_end, step_at, copy_step}
 use Rattle.fy_copy.specs.Low.{AreLow, IsLow}
 use Rattle.fy_copy.specs.Kept.{context_depth, contexts_depth, greatest_base, IsKept, IsMoveKept}
 
@@ -48,6 +49,7 @@ mutual
   closed_depth (while_do b c at) n a = omega (arith, closed_depth b n a, closed_depth c n a)
   closed_depth (forever c at) n a = omega (arith, closed_depth c n a)
   closed_depth (new d D e body at) n a = omega (arith, closed_depth e n a, closed_depth body (n + 1) a)
+  closed_depth (cells d e body at) n a = omega (arith, closed_depth e n a, closed_depth body (n + 1) a)
   closed_depth (escape d body at) n a = omega (arith, closed_depth body (n + 1) a)
   closed_depth (accept d D body at) n a = omega (arith, closed_depth body (n + 1) a)
   closed_depth (put kind p at) n a = omega (arith, closed_depth p n a)
@@ -79,6 +81,9 @@ IsShallow (new_c d body) = (d ≤ 1023) × (depth body ≤ 1023)
 IsShallow (drop_c n) = Unit {0}
 IsShallow (put_c kind) = Unit {0}
 IsShallow (esc_c n) = Unit {0}
+IsShallow (cells_c d body at) = (d ≤ 1023) × (depth body ≤ 1023)
+IsShallow (fill_c n v d body at) = (d ≤ 1023) × (depth body ≤ 1023)
+IsShallow (element_c n) = Unit {0}
 
 abbrev AreKept : ℕ → List (Pushed CopyContext) → Type 0
 AreKept n [] = Unit {0}
@@ -115,6 +120,9 @@ shallow_by (new_c d body) le = (omega arith, omega arith)
 shallow_by (drop_c n) le = tt
 shallow_by (put_c kind) le = tt
 shallow_by (esc_c n) le = tt
+shallow_by (cells_c d body at) le = (omega arith, omega arith)
+shallow_by (fill_c n v d body at) le = (omega arith, omega arith)
+shallow_by (element_c n) le = tt
 
 depth_by : (c : CopyContext) → IsShallow c → context_depth c ≤ 1023
 depth_by (op_1 op at) is = omega arith
@@ -134,6 +142,9 @@ depth_by (new_c d body) is = let first = is.0 in let other = is.1 in omega arith
 depth_by (drop_c n) is = omega arith
 depth_by (put_c kind) is = omega arith
 depth_by (esc_c n) is = omega arith
+depth_by (cells_c d body at) is = let first = is.0 in let other = is.1 in omega arith
+depth_by (fill_c n v d body at) is = let first = is.0 in let other = is.1 in omega arith
+depth_by (element_c n) is = omega arith
 
 kept_by : (n : ℕ) (cs : List (Pushed CopyContext)) → contexts_depth cs ≤ 1023 → greatest_base cs ≤ 1039 * n → AreKept n cs
 kept_by n [] le small = tt
@@ -251,6 +262,23 @@ on_written : (n : ℕ) (text : Option Bytes) (at : Place) (s : CopyState) → Ke
 on_written n (Some text) at s is = on_focus n s (skip at) is (omega arith)
 on_written n None at s is = tt
 
+on_counted : (n : ℕ) (v : Datum) (d : ℕ) (body : Tree) (at : Place) (s : CopyState) → Keeps n s → d ≤ 1023 → depth body ≤ 1023 → MoveKeeps (n + 1) (counted v d body at s)
+on_counted n (datum.Int (pos k)) d body at s is small h =
+    on_pushed n (record s { store = (record { number = s.next; content = several at [] }) ∷ s.store }) (fill_c s.next k d body at) (lit (datum.Int (pos 0)) at)
+    (record { focus = is.focus; contexts = is.contexts; next = is.next; load = is.load }) (small, h) (omega arith)
+on_counted n (datum.Int (negsuc k)) d body at s is small h = tt
+on_counted n (datum.Bool b) d body at s is small h = tt
+on_counted n (datum.Char c) d body at s is small h = tt
+
+within_or_fault : (n : ℕ) (b : Bool) (p : Tree) (at : Place) (s : CopyState) → Keeps n s → depth p ≤ 1023 → MoveKeeps (n + 1) (if b then focused p s else faults Range at)
+within_or_fault n true p at s is h = on_focus n s p is h
+within_or_fault n false p at s is h = tt
+
+on_element : (n : ℕ) (v : Datum) (k : ℕ) (o : Option Content) (here : Place) (s : CopyState) → Keeps n s → MoveKeeps (n + 1) (element_picked v k o here s)
+on_element n (datum.Int (pos i)) k (Some (several at vs)) here s is = within_or_fault n (nat_lt i (length vs)) (mark (marks.Element k i) here) at s is (omega arith)
+on_element n (datum.Int (negsuc i)) k (Some (several at vs)) here s is = tt
+on_element n v k o here s is = tt
+
 on_datum : (n : ℕ) (v : Datum) (here : Place) (c : CopyContext) (s : CopyState) → IsShallow c → Keeps n s → MoveKeeps (n + 1) (datum_meets v here c s)
 on_datum n v here (op_1 op at) s shallow is = on_operated n (unary_result op v) at s is
 on_datum n v here (op_l op q at) s shallow is = on_left n op v here q at s is shallow
@@ -265,10 +293,41 @@ on_datum n v here (store_c w) s shallow is = tt
 on_datum n v here (while_c loop c) s shallow is = on_chosen (n + 1) v (pushed (body_c loop) c s) (focused (skip here) s) (on_pushed n s (body_c loop) c is shallow.0 shallow.1) (on_focus n s (skip here) is (omega arith))
 on_datum n v here (body_c loop) s shallow is = tt
 on_datum n v here (loop_c loop) s shallow is = tt
-on_datum n v here (new_c d body) s shallow is = on_both n d (record s { store = (record { number = s.next; value = v }) ∷ s.store }) (drop_c s.next) (mark (marks.Cell s.next) here) body (record { focus = is.focus; contexts = is.contexts; next = is.next; load = is.load }) tt shallow.0 (omega arith) shallow.1
+on_datum n v here (new_c d body) s shallow is = on_both n d (record s { store = (record { number = s.next; content = single v }) ∷ s.store }) (drop_c s.next) (mark (marks.Cell s.next) here) body (record { focus = is.focus; contexts = is.contexts; next = is.next; load = is.load }) tt shallow.0 (omega arith) shallow.1
 on_datum n v here (drop_c m) s shallow is = tt
 on_datum n v here (put_c kind) s shallow is = on_written n (written_text kind v) here s is
 on_datum n v here (esc_c m) s shallow is = tt
+on_datum n v here (cells_c d body at) s shallow is = on_counted n v d body at s is shallow.0 shallow.1
+on_datum n v here (fill_c m k d body at) s shallow is = tt
+on_datum n v here (element_c m) s shallow is = on_element n v m (content_of m s.store) here s is
+
+-- ---- a sequence gets its cells
+
+on_filled : (n : ℕ) (v : Datum) (m : ℕ) (more : ℕ → CopyMove) (all : CopyMove) → ((k : ℕ) → MoveKeeps n (more k)) → MoveKeeps n all → MoveKeeps n (filled v m more all)
+on_filled n (datum.Int (pos k)) m more all each last = by_tests (nat_lt k m) (nat_eq k m)
+  where
+    by_tests : (fewer same : Bool) → MoveKeeps n (if fewer then more k else (if same then all else sticks))
+    by_tests true same = each k
+    by_tests false true = last
+    by_tests false false = tt
+on_filled n (datum.Int (negsuc k)) m more all each last = tt
+on_filled n (datum.Bool b) m more all each last = tt
+on_filled n (datum.Char c) m more all each last = tt
+
+on_one_more : (n m k : ℕ) (here : Place) (s : CopyState) → Keeps n s → MoveKeeps (n + 1) (one_more m k here s)
+on_one_more n m k here s is = let load = is.load in let next = is.next in record { focus = omega arith; contexts = later n s.contexts is.contexts; next = omega arith; load = omega arith }
+
+on_under : (n : ℕ) (v : Datum) (here : Place) (c : CopyContext) (base : ℕ) (cs : List (Pushed CopyContext)) (s : CopyState) → IsShallow c → base ≤ 1039 * n → AreKept n cs → Keeps n s
+    → MoveKeeps (n + 1) (datum_under v here c base cs s)
+on_under n v here (fill_c m k d body at) base cs s shallow low are is =
+    on_filled (n + 1) v k (λ j. one_more m j here s) (bound_filled m d body at base cs s) (λ j. on_one_more n m j here s is)
+    (on_bound n d (record s { contexts = (record { base = base; context = drop_c m }) ∷ cs }) (mark (marks.Sequence m) at) body
+    (record { focus = is.focus; contexts = (low, tt, are); next = is.next; load = is.load }) shallow.0 (omega arith) shallow.1)
+on_under n v here c base cs s shallow low are is = on_datum n v here c (record s { contexts = cs; load = base }) shallow (record { focus = is.focus; contexts = are; next = is.next; load = low })
+
+on_focused : (n : ℕ) (v : Datum) (here : Place) (cs : List (Pushed CopyContext)) (s : CopyState) → AreKept n cs → Keeps n s → MoveKeeps (n + 1) (datum_focused v here cs s)
+on_focused n v here [] s are is = tt
+on_focused n v here (c ∷ cs) s are is = on_under n v here c.context c.base cs s are.1 are.0 are.2 is
 
 -- ---- the other meetings
 
@@ -290,6 +349,9 @@ on_skip n here (new_c d body) s shallow is = tt
 on_skip n here (drop_c m) s shallow is = let load = is.load in let next = is.next in record { focus = omega arith; contexts = later n s.contexts is.contexts; next = omega arith; load = omega arith }
 on_skip n here (put_c kind) s shallow is = tt
 on_skip n here (esc_c m) s shallow is = on_focus n s (skip here) is (omega arith)
+on_skip n here (cells_c e other at) s shallow is = tt
+on_skip n here (fill_c j k e other at) s shallow is = tt
+on_skip n here (element_c m) s shallow is = tt
 
 on_lam : (n d : ℕ) (body : Tree) → d ≤ 1023 → depth body ≤ 1023 → (c : CopyContext) (s : CopyState) → IsShallow c → Keeps n s → MoveKeeps (n + 1) (lam_meets d body c s)
 on_lam n d body small h (op_1 op at) s shallow is = tt
@@ -309,6 +371,9 @@ on_lam n d body small h (new_c e other) s shallow is = tt
 on_lam n d body small h (drop_c m) s shallow is = tt
 on_lam n d body small h (put_c kind) s shallow is = tt
 on_lam n d body small h (esc_c m) s shallow is = tt
+on_lam n d body small h (cells_c e other at) s shallow is = tt
+on_lam n d body small h (fill_c j k e other at) s shallow is = tt
+on_lam n d body small h (element_c m) s shallow is = tt
 
 on_accept : (n d : ℕ) (body : Tree) (here : Place) → d ≤ 1023 → depth body ≤ 1023 → (c : CopyContext) (s : CopyState) → IsShallow c → Keeps n s → MoveKeeps (n + 1) (accept_meets d body here c s)
 on_accept n d body here small h (op_1 op at) s shallow is = tt
@@ -328,6 +393,9 @@ on_accept n d body here small h (new_c e other) s shallow is = tt
 on_accept n d body here small h (drop_c m) s shallow is = tt
 on_accept n d body here small h (put_c kind) s shallow is = tt
 on_accept n d body here small h (esc_c m) s shallow is = tt
+on_accept n d body here small h (cells_c e other at) s shallow is = tt
+on_accept n d body here small h (fill_c j k e other at) s shallow is = tt
+on_accept n d body here small h (element_c m) s shallow is = tt
 
 picked : (n : ℕ) (b : Bool) (p : Tree) (s : CopyState) → Keeps n s → depth p ≤ 1023 → MoveKeeps (n + 1) (if b then focused p s else sticks)
 picked n true p s is h = on_focus n s p is h
@@ -351,6 +419,9 @@ on_field n i p h (new_c d body) s shallow is = tt
 on_field n i p h (drop_c m) s shallow is = tt
 on_field n i p h (put_c kind) s shallow is = tt
 on_field n i p h (esc_c m) s shallow is = tt
+on_field n i p h (cells_c e other at) s shallow is = tt
+on_field n i p h (fill_c j k e other at) s shallow is = tt
+on_field n i p h (element_c m) s shallow is = tt
 
 if_depth : (b : Bool) (p q : Tree) → depth p ≤ 1023 → depth q ≤ 1023 → depth (if b then q else p) ≤ 1023
 if_depth true p q hp hq = hq
@@ -364,32 +435,48 @@ on_loaded : (n : ℕ) (v : Option Datum) (here : Place) (s : CopyState) → Keep
 on_loaded n (Some v) here s is = on_focus n s (lit v here) is (omega arith)
 on_loaded n None here s is = tt
 
-on_assigned : (n : ℕ) (u : Option Datum) (k : ℕ) (v : Datum) (here : Place) (s : CopyState) → Keeps n s → MoveKeeps (n + 1) (assigned u k v here s)
-on_assigned n (Some u) k v here s is = let load = is.load in let next = is.next in record { focus = omega arith; contexts = later n s.contexts is.contexts; next = omega arith; load = omega arith }
-on_assigned n None k v here s is = tt
+on_assigned : (n : ℕ) (u : Option Datum) (which : Which) (k : ℕ) (v : Datum) (here : Place) (s : CopyState) → Keeps n s → MoveKeeps (n + 1) (assigned u which k v here s)
+on_assigned n (Some u) which k v here s is = let load = is.load in let next = is.next in record { focus = omega arith; contexts = later n s.contexts is.contexts; next = omega arith; load = omega arith }
+on_assigned n None which k v here s is = tt
 
-on_cell : (n k : ℕ) (here : Place) (c : CopyContext) (cs : List (Pushed CopyContext)) (s : CopyState) → AreKept n cs → Keeps n s → MoveKeeps (n + 1) (cell_meets k here c cs s)
-on_cell n k here (op_1 op at) cs s are is = on_loaded n (value_of k s.store) here s is
-on_cell n k here (op_l op q at) cs s are is = on_loaded n (value_of k s.store) here s is
-on_cell n k here (op_r op u at) cs s are is = on_loaded n (value_of k s.store) here s is
-on_cell n k here (if_c p q) cs s are is = on_loaded n (value_of k s.store) here s is
-on_cell n k here (case_c parts at) cs s are is = on_loaded n (value_of k s.store) here s is
-on_cell n k here (arg_c q) cs s are is = on_loaded n (value_of k s.store) here s is
-on_cell n k here (pick_c i) cs s are is = on_loaded n (value_of k s.store) here s is
-on_cell n k here (then_c q) cs s are is = on_loaded n (value_of k s.store) here s is
-on_cell n k here (assign_c p) cs s are is = on_loaded n (value_of k s.store) here s is
-on_cell n k here (store_c v) cs s are is = on_assigned n (value_of k s.store) k v here (record s { contexts = cs }) (record { focus = is.focus; contexts = are; next = is.next; load = is.load })
-on_cell n k here (while_c loop c) cs s are is = on_loaded n (value_of k s.store) here s is
-on_cell n k here (body_c loop) cs s are is = on_loaded n (value_of k s.store) here s is
-on_cell n k here (loop_c loop) cs s are is = on_loaded n (value_of k s.store) here s is
-on_cell n k here (new_c d body) cs s are is = on_loaded n (value_of k s.store) here s is
-on_cell n k here (drop_c m) cs s are is = on_loaded n (value_of k s.store) here s is
-on_cell n k here (put_c kind) cs s are is = on_loaded n (value_of k s.store) here s is
-on_cell n k here (esc_c m) cs s are is = on_loaded n (value_of k s.store) here s is
+on_cell : (n : ℕ) (which : Which) (k : ℕ) (here : Place) (c : CopyContext) (cs : List (Pushed CopyContext)) (s : CopyState) → AreKept n cs → Keeps n s → MoveKeeps (n + 1) (cell_meets which k here c cs s)
+on_cell n which k here (op_1 op at) cs s are is = on_loaded n (value_of which k s.store) here s is
+on_cell n which k here (op_l op q at) cs s are is = on_loaded n (value_of which k s.store) here s is
+on_cell n which k here (op_r op u at) cs s are is = on_loaded n (value_of which k s.store) here s is
+on_cell n which k here (if_c p q) cs s are is = on_loaded n (value_of which k s.store) here s is
+on_cell n which k here (case_c parts at) cs s are is = on_loaded n (value_of which k s.store) here s is
+on_cell n which k here (arg_c q) cs s are is = on_loaded n (value_of which k s.store) here s is
+on_cell n which k here (pick_c i) cs s are is = on_loaded n (value_of which k s.store) here s is
+on_cell n which k here (then_c q) cs s are is = on_loaded n (value_of which k s.store) here s is
+on_cell n which k here (assign_c p) cs s are is = on_loaded n (value_of which k s.store) here s is
+on_cell n which k here (store_c v) cs s are is = on_assigned n (value_of which k s.store) which k v here (record s { contexts = cs }) (record { focus = is.focus; contexts = are; next = is.next; load = is.load })
+on_cell n which k here (while_c loop c) cs s are is = on_loaded n (value_of which k s.store) here s is
+on_cell n which k here (body_c loop) cs s are is = on_loaded n (value_of which k s.store) here s is
+on_cell n which k here (loop_c loop) cs s are is = on_loaded n (value_of which k s.store) here s is
+on_cell n which k here (new_c d body) cs s are is = on_loaded n (value_of which k s.store) here s is
+on_cell n which k here (drop_c m) cs s are is = on_loaded n (value_of which k s.store) here s is
+on_cell n which k here (put_c kind) cs s are is = on_loaded n (value_of which k s.store) here s is
+on_cell n which k here (esc_c m) cs s are is = on_loaded n (value_of which k s.store) here s is
+on_cell n which k here (cells_c e other at) cs s are is = on_loaded n (value_of which k s.store) here s is
+on_cell n which k here (fill_c j m e other at) cs s are is = on_loaded n (value_of which k s.store) here s is
+on_cell n which k here (element_c m) cs s are is = on_loaded n (value_of which k s.store) here s is
 
-on_cell_under : (n k : ℕ) (here : Place) (cs : List (Pushed CopyContext)) (s : CopyState) → AreKept n cs → Keeps n s → MoveKeeps (n + 1) (cell_under k here cs s)
-on_cell_under n k here [] s are is = on_loaded n (value_of k s.store) here s is
-on_cell_under n k here (c ∷ cs) s are is = on_cell n k here c.context cs s are.2 is
+on_cell_under : (n : ℕ) (which : Which) (k : ℕ) (here : Place) (cs : List (Pushed CopyContext)) (s : CopyState) → AreKept n cs → Keeps n s → MoveKeeps (n + 1) (cell_under which k here cs s)
+on_cell_under n which k here [] s are is = on_loaded n (value_of which k s.store) here s is
+on_cell_under n which k here (c ∷ cs) s are is = on_cell n which k here c.context cs s are.2 is
+
+on_measured : (n : ℕ) (o : Option Content) (here : Place) (s : CopyState) → Keeps n s → MoveKeeps (n + 1) (measured o here s)
+on_measured n (Some (several at vs)) here s is = on_focus n s (lit (datum.Int (pos (length vs))) here) is (omega arith)
+on_measured n o here s is = tt
+
+where_chosen : (n : ℕ) (b : Bool) (m : CopyMove) → MoveKeeps n m → MoveKeeps n (if b then m else sticks)
+where_chosen n true m is = is
+where_chosen n false m is = tt
+
+on_sequence : (n k : ℕ) (here : Place) (c : CopyContext) (s : CopyState) → IsShallow c → Keeps n s → MoveKeeps (n + 1) (sequence_meets k here c s)
+on_sequence n k here (arg_c q) s shallow is = on_pushed n s (element_c k) q is tt shallow
+on_sequence n k here (pick_c i) s shallow is = where_chosen (n + 1) (nat_eq i 0) (measured (content_of k s.store) here s) (on_measured n (content_of k s.store) here s is)
+on_sequence n k here c s shallow is = tt
 
 on_target : (n : ℕ) (b : Bool) (t : CopyState) (m : CopyMove) → Keeps (n + 1) t → MoveKeeps (n + 1) m → MoveKeeps (n + 1) (if b then goes t else m)
 on_target n true t m here others = here
@@ -407,7 +494,7 @@ on_jumped n k here (c ∷ cs) s are next =
 
 kept_at : (n : ℕ) (p : Tree) (s : CopyState) → depth p ≤ 1023 → Keeps n s → MoveKeeps (n + 1) (step_at p s)
 kept_at n (var k at) s h is = tt
-kept_at n (lit v at) s h is = answers n (datum_meets v at) s.contexts s is.contexts is.next is.focus (on_datum n v at)
+kept_at n (lit v at) s h is = on_focused n v at s.contexts s is.contexts is
 kept_at n (unary op p at) s h is = on_pushed n s (op_1 op at) p is tt h
 kept_at n (binary op p q at) s h is = on_pushed n s (op_l op q at) p is (omega arith) (omega arith)
 kept_at n (cond b p q at) s h is = on_pushed n s (if_c p q) b is (omega arith, omega arith) (omega arith)
@@ -425,12 +512,15 @@ kept_at n (assign p q at) s h is = on_pushed n s (assign_c p) q is (omega arith)
 kept_at n (while_do b c at) s h is = on_pushed n s (while_c (while_do b c at) c) b is (h, omega arith) (omega arith)
 kept_at n (forever c at) s h is = on_pushed n s (loop_c (forever c at)) c is h h
 kept_at n (new d D e body at) s h is = on_pushed n s (new_c d body) e is (omega arith, omega arith) (omega arith)
+kept_at n (cells d e body at) s h is = on_pushed n s (cells_c d body at) e is (omega arith, omega arith) (omega arith)
 kept_at n (escape d body at) s h is = on_both n d s (esc_c s.next) (mark (marks.Jump s.next) at) body is tt (omega arith) (omega arith) (omega arith)
 kept_at n (accept d D body at) s h is = takes_off n (accept_meets d body at) s.contexts s is.contexts is (on_accept n d body at (omega arith) (omega arith))
 kept_at n (put kind p at) s h is = on_pushed n s (put_c kind) p is tt h
 kept_at n (read p at) s h is = λ byte. on_pushed n s (store_c (byte_or_end byte)) p is tt h
-kept_at n (mark (marks.Cell k) at) s h is = on_cell_under n k at s.contexts s is.contexts is
+kept_at n (mark (marks.Cell k) at) s h is = on_cell_under n own k at s.contexts s is.contexts is
 kept_at n (mark (marks.Jump k) at) s h is = on_jumped n k at s.contexts s is.contexts is.next
+kept_at n (mark (marks.Sequence k) at) s h is = takes_off n (sequence_meets k at) s.contexts s is.contexts is (on_sequence n k at)
+kept_at n (mark (marks.Element k i) at) s h is = on_cell_under n (element i) k at s.contexts s is.contexts is
 
 -- a step of a kept state
 pub kept_step : (n : ℕ) (s : CopyState) → IsKept n s → IsMoveKept (n + 1) (copy_step s)

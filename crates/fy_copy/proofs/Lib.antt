@@ -2,5 +2,6 @@ pub mod Stacks
 pub mod SizeLemmas
 pub mod Keeping
 pub mod Reached
-pub mod CellLemmas
+pub mod StoreLemmas
+pub mod FillLemmas
 pub mod Forms

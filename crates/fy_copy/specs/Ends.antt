@@ -2,7 +2,7 @@
 use Rattle.std.specs.Prelude.{◌≡◌, ℕ, ◌+◌, ◌-◌, ◌<◌, ◌≤◌, max}
 use Rattle.std.specs.Option.{option_map, ForSome}
 use Rattle.std.specs.declared.option.Option.{Option}
-use Rattle.fy_base.specs.Outside.{Bytes, Gave, Gained, GainedPart, IsPrefix}
+use Rattle.fy_base.specs.Outside.{Bytes, Gained, GainedPart, IsPrefix}
 use Rattle.fy_base.specs.declared.data.Ending.{Ending}
 use Rattle.fy_base.specs.declared.data.Ending.TheVariants as ends
 use Rattle.fy_phrase.specs.Tree.{Tree}

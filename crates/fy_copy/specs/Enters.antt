@@ -1,5 +1,5 @@
 -- Forms of phrases, by how their step goes.
-use Rattle.fy_phrase.specs.Tree.{Tree, unary, binary, cond, case, app, field, sel, merge, seq, assign, while_do, forever, new, escape, put, read}
+use Rattle.fy_phrase.specs.Tree.{Tree, unary, binary, cond, case, app, field, sel, merge, seq, assign, while_do, forever, new, cells, escape, put, read}
 
 -- the forms that go on with a part of theirs, and a context for the others
 abbrev pub Enters : Tree → Type 0
@@ -12,6 +12,7 @@ Enters (sel p i at) = Unit {0}
 Enters (seq p q at) = Unit {0}
 Enters (assign p q at) = Unit {0}
 Enters (new d D e body at) = Unit {0}
+Enters (cells d e body at) = Unit {0}
 Enters (put kind p at) = Unit {0}
 Enters _ = ⊥
 

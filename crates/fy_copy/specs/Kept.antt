@@ -2,7 +2,7 @@
 use Rattle.std.specs.Prelude.{ℕ, ◌*◌, ◌≤◌, max, List, [], ◌∷◌}
 use Rattle.std.specs.declared.option.Option.{Option}
 use Rattle.fy_phrase.specs.Sizes.{depth, all_depth}
-use Rattle.fy_phrase.specs.Contexts.{CopyContext, op_1, op_l, op_r, if_c, case_c, arg_c, pick_c, then_c, assign_c, store_c, while_c, body_c, loop_c, new_c, drop_c, put_c, esc_c, Pushed}
+use Rattle.fy_phrase.specs.Contexts.{CopyContext, op_1, op_l, op_r, if_c, case_c, arg_c, pick_c, then_c, assign_c, store_c, while_c, body_c, loop_c, new_c, drop_c, put_c, esc_c, cells_c, fill_c, element_c, Pushed}
 use Rattle.fy_phrase.specs.Copy.{CopyState, CopyMove, goes, puts, takes, faults, sticks}
 
 -- the greatest depth of a binder in a context
@@ -24,6 +24,9 @@ context_depth (new_c d body) = max d (depth body)
 context_depth (drop_c n) = 0
 context_depth (put_c kind) = 0
 context_depth (esc_c n) = 0
+context_depth (cells_c d body at) = max d (depth body)
+context_depth (fill_c n v d body at) = max d (depth body)
+context_depth (element_c n) = 0
 
 abbrev pub contexts_depth : List (Pushed CopyContext) → ℕ
 contexts_depth [] = 0

@@ -1,4 +1,5 @@
 pub mod Shown
+pub mod Store
 pub mod Moves
 pub mod Low
 pub mod Enters

@@ -18,6 +18,8 @@ abbrev pub IsAtOnce : Context → Type 0
 IsAtOnce (held.Case parts at) = ⊥
 IsAtOnce (held.New d body) = ⊥
 IsAtOnce (held.Put kind) = ⊥
+IsAtOnce (held.Cells d body at) = ⊥
+IsAtOnce (held.Fill f) = ⊥
 IsAtOnce _ = Unit {0}
 
 -- a state whose load, bases and next number are far below 2^64

@@ -9,8 +9,8 @@ ghost use Rattle.fy_copy.specs.Moves.{Moved};
 ghost use Rattle.fy_copy.specs.Shown.{context_of, state_of};
 
 use crate::answer::answer;
-use crate::context::{Context, Core};
-use crate::demand::{accept, call, decide, select, use_cell};
+use crate::context::{Context, Core, Which};
+use crate::demand::{accept, call, decide, select, use_cell, use_sequence};
 use crate::finish::{finish, jump};
 use crate::progress::Turn;
 use crate::words::{bind, close, close_with_mark, enter, push_context, take};
@@ -37,6 +37,7 @@ fn split(alloc: Global, focus: &mut Phrase) -> (Context, Phrase)
         Phrase::Seq(p, q, _) => (Context::Then(take(q)), take(p)),
         Phrase::Assign(p, q, _) => (Context::Assign(take(p)), take(q)),
         Phrase::New(d, _, e, body, _) => (Context::New(*d, take(body)), take(e)),
+        Phrase::Cells(d, e, body, at) => (Context::Cells(*d, take(body), *at), take(e)),
         Phrase::Put(kind, p, _) => (Context::Put(*kind), take(p)),
         _ => unreachable!(),
     }
@@ -139,6 +140,7 @@ pub fn advance(alloc: Global, core: &mut Core) -> Result<Turn, OutOfMemory>
         Phrase::Seq(..) => go_in(alloc, core),
         Phrase::Assign(..) => go_in(alloc, core),
         Phrase::New(..) => go_in(alloc, core),
+        Phrase::Cells(..) => go_in(alloc, core),
         Phrase::Put(..) => go_in(alloc, core),
         Phrase::WhileDo(..) => go_in_loop(alloc, core),
         Phrase::Forever(..) => go_in_loop(alloc, core),
@@ -165,8 +167,12 @@ pub fn advance(alloc: Global, core: &mut Core) -> Result<Turn, OutOfMemory>
             let made = close(alloc, body, &core.focus)?;
             Ok(bind(core, d, made))
         }
-        Phrase::Mark(MarkKind::Cell(n), at) => Ok(use_cell(*n, *at, core)),
+        Phrase::Mark(MarkKind::Cell(n), at) => Ok(use_cell(Which::Own, *n, *at, core)),
         Phrase::Mark(MarkKind::Jump(n), at) => Ok(jump(*n, *at, core)),
+        Phrase::Mark(MarkKind::Sequence(n), at) => Ok(use_sequence(*n, *at, core)),
+        Phrase::Mark(MarkKind::Element(n, i), at) => {
+            Ok(use_cell(Which::Element(*i), *n, *at, core))
+        }
         Phrase::Read(..) => unreachable!(),
     }
 }

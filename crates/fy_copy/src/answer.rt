@@ -1,18 +1,19 @@
 //! A datum meets the newest context.
 
-ghost use Rattle.std.specs.Prelude.{◌≡◌, ◌≤◌, ◌<◌, ◌+◌, ◌^◌, ◌∷◌, IfOk, OnOk, OnErr, vec_len, vec_capacity};
+ghost use Rattle.std.specs.Prelude.{◌≡◌, ◌≤◌, ◌<◌, ◌+◌, ◌^◌, IfOk, OnOk, OnErr, vec_len, vec_capacity};
 ghost use Rattle.std.specs.Option.{option_map};
 ghost use Rattle.fy_phrase.specs.Reads.{reads, reads_parts};
-ghost use Rattle.fy_phrase.specs.Copy.{CopyState, answered, chosen, datum_meets, focused, indexed, left_meets, operated, part_at, pushed, stored};
+ghost use Rattle.fy_phrase.specs.Copy.{CopyState, chosen, datum_focused, datum_under, focused, indexed, left_meets, operated, part_at, pushed, stored};
 ghost use Rattle.fy_phrase.specs.Contexts.{body_c};
 ghost use Rattle.fy_phrase.specs.Tree.{skip};
-ghost use Rattle.fy_copy.specs.Shown.{context_of, pushed_of, state_of};
+ghost use Rattle.fy_copy.specs.Shown.{context_of, state_of, with_context};
 ghost use Rattle.fy_copy.specs.Moves.{Moved, picked_move};
 ghost use Rattle.fy_copy.specs.Low.{AreLow, IsAtOnce, LOW};
 
-use crate::cells::add_cell;
-use crate::context::{Context, Core, Frame};
+use crate::context::{Content, Context, Core, Frame};
+use crate::filling::{count_cells, fill, pick_element};
 use crate::progress::{Picked, Turn};
+use crate::store::add_row;
 use crate::words::{bind, close_with_mark, enter, push_context, put_back, set_focus};
 use fy_base::{
     Applied, BinOp, Datum, FaultKind, OutOfMemory, Place, apply_binary, apply_unary, put_text,
@@ -153,19 +154,21 @@ fn store_new(
 {
     let number = core.next;
     let made = close_with_mark(alloc, body, MarkKind::Cell(number), here)?;
-    add_cell(&mut core.store, number, v)?;
+    add_row(&mut core.store, number, Content::Single(v))?;
     core.load = base;
     push_context(core, Context::Drop(number));
     Ok(bind(core, d, made))
 }
 
 // What a datum does at a context without taking memory.
-fn meet_at_once(v: Datum, here: Place, context: Context, core: &mut Core) -> Turn
+fn meet_at_once(v: Datum, here: Place, base: u64, context: Context, core: &mut Core) -> Turn
     requires room { vec_len core.old.contexts < vec_capacity core.old.contexts }
-    requires load { core.old.load ≤ LOW }
+    requires base { base ≤ LOW }
     requires at_once { IsAtOnce context }
-    ensures { Moved result (datum_meets v here (context_of context) (state_of core.old)) (state_of core.new) }
+    ensures { Moved result (datum_under v here (context_of context) base (state_of core.old).contexts
+        (with_context base (context_of context) (state_of core.old))) (state_of core.new) }
 {
+    core.load = base;
     match context {
         Context::Op1(op, at) => operate(apply_unary(op, v), at, core),
         Context::OpL(op, q, at) => meet_left(op, v, here, q, at, core),
@@ -176,6 +179,7 @@ fn meet_at_once(v: Datum, here: Place, context: Context, core: &mut Core) -> Tur
             enter(core, Context::Store(v), p);
             Turn::Going
         }
+        Context::Element(n) => pick_element(v, n, here, core),
         _ => Turn::Stuck,
     }
 }
@@ -189,9 +193,11 @@ fn meet(
 ) -> Result<Turn, OutOfMemory>
     requires room { vec_len core.old.contexts < vec_capacity core.old.contexts }
     requires base { frame.base ≤ LOW }
+    requires load { core.old.load ≤ LOW }
     requires next { core.old.next ≤ LOW }
-    ensures ok { IfOk result (λ p. Moved p (datum_meets v here (context_of frame.context) (record (state_of core.old) { load = frame.base })) (state_of core.new)) }
-    ensures err { OnErr result (state_of core.new ≡ record (state_of core.old) { contexts = pushed_of frame ∷ (state_of core.old).contexts }) }
+    ensures ok { IfOk result (λ p. Moved p (datum_under v here (context_of frame.context) frame.base (state_of core.old).contexts
+        (with_context frame.base (context_of frame.context) (state_of core.old))) (state_of core.new)) }
+    ensures err { OnErr result (state_of core.new ≡ with_context frame.base (context_of frame.context) (state_of core.old)) }
 {
     let Frame { base, context } = frame;
     match context {
@@ -227,19 +233,19 @@ fn meet(
                 Err(e)
             }
         },
-        context => {
-            core.load = base;
-            Ok(meet_at_once(v, here, context, core))
-        }
+        Context::Cells(d, body, at) => count_cells(alloc, v, d, body, at, base, core),
+        Context::Fill(filling) => fill(alloc, v, here, base, filling, core),
+        context => Ok(meet_at_once(v, here, base, context, core)),
     }
 }
 
-/// A datum meets the newest context, which is taken off. After a refusal all is as it was.
+/// A datum meets the newest context. After a refusal all is as it was.
 #[tactic(auto, using(crate::proofs::Stacks::stacks))]
 pub fn answer(alloc: Global, v: Datum, here: Place, core: &mut Core) -> Result<Turn, OutOfMemory>
     requires low { AreLow (state_of core.old).contexts }
+    requires load { core.old.load ≤ LOW }
     requires next { core.old.next ≤ LOW }
-    ensures ok { IfOk result (λ p. Moved p (answered (datum_meets v here) (state_of core.old).contexts (state_of core.old)) (state_of core.new)) }
+    ensures ok { IfOk result (λ p. Moved p (datum_focused v here (state_of core.old).contexts (state_of core.old)) (state_of core.new)) }
     ensures err { OnErr result (state_of core.new ≡ state_of core.old) }
 {
     match core.contexts.pop() {

@@ -1,20 +1,24 @@
-//! Procedures, fields, acceptors, merges and cells at the context that demands them.
+//! Procedures, fields, acceptors, merges, cells and sequences at the context that demands them.
 
-ghost use Rattle.std.specs.Prelude.{◌≡◌, ℕ, ◌<◌, ◌∷◌, [], IfOk, OnErr, OnOk, if◌then◌else◌, vec_len, vec_capacity};
+ghost use Rattle.std.specs.Prelude.{◌≡◌, ℕ, ◌<◌, ◌+◌, ◌^◌, ◌∷◌, [], IfOk, OnErr, OnOk, if◌then◌else◌, vec_len, vec_capacity};
 ghost use Rattle.fy_phrase.specs.Tree.{Tree};
 ghost use Rattle.fy_phrase.specs.Reads.{reads};
-ghost use Rattle.fy_phrase.specs.Copy.{CopyState, accept_meets, assigned, cell_meets, cell_under, demanded, demands, field_meets, focused, lam_meets, loaded, taken, value_of};
-ghost use Rattle.fy_copy.specs.Shown.{context_of, contexts_onto, pushed_of, state_of};
+ghost use Rattle.fy_phrase.specs.Copy.{CopyState, accept_meets, assigned, cell_meets, cell_under, content_of, demanded, demands, field_meets, focused, lam_meets, loaded, measured, sequence_meets, taken, value_of};
+ghost use Rattle.fy_phrase.specs.Contexts.{pick_c};
+ghost use Rattle.fy_copy.specs.Shown.{context_of, contexts_onto, pushed_of, state_of, which_of};
 ghost use Rattle.fy_copy.specs.Moves.{Binds, Moved};
 
-use crate::cells::{set_value, value_of};
-use crate::context::{Context, Core, Frame};
+use crate::context::{Context, Core, Frame, Which};
 use crate::progress::{Body, Turn};
-use crate::words::{close, close_with_datum, put_back, set_focus};
+use crate::store::{extent_of, set_value, value_of};
+use crate::words::{close, close_with_datum, enter, integer, put_back, set_focus};
 use fy_base::{Datum, OutOfMemory, Place};
 use fy_phrase::Phrase;
 use fy_types::Name;
 use std::alloc::Global;
+
+// The number of the name `len`.
+const LENGTH: Name = 0;
 
 fn call_in(
     alloc: Global,
@@ -166,10 +170,10 @@ pub fn decide(p: Phrase, q: Phrase, core: &mut Core) -> Turn
     Turn::Going
 }
 
-fn load_cell(n: u64, here: Place, core: &mut Core) -> Turn
-    ensures { Moved result (loaded (value_of n (state_of core.old).store) here (state_of core.old)) (state_of core.new) }
+fn load_cell(which: Which, n: u64, here: Place, core: &mut Core) -> Turn
+    ensures { Moved result (loaded (value_of (which_of which) n (state_of core.old).store) here (state_of core.old)) (state_of core.new) }
 {
-    match value_of(core.store.as_slice(), n) {
+    match value_of(core.store.as_slice(), which, n) {
         None => Turn::Stuck,
         Some(v) => {
             set_focus(core, Phrase::Lit(v, here));
@@ -178,13 +182,13 @@ fn load_cell(n: u64, here: Place, core: &mut Core) -> Turn
     }
 }
 
-fn assign_cell(n: u64, v: Datum, here: Place, core: &mut Core) -> Turn
-    ensures { Moved result (assigned (value_of n (state_of core.old).store) n v here (state_of core.old)) (state_of core.new) }
+fn assign_cell(which: Which, n: u64, v: Datum, here: Place, core: &mut Core) -> Turn
+    ensures { Moved result (assigned (value_of (which_of which) n (state_of core.old).store) (which_of which) n v here (state_of core.old)) (state_of core.new) }
 {
-    match value_of(core.store.as_slice(), n) {
+    match value_of(core.store.as_slice(), which, n) {
         None => Turn::Stuck,
         Some(_) => {
-            set_value(&mut core.store, n, v);
+            set_value(&mut core.store, which, n, v);
             set_focus(core, Phrase::Skip(here));
             Turn::Going
         }
@@ -193,26 +197,77 @@ fn assign_cell(n: u64, v: Datum, here: Place, core: &mut Core) -> Turn
 
 /// A cell gives its value, or takes the one that is assigned, whose context is taken off.
 #[tactic(auto, using(crate::proofs::Stacks::stacks))]
-pub fn use_cell(n: u64, here: Place, core: &mut Core) -> Turn
-    ensures { Moved result (cell_under n here (state_of core.old).contexts (state_of core.old)) (state_of core.new) }
+pub fn use_cell(which: Which, n: u64, here: Place, core: &mut Core) -> Turn
+    ensures { Moved result (cell_under (which_of which) n here (state_of core.old).contexts (state_of core.old)) (state_of core.new) }
 {
     match core.contexts.pop() {
-        None => load_cell(n, here, core),
-        Some(frame) => use_cell_in(n, here, frame, core),
+        None => load_cell(which, n, here, core),
+        Some(frame) => use_cell_in(which, n, here, frame, core),
     }
 }
 
-fn use_cell_in(n: u64, here: Place, frame: Frame, core: &mut Core) -> Turn
+fn use_cell_in(which: Which, n: u64, here: Place, frame: Frame, core: &mut Core) -> Turn
     requires { vec_len core.old.contexts < vec_capacity core.old.contexts }
-    ensures { Moved result (cell_meets n here (context_of frame.context) (state_of core.old).contexts
+    ensures { Moved result (cell_meets (which_of which) n here (context_of frame.context) (state_of core.old).contexts
         (record (state_of core.old) { contexts = pushed_of frame ∷ (state_of core.old).contexts })) (state_of core.new) }
 {
     let Frame { base, context } = frame;
     match context {
-        Context::Store(v) => assign_cell(n, v, here, core),
+        Context::Store(v) => assign_cell(which, n, v, here, core),
         context => {
             put_back(&mut core.contexts, Frame { base, context });
-            load_cell(n, here, core)
+            load_cell(which, n, here, core)
         }
+    }
+}
+
+// The length of a sequence.
+fn measure(n: u64, here: Place, core: &mut Core) -> Turn
+    ensures { Moved result (measured (content_of n (state_of core.old).store) here (state_of core.old)) (state_of core.new) }
+{
+    match extent_of(core.store.as_slice(), n) {
+        None => Turn::Stuck,
+        Some(extent) => {
+            let length = integer(extent.count);
+            set_focus(core, Phrase::Lit(Datum::Int(length), here));
+            Turn::Going
+        }
+    }
+}
+
+// The selection of a name from a sequence.
+fn select_length(i: Name, n: u64, here: Place, core: &mut Core) -> Turn
+    ensures { Moved result (sequence_meets n here (pick_c i) (state_of core.old)) (state_of core.new) }
+{
+    if i == LENGTH {
+        return measure(n, here, core);
+    }
+    Turn::Stuck
+}
+
+fn use_sequence_in(n: u64, here: Place, context: Context, core: &mut Core) -> Turn
+    requires room { vec_len core.old.contexts < vec_capacity core.old.contexts }
+    requires load { core.old.load + 8 < 2 ^ 64 }
+    ensures { Moved result (sequence_meets n here (context_of context) (state_of core.old)) (state_of core.new) }
+{
+    match context {
+        Context::Arg(q) => {
+            enter(core, Context::Element(n), q);
+            Turn::Going
+        }
+        Context::Pick(i) => select_length(i, n, here, core),
+        _ => Turn::Stuck,
+    }
+}
+
+/// A sequence takes an index, or the selection of its length, whose context is taken off.
+#[tactic(auto, using(crate::proofs::Stacks::stacks))]
+pub fn use_sequence(n: u64, here: Place, core: &mut Core) -> Turn
+    requires { core.old.load + 8 < 2 ^ 64 }
+    ensures { Moved result (taken (sequence_meets n here) (state_of core.old).contexts (state_of core.old)) (state_of core.new) }
+{
+    match core.contexts.pop() {
+        None => Turn::Stuck,
+        Some(frame) => use_sequence_in(n, here, frame.context, core),
     }
 }

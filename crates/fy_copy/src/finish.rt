@@ -6,9 +6,9 @@ ghost use Rattle.fy_phrase.specs.Copy.{answered, goes, jumped, skip_meets};
 ghost use Rattle.fy_copy.specs.Shown.{context_of, state_of};
 ghost use Rattle.fy_copy.specs.Moves.{Moved};
 
-use crate::cells::drop_cell;
 use crate::context::{Context, Core, Frame};
 use crate::progress::Turn;
+use crate::store::drop_row;
 use crate::words::set_focus;
 use fy_base::Place;
 use fy_phrase::Phrase;
@@ -30,7 +30,7 @@ fn meet(here: Place, frame: Frame, core: &mut Core) -> Turn
         Context::Body(whole) => go_on(core, base, whole),
         Context::Loop(whole) => go_on(core, base, whole),
         Context::Drop(n) => {
-            drop_cell(&mut core.store, n);
+            drop_row(&mut core.store, n);
             go_on(core, base, Phrase::Skip(here))
         }
         Context::Escape(_) => go_on(core, base, Phrase::Skip(here)),
@@ -49,7 +49,7 @@ pub fn finish(here: Place, core: &mut Core) -> Turn
     }
 }
 
-/// Takes off all contexts to that of the jump and it too, with the cells of those that are dropped.
+/// Takes off all contexts to that of the jump and it too, with the rows of those that are dropped.
 #[tactic(auto, using(crate::proofs::Stacks::stacks))]
 pub fn jump(n: u64, here: Place, core: &mut Core) -> Turn
     ensures { Moved result (jumped n here (state_of core.old).contexts (state_of core.old)) (state_of core.new) }
@@ -62,7 +62,7 @@ pub fn jump(n: u64, here: Place, core: &mut Core) -> Turn
                     return go_on(core, base, Phrase::Skip(here));
                 }
             }
-            Context::Drop(m) => drop_cell(&mut core.store, m),
+            Context::Drop(m) => drop_row(&mut core.store, m),
             _ => {}
         }
     }

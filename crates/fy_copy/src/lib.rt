@@ -3,15 +3,16 @@
 
 mod advance;
 mod answer;
-mod cells;
 mod context;
 mod copier;
 mod demand;
+mod filling;
 mod finish;
 mod progress;
 mod run;
 mod sizes;
 mod state;
+mod store;
 mod words;
 
 pub use copier::{give, start, step};

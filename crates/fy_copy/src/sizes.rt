@@ -83,7 +83,8 @@ fn size_of(p: &Phrase) -> Size
         | Phrase::Seq(p, q, _)
         | Phrase::Assign(p, q, _)
         | Phrase::WhileDo(p, q, _)
-        | Phrase::New(_, _, p, q, _) => size_of(p).beside(size_of(q)).above(),
+        | Phrase::New(_, _, p, q, _)
+        | Phrase::Cells(_, p, q, _) => size_of(p).beside(size_of(q)).above(),
         Phrase::Cond(b, p, q, _) => size_of(b).beside(size_of(p)).beside(size_of(q)).above(),
         Phrase::Case(e, parts, _) => size_of(e).beside(size_of_parts(parts)).above(),
     }
@@ -143,7 +144,7 @@ fn closed_size(p: &Phrase, level: u64, actual: Size) -> Size
             let size = closed_size(p, level, actual);
             size.beside(closed_size(q, level, actual)).above()
         }
-        Phrase::LetIn(_, p, q, _) | Phrase::New(_, _, p, q, _) => {
+        Phrase::LetIn(_, p, q, _) | Phrase::New(_, _, p, q, _) | Phrase::Cells(_, p, q, _) => {
             let size = closed_size(p, level, actual);
             size.beside(closed_size(q, below, actual)).above()
         }

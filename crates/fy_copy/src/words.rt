@@ -1,6 +1,6 @@
 //! The words of the step table: what pushes, binds and takes off.
 
-ghost use Rattle.std.specs.Prelude.{◌≡◌, ◌+◌, ◌<◌, ◌^◌, ℕ, [], ◌∷◌, IfOk, OnErr, vec_len, vec_capacity};
+ghost use Rattle.std.specs.Prelude.{◌≡◌, ◌+◌, ◌<◌, ◌^◌, ℕ, pos, [], ◌∷◌, IfOk, OnErr, vec_len, vec_capacity};
 ghost use Rattle.fy_phrase.specs.Tree.{lit, mark, skip};
 ghost use Rattle.fy_phrase.specs.Reads.{reads};
 ghost use Rattle.fy_phrase.specs.Copy.{CopyMove, CopyState, bound, goes, pushed, push};
@@ -23,6 +23,14 @@ pub fn set_focus(core: &mut Core, focus: Phrase)
     ensures { core.new ≡ record core.old { focus = focus } }
 {
     core.focus = focus;
+}
+
+/// A count as an integer of the language.
+pub fn integer(count: u64) -> i64
+    requires { count < 2 ^ 63 }
+    ensures { result ≡ pos count }
+{
+    count as i64
 }
 
 /// Takes a phrase out of its place.
@@ -90,7 +98,7 @@ pub fn close_with_datum(
     close(alloc, body, &Phrase::Lit(v, at))
 }
 
-/// The body with a cell or a jump copied in, where it is within the limit on held phrases.
+/// The body with what only a run makes copied in, where it is within the limit on held phrases.
 pub fn close_with_mark(
     alloc: Global,
     body: &Phrase,

@@ -13,7 +13,7 @@ use Rattle.fy_types.specs.Paths.{PlainPath, PlainPaths, end, call, pick}
 use Rattle.fy_phrase.specs.declared.phrase.DataTy.{DataTy}
 use Rattle.fy_phrase.specs.declared.phrase.DataTy.TheVariants as data_type
 use Rattle.fy_phrase.specs.Tree.{Tree, lam, field, accept}
-use Rattle.fy_phrase.specs.Contexts.{CopyContext, op_1, op_l, op_r, if_c, case_c, arg_c, pick_c, then_c, assign_c, store_c, while_c, body_c, loop_c, new_c, drop_c, put_c, esc_c, Pushed}
+use Rattle.fy_phrase.specs.Contexts.{CopyContext, op_1, op_l, op_r, if_c, case_c, arg_c, pick_c, then_c, assign_c, store_c, while_c, body_c, loop_c, new_c, drop_c, put_c, esc_c, cells_c, fill_c, element_c, Pushed}
 use Rattle.fy_phrase.specs.Copy.{demands, demanded}
 use Rattle.fy_derive.specs.Atoms.{data_atom, acceptor_atom, datum_atom, operand_atom, put_atom, is_command, is_acceptor}
 use Rattle.fy_derive.specs.Kinds.{Kind, of_call, of_field, of_assignment, kind_of, begins}
@@ -50,6 +50,9 @@ asked_by (new_c d b) = for_end a_value
 asked_by (drop_c n) = for_end a_run
 asked_by (put_c kind) = for_end a_value
 asked_by (esc_c n) = for_end a_run
+asked_by (cells_c d b at) = for_end a_value
+asked_by (fill_c n v d b at) = for_end a_value
+asked_by (element_c n) = for_end a_value
 
 -- ---- the shapes of ends
 
@@ -123,6 +126,9 @@ Takes-asked rest W P (new_c d b) t = value_asked t.0 t.1
 Takes-asked rest W P (drop_c n) t = run_asked t.3
 Takes-asked rest W P (put_c kind) t = end_asked P (put_atom kind) a_value t.0 (put_atom-shape kind)
 Takes-asked rest W P (esc_c n) t = command_asked t.2
+Takes-asked rest W P (cells_c d b at) t = absurd t
+Takes-asked rest W P (fill_c n v d b at) t = absurd t
+Takes-asked rest W P (element_c n) t = absurd t
 
 -- ---- merges
 

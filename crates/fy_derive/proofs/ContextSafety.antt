@@ -19,8 +19,8 @@ use Rattle.fy_phrase.specs.declared.phrase.DataTy.{DataTy}
 use Rattle.fy_phrase.specs.declared.phrase.DataTy.TheVariants as data_type
 use Rattle.fy_phrase.specs.declared.phrase.MarkKind.TheVariants as marks
 use Rattle.fy_phrase.specs.Tree.{Tree, Trees, no_trees, and_tree, lit, skip, mark}
-use Rattle.fy_phrase.specs.Contexts.{CopyContext, op_1, op_l, op_r, if_c, case_c, arg_c, pick_c, then_c, assign_c, store_c, while_c, body_c, loop_c, new_c, drop_c, put_c, esc_c, Pushed}
-use Rattle.fy_phrase.specs.Copy.{Cell, CopyState, CopyMove, part_at, focused_if_some, indexed, operated, left_meets, chosen, focused, pushed, written, datum_meets, skip_meets, lam_meets, field_meets, accept_meets, value_of, loaded, assigned, cell_meets, cell_under, is_target, store_after, jumped}
+use Rattle.fy_phrase.specs.Contexts.{CopyContext, op_1, op_l, op_r, if_c, case_c, arg_c, pick_c, then_c, assign_c, store_c, while_c, body_c, loop_c, new_c, drop_c, put_c, esc_c, cells_c, fill_c, element_c, Pushed}
+use Rattle.fy_phrase.specs.Copy.{Row, own, CopyState, CopyMove, part_at, focused_if_some, indexed, operated, left_meets, chosen, focused, pushed, written, datum_meets, datum_under, datum_focused, skip_meets, lam_meets, field_meets, accept_meets, value_of, loaded, assigned, cell_meets, cell_under, is_target, store_after, jumped}
 use Rattle.fy_derive.specs.Atoms.{data_atom, acceptor_atom, cell_type, datum_atom, unary_atom, takes, binary_atom, put_atom}
 use Rattle.fy_derive.specs.Shapes.{a_value}
 use Rattle.fy_derive.proofs.PathTyping.{cell, jump, World, Stands, EachPath, only, Answers, EachAnswers, answers-older}
@@ -114,7 +114,21 @@ datum-keeps v here (new_c d b) s W P e t h =
       (refl, omega arith, ends_same e t.1, h),
     )
 datum-keeps v here (put_c kind) s W P e t h = written-keeps kind v here s W (ends_same e t.0) t.1 h
+datum-keeps v here (cells_c d b at) s W P e t h = absurd t
+datum-keeps v here (fill_c n m d b at) s W P e t h = absurd t
+datum-keeps v here (element_c n) s W P e t h = absurd t
 datum-keeps v here x s W P e t h = let f = sym (datum_asked v e) ∙ Takes-asked (Behind s) W P x t in absurd cc
+
+-- at a context that it answers, or that stays
+under-keeps : (v : Datum) (here : Place) (x : CopyContext) (base : ℕ) (cs : List (Pushed CopyContext)) (s : CopyState) (W : World) (P : PlainPath) →
+    P ≡ end (datum_atom v) → Takes (λ V Q. AllTake V Q cs) W P x → Holds s.next W s.store → Keeps (datum_under v here x base cs s)
+under-keeps v here (fill_c n m d b at) base cs s W P e t h = absurd t
+under-keeps v here x base cs s W P e t h = datum-keeps v here x (record s { contexts = cs; load = base }) W P e t h
+
+pub focused-keeps : (v : Datum) (here : Place) (cs : List (Pushed CopyContext)) (s : CopyState) (W : World) (P : PlainPath) →
+    P ≡ end (datum_atom v) → AllTake W P cs → Holds s.next W s.store → Keeps (datum_focused v here cs s)
+focused-keeps v here [] s W P e t h = let f = sym (datum_asked v e) ∙ run_asked t.1 in absurd cc
+focused-keeps v here (c ∷ cs) s W P e t h = under-keeps v here c.context c.base cs s W P e t h
 
 -- ---- a finished command
 
@@ -174,39 +188,39 @@ loaded-keeps (Some u) v here s W P f e t h = let g : u ≡ v = cc in (W, P, e �
 loaded-keeps None v here s W P f e t h = absurd cc
 
 not_assigned : (x : CopyContext) (n : ℕ) (here : Place) (cs : List (Pushed CopyContext)) (s : CopyState) → for_end a_value ≡ asked_by x →
-    Keeps (loaded (value_of n s.store) here s) → Keeps (cell_meets n here x cs s)
+    Keeps (loaded (value_of own n s.store) here s) → Keeps (cell_meets own n here x cs s)
 not_assigned (store_c v) n here cs s f h = absurd cc
 not_assigned x n here cs s f h = h
 
 -- the value of a cell
 pub cell-loads : (n : ℕ) (D : DataTy) (here : Place) (cs : List (Pushed CopyContext)) (s : CopyState) (W : World) (P : PlainPath) →
-    Stands (cell n D) W → P ≡ end (data_atom D) → Behind s W P → AllTake W P cs → Holds s.next W s.store → Keeps (cell_under n here cs s)
+    Stands (cell n D) W → P ≡ end (data_atom D) → Behind s W P → AllTake W P cs → Holds s.next W s.store → Keeps (cell_under own n here cs s)
 cell-loads n D here [] s W P stands e b t h =
     let r = value_of-typed W s.store s.next n D h stands in
-    loaded-keeps (value_of n s.store) r.0 here s W P r.1 (e ∙ ap end (sym r.2)) b h
+    loaded-keeps (value_of own n s.store) r.0 here s W P r.1 (e ∙ ap end (sym r.2)) b h
 cell-loads n D here (c ∷ cs) s W P stands e b t h =
     let r = value_of-typed W s.store s.next n D h stands in
     not_assigned c.context n here cs s (sym (value_asked D e) ∙ Takes-asked (λ V Q. AllTake V Q cs) W P c.context t)
-    (loaded-keeps (value_of n s.store) r.0 here s W P r.1 (e ∙ ap end (sym r.2)) b h)
+    (loaded-keeps (value_of own n s.store) r.0 here s W P r.1 (e ∙ ap end (sym r.2)) b h)
 
 assigned-keeps : (o : Option Datum) (u : Datum) (n : ℕ) (v : Datum) (here : Place) (s : CopyState) → o ≡ Some u →
-    Keeps (assigned (Some u) n v here s) → Keeps (assigned o n v here s)
+    Keeps (assigned (Some u) own n v here s) → Keeps (assigned o own n v here s)
 assigned-keeps (Some w) u n v here s f h = h
 assigned-keeps None u n v here s f h = absurd cc
 
 -- a cell takes a new value
 stores-in : (n : ℕ) (D : DataTy) (here : Place) (x : CopyContext) (cs : List (Pushed CopyContext)) (s : CopyState) (W : World) (P : PlainPath) →
-    Stands (cell n D) W → P ≡ end (acceptor_atom D) → Takes (λ V Q. AllTake V Q cs) W P x → Holds s.next W s.store → Keeps (cell_meets n here x cs s)
+    Stands (cell n D) W → P ≡ end (acceptor_atom D) → Takes (λ V Q. AllTake V Q cs) W P x → Holds s.next W s.store → Keeps (cell_meets own n here x cs s)
 stores-in n D here (store_c v) cs s W P stands e t h =
     let f = acceptor_atom-same t.0 D (ends_same t.1 e) in
     let r = value_of-typed W s.store s.next n D h stands in
-    assigned-keeps (value_of n s.store) r.0 n v here (record s { contexts = cs }) r.1
+    assigned-keeps (value_of own n s.store) r.0 n v here (record s { contexts = cs }) r.1
     (W, end atoms.Comm, refl, t.3, Holds-with_value W s.store s.next n D v h stands (t.2 ∙ ap (λ E. data_atom E) f))
 stores-in n D here x cs s W P stands e t h =
     let f = sym (assignment_asked D e) ∙ Takes-asked (λ V Q. AllTake V Q cs) W P x t in absurd cc
 
 pub cell-stores : (n : ℕ) (D : DataTy) (here : Place) (cs : List (Pushed CopyContext)) (s : CopyState) (W : World) (P : PlainPath) →
-    Stands (cell n D) W → P ≡ end (acceptor_atom D) → AllTake W P cs → Holds s.next W s.store → Keeps (cell_under n here cs s)
+    Stands (cell n D) W → P ≡ end (acceptor_atom D) → AllTake W P cs → Holds s.next W s.store → Keeps (cell_under own n here cs s)
 cell-stores n D here [] s W P stands e t h = let f = sym (assignment_asked D e) ∙ run_asked t.1 in absurd cc
 cell-stores n D here (c ∷ cs) s W P stands e t h = stores-in n D here c.context cs s W P stands e t h
 
@@ -223,7 +237,7 @@ not_this_jump n m W V e apart stands =
     ]
 
 -- a context that isn't the jump's own is taken off
-past : (n : ℕ) (x : CopyContext) (rest : World → PlainPath → Type 0) (W : World) (P : PlainPath) (store : List Cell) (b : ℕ) → is_target n x ≡ false →
+past : (n : ℕ) (x : CopyContext) (rest : World → PlainPath → Type 0) (W : World) (P : PlainPath) (store : List Row) (b : ℕ) → is_target n x ≡ false →
     Stands (jump n) W → Takes rest W P x → Holds b W store →
     (V : World) × (Q : PlainPath) × Stands (jump n) V × rest V Q × Holds b V (store_after x store)
 past n (op_1 op at) rest W P store b f s t h = (W, end (unary_atom op), s, t.1, h)
@@ -244,9 +258,12 @@ past n (drop_c m) rest W P store b f s t h = (t.1, P, not_a_cell n m t.0 W t.1 t
 past n (put_c kind) rest W P store b f s t h = (W, end atoms.Comm, s, t.1, h)
 past n (esc_c m) rest W P store b f s t h =
     (t.0, end atoms.Comm, not_this_jump n m W t.0 t.1 f s, t.3, Holds-left m W t.0 store b t.1 h)
+past n (cells_c d c at) rest W P store b f s t h = absurd t
+past n (fill_c m v d c at) rest W P store b f s t h = absurd t
+past n (element_c m) rest W P store b f s t h = absurd t
 
 -- the jump's own context is the last that is taken off
-landed : (n : ℕ) (x : CopyContext) (rest : World → PlainPath → Type 0) (W : World) (P : PlainPath) (store : List Cell) (b : ℕ) → is_target n x ≡ true →
+landed : (n : ℕ) (x : CopyContext) (rest : World → PlainPath → Type 0) (W : World) (P : PlainPath) (store : List Row) (b : ℕ) → is_target n x ≡ true →
     Takes rest W P x → Holds b W store → (V : World) × rest V (end atoms.Comm) × Holds b V store
 landed n (esc_c m) rest W P store b f t h = (t.0, t.3, Holds-left m W t.0 store b t.1 h)
 landed n x rest W P store b f t h = absurd cc

@@ -7,7 +7,7 @@ use Rattle.fy_types.specs.PathOrder.{HasBelow}
 use Rattle.fy_types.proofs.Order.{IsPathBelow-refl}
 use Rattle.fy_phrase.specs.declared.phrase.MarkKind.{MarkKind}
 use Rattle.fy_phrase.specs.declared.phrase.MarkKind.TheVariants as marks
-use Rattle.fy_phrase.specs.Tree.{Tree, Trees, no_trees, and_tree, var, lit, unary, binary, cond, case, lam, app, field, sel, merge, let_in, rec, skip, seq, assign, while_do, forever, new, escape, accept, put, read, mark}
+use Rattle.fy_phrase.specs.Tree.{Tree, Trees, no_trees, and_tree, var, lit, unary, binary, cond, case, lam, app, field, sel, merge, let_in, rec, skip, seq, assign, while_do, forever, new, cells, escape, accept, put, read, mark}
 use Rattle.fy_phrase.specs.Closing.{closed_at, all_closed_at, closed_with}
 use Rattle.fy_derive.specs.Atoms.{data_atom, cell_type}
 use Rattle.fy_derive.specs.Kinds.{Kind, kind_of}
@@ -26,6 +26,8 @@ kind_of-closed q n a k e = absurd cc
 mark-closed : (W : World) (m : MarkKind) (at : Place) (H G : List PlainPaths) (P : PlainPath) → Answers W G (mark m at) P → Answers W H (mark m at) P
 mark-closed W (marks.Cell n) at H G P h = h
 mark-closed W (marks.Jump n) at H G P h = h
+mark-closed W (marks.Sequence n) at H G P h = h
+mark-closed W (marks.Element n i) at H G P h = h
 
 module _ (W : World) (a : Tree) where
   -- of the variables with the paths G, number n is the phrase a, and those below it have the paths H
@@ -72,6 +74,7 @@ module _ (W : World) (a : Tree) where
     answers-closed (forever c at) n H G P f h = (h.0, answers-closed c n H G _ f h.1)
     answers-closed (new d D e b at) n H G P f h =
         (h.0, answers-closed e n H G _ f h.1, answers-closed b (n + 1) (paths (cell_type D) ∷ H) (paths (cell_type D) ∷ G) P (fits-under n (paths (cell_type D)) H G f) h.2)
+    answers-closed (cells d e b at) n H G P f h = absurd h
     answers-closed (escape d b at) n H G P f h =
         (h.0, answers-closed b (n + 1) (only Compl ∷ H) (only Compl ∷ G) _ (fits-under n (only Compl) H G f) h.1)
     answers-closed (accept d D b at) n H G P f h =

@@ -14,8 +14,8 @@ use Rattle.fy_phrase.specs.declared.phrase.Parts.{Parts}
 use Rattle.fy_phrase.specs.declared.phrase.Phrase as form
 use Rattle.fy_phrase.specs.declared.phrase.Phrase.{Phrase, fold-roll-Phrase}
 use Rattle.fy_phrase.specs.declared.phrase.Phrase.TheOpen.{Phrase-F}
-use Rattle.fy_phrase.specs.declared.phrase.Phrase.TheVariants.{rolls-Var, rolls-Unary, rolls-Binary, rolls-Cond, rolls-Case, rolls-Lam, rolls-App, rolls-Field, rolls-Sel, rolls-Merge, rolls-LetIn, rolls-Rec, rolls-Seq, rolls-Assign, rolls-WhileDo, rolls-Forever, rolls-New, rolls-Escape, rolls-Accept, rolls-Put, rolls-Read}
-use Rattle.fy_phrase.specs.Tree.{Tree, Trees, var, unary, binary, cond, case, lam, app, field, sel, merge, let_in, rec, seq, assign, while_do, forever, new, escape, accept, put, read}
+use Rattle.fy_phrase.specs.declared.phrase.Phrase.TheVariants.{rolls-Var, rolls-Unary, rolls-Binary, rolls-Cond, rolls-Case, rolls-Lam, rolls-App, rolls-Field, rolls-Sel, rolls-Merge, rolls-LetIn, rolls-Rec, rolls-Seq, rolls-Assign, rolls-WhileDo, rolls-Forever, rolls-New, rolls-Cells, rolls-Escape, rolls-Accept, rolls-Put, rolls-Read}
+use Rattle.fy_phrase.specs.Tree.{Tree, Trees, var, unary, binary, cond, case, lam, app, field, sel, merge, let_in, rec, seq, assign, while_do, forever, new, cells, escape, accept, put, read}
 use Rattle.fy_phrase.specs.Reads.{reads, reads_parts, reads_form, reads_list}
 use Rattle.fy_derive.specs.declared.table.TypeTable.{TypeTable}
 use Rattle.fy_derive.specs.Atoms.{data_atom, acceptor_atom, operand_atom, unary_atom, binary_atom, put_atom}
@@ -73,6 +73,9 @@ Forever-tree p a at e = rw e (ap reads (sym (rolls-Forever a at)) ∙ fold-roll-
 
 pub New-tree : (p : Phrase) (n : ℕ) (D : DataTy) (a b : Box Phrase Global) (at : Place) → p ≡ form.New n D a b at → reads p ≡ new n D (reads a.value) (reads b.value) at
 New-tree p n D a b at e = rw e (ap reads (sym (rolls-New n D a b at)) ∙ fold-roll-Phrase Tree Trees reads_form reads_list (Phrase-F.New n D a b at))
+
+pub Cells-tree : (p : Phrase) (n : ℕ) (a b : Box Phrase Global) (at : Place) → p ≡ form.Cells n a b at → reads p ≡ cells n (reads a.value) (reads b.value) at
+Cells-tree p n a b at e = rw e (ap reads (sym (rolls-Cells n a b at)) ∙ fold-roll-Phrase Tree Trees reads_form reads_list (Phrase-F.Cells n a b at))
 
 pub Escape-tree : (p : Phrase) (n : ℕ) (a : Box Phrase Global) (at : Place) → p ≡ form.Escape n a at → reads p ≡ escape n (reads a.value) at
 Escape-tree p n a at e = rw e (ap reads (sym (rolls-Escape n a at)) ∙ fold-roll-Phrase Tree Trees reads_form reads_list (Phrase-F.Escape n a at))

@@ -14,7 +14,7 @@ use Rattle.fy_types.specs.Reading.{types_from}
 use Rattle.fy_types.proofs.OnceLemmas.{both_true}
 use Rattle.fy_phrase.specs.declared.phrase.DataTy.{DataTy}
 use Rattle.fy_phrase.specs.declared.phrase.DataTy.TheVariants as data_type
-use Rattle.fy_phrase.specs.Tree.{Tree, Trees, no_trees, and_tree, var, lit, unary, binary, cond as conditional, case, lam, app, field, sel, merge, let_in, rec, skip, seq, assign, while_do, forever, new, escape, accept, put, read, mark}
+use Rattle.fy_phrase.specs.Tree.{Tree, Trees, no_trees, and_tree, var, lit, unary, binary, cond as conditional, case, lam, app, field, sel, merge, let_in, rec, skip, seq, assign, while_do, forever, new, cells, escape, accept, put, read, mark}
 use Rattle.fy_derive.specs.Atoms.{data_atom, acceptor_atom, cell_type, datum_atom, operand_atom, unary_atom, takes, binary_atom, put_atom, is_command}
 use Rattle.fy_derive.specs.Kinds.{Kind, kind_of, none_begins}
 use Rattle.fy_derive.specs.Typing as typing
@@ -216,6 +216,7 @@ conclusion-sound G (read p at) (A ∷ []) C t e =
     let x = provided-some (is_atom IntAcc A) (atom Comm) C e in
     typed-as G (read p at) (atom Comm) C x.1 (typing.by_read (atom-typed G p IntAcc A x.0 t.0))
 conclusion-sound G (read p at) (A ∷ B ∷ Bs) C t e = absurd t.1
+conclusion-sound G (cells d p b at) Bs C t e = absurd cc
 conclusion-sound G (mark m at) Bs C t e = absurd cc
 
 -- what judging went on with

@@ -8,23 +8,16 @@ use Rattle.fy_types.specs.Types.{PlainType}
 use Rattle.fy_phrase.specs.declared.phrase.DataTy.{DataTy}
 use Rattle.fy_phrase.specs.declared.phrase.DataTy.TheVariants as data_type
 use Rattle.fy_phrase.specs.declared.phrase.MarkKind.TheVariants as marks
-use Rattle.fy_phrase.specs.Tree.{Tree, var, lit, unary, binary, cond, case, lam, app, field, sel, merge, let_in, rec, skip, seq, assign, while_do, forever, new, escape, accept, put, read, mark}
+use Rattle.fy_phrase.specs.Tree.{Tree, var, lit, unary, binary, cond, case, lam, app, field, sel, merge, let_in, rec, skip, seq, assign, while_do, forever, new, cells, escape, accept, put, read, mark}
 use Rattle.fy_phrase.specs.Contexts.{CopyContext, Pushed}
-use Rattle.fy_phrase.specs.Copy.{CopyState, CopyMove, answered, taken, datum_meets, skip_meets, lam_meets, field_meets, accept_meets, byte_or_end, step_at, going, standing_at}
+use Rattle.fy_phrase.specs.Copy.{CopyState, CopyMove, answered, taken, skip_meets, lam_meets, field_meets, accept_meets, byte_or_end, step_at, going, standing_at}
 use Rattle.fy_derive.specs.Atoms.{data_atom, acceptor_atom, cell_type, datum_atom, operand_atom}
 use Rattle.fy_derive.proofs.PathTyping.{jump, World, EachPath, EachPath-map, IsRun, only, Answers, answers-above, answers-older}
 use Rattle.fy_derive.proofs.CopyingIn.{copied-in}
 use Rattle.fy_derive.proofs.TypedAnswers.{EachPath-self}
 use Rattle.fy_derive.proofs.StateTyping.{Takes, AllTake, Holds, Keeps, Holds-more}
-use Rattle.fy_derive.proofs.Asking.{first_asked, datum_asked, assignment_asked, run_asked, demanded-answers}
-use Rattle.fy_derive.proofs.ContextSafety.{Behind, datum-keeps, skip-keeps, lam-keeps, field-keeps, accept-keeps, cell-loads, cell-stores, jump-keeps}
-
--- what meets the newest context, whose load it sets
-answered-keeps : (meets : CopyContext → CopyState → CopyMove) (cs : List (Pushed CopyContext)) (s : CopyState) (W : World) (P : PlainPath) →
-    (IsRun P → ⊥) → AllTake W P cs → Holds s.next W s.store →
-    ((x : CopyContext) (u : CopyState) → Takes (Behind u) W P x → Holds u.next W u.store → Keeps (meets x u)) → Keeps (answered meets cs s)
-answered-keeps meets [] s W P apart t h f = absurd (apart t.1)
-answered-keeps meets (c ∷ cs) s W P apart t h f = f c.context (record s { contexts = cs; load = c.base }) t h
+use Rattle.fy_derive.proofs.Asking.{first_asked, assignment_asked, run_asked, demanded-answers}
+use Rattle.fy_derive.proofs.ContextSafety.{Behind, focused-keeps, skip-keeps, lam-keeps, field-keeps, accept-keeps, cell-loads, cell-stores, jump-keeps}
 
 -- what meets the newest context, and leaves the load
 taken-keeps : (meets : CopyContext → CopyState → CopyMove) (cs : List (Pushed CopyContext)) (s : CopyState) (W : World) (P : PlainPath) →
@@ -67,9 +60,7 @@ pick-not_run e is = let f = sym (ap (λ Q. first_asked Q) e) ∙ run_asked is in
 pub step-keeps : (p : Tree) (s : CopyState) (W : World) (P : PlainPath) → standing_at p s.contexts ≡ going → Answers W [] p P → Behind s W P →
     Holds s.next W s.store → Keeps (step_at p s)
 step-keeps (var k at) s W P on a t h = elim a [ ]
-step-keeps (lit v at) s W P on a t h =
-    answered-keeps (datum_meets v at) s.contexts s W P (λ is. let f = sym (datum_asked v a) ∙ run_asked is in cc) t h
-    (λ x u k g. datum-keeps v at x u W P a k g)
+step-keeps (lit v at) s W P on a t h = focused-keeps v at s.contexts s W P a t h
 step-keeps (unary op p at) s W P on a t h = (W, end (operand_atom op), a.1, (refl, subst (λ Q. Behind s W Q) a.0 t), h)
 step-keeps (binary op p q at) s W P on a t h =
     (W, end (data_atom a.0), a.3, (a.0, a.1, refl, a.4, subst (λ Q. Behind s W Q) a.2 t), h)
@@ -99,6 +90,7 @@ step-keeps (while_do b c at) s W P on a t h =
     (W, end atoms.Bool, a.1, (refl, (refl, a.1, a.2), a.2, subst (λ Q. Behind s W Q) a.0 t), h)
 step-keeps (forever c at) s W P on a t h = (W, end atoms.Comm, a.1, (refl, P, a, t), h)
 step-keeps (new d D e b at) s W P on a t h = (W, end (data_atom D), a.1, (D, refl, P, a.0, a.2, t), h)
+step-keeps (cells d e b at) s W P on a t h = absurd a
 step-keeps (escape d b at) s W P on a t h =
     let U = jump s.next ∷ W in (
       U,
@@ -120,3 +112,5 @@ step-keeps (mark (marks.Cell n) at) s W P on a t h =
       | inr e ↦ cell-stores n a.0 at s.contexts s W P a.1 e t h
     ]
 step-keeps (mark (marks.Jump n) at) s W P on a t h = jump-keeps n at s.contexts s W P a.0 t h
+step-keeps (mark (marks.Sequence n) at) s W P on a t h = absurd a
+step-keeps (mark (marks.Element n i) at) s W P on a t h = absurd a

@@ -9,7 +9,7 @@ use Rattle.fy_types.specs.declared.types.Atom.TheVariants.{Int, Bool as Truth, C
 use Rattle.fy_types.specs.Types.{PlainType, PlainTypes}
 use Rattle.fy_types.specs.Paths.{PlainPath, PlainPaths, end, call, pick, and_path, paths}
 use Rattle.fy_phrase.specs.declared.phrase.DataTy.{DataTy}
-use Rattle.fy_phrase.specs.Tree.{Tree, Trees, no_trees, and_tree, var, lit, unary, binary, cond, case, lam, app, field, sel, merge, let_in, rec, skip, seq, assign, while_do, forever, new, escape, accept, put, read, mark}
+use Rattle.fy_phrase.specs.Tree.{Tree, Trees, no_trees, and_tree, var, lit, unary, binary, cond, case, lam, app, field, sel, merge, let_in, rec, skip, seq, assign, while_do, forever, new, cells, escape, accept, put, read, mark}
 use Rattle.fy_phrase.specs.Sizes.{nodes}
 use Rattle.fy_derive.specs.Derivations.{PlainDerivation, PlainDerivations, sub, meets, alt, left, right, rule, and_derivation}
 use Rattle.fy_derive.specs.Kinds.{Kind, of_call, of_field, of_assignment, kind_of}
@@ -122,6 +122,7 @@ abbrev mutual
   thunks (while_do b c at) = thunks b + thunks c
   thunks (forever c at) = thunks c
   thunks (new d D e b at) = thunks e + thunks b
+  thunks (cells d e b at) = thunks e + thunks b
   thunks (escape d b at) = thunks b
   thunks (accept d D b at) = thunks b
   thunks (put kind p at) = thunks p
@@ -161,6 +162,7 @@ parts_of (assign p q at) = p ∷ q ∷ []
 parts_of (while_do b c at) = b ∷ c ∷ []
 parts_of (forever c at) = c ∷ []
 parts_of (new d D e b at) = e ∷ b ∷ []
+parts_of (cells d e b at) = e ∷ b ∷ []
 parts_of (escape d b at) = b ∷ []
 parts_of (accept d D b at) = b ∷ []
 parts_of (put kind p at) = p ∷ []

@@ -50,6 +50,7 @@ pub fn demand_of(p: &Phrase) -> Option<Demand>
         | Phrase::WhileDo(..)
         | Phrase::Forever(..)
         | Phrase::New(..)
+        | Phrase::Cells(..)
         | Phrase::Escape(..)
         | Phrase::Put(..)
         | Phrase::Read(..)

@@ -71,7 +71,7 @@ pub fn rule_premises<'a>(
     ensures extends { OnOk result (Extends table.old table.new) }
 {
     match p {
-        Phrase::Lam(..) | Phrase::Merge(..) | Phrase::Mark(..) => Ok(None),
+        Phrase::Lam(..) | Phrase::Merge(..) | Phrase::Cells(..) | Phrase::Mark(..) => Ok(None),
         Phrase::Var(..) => Ok(Some(Vec::new(alloc))),
         Phrase::Lit(..) => Ok(Some(Vec::new(alloc))),
         Phrase::Skip(_) => Ok(Some(Vec::new(alloc))),

@@ -6,7 +6,7 @@ use Rattle.fy_syntax.specs.declared.surface.Prefixed.{Prefixed}
 use Rattle.fy_syntax.specs.Trees.{Defs, Links}
 use Rattle.fy_syntax.specs.Trees as written
 use Rattle.fy_phrase.specs.Sizes.{depth, all_depth}
-use Rattle.fy_phrase.specs.Tree.{Tree, Trees, var, lit, unary, binary, cond, case, lam, app, field, sel, merge, let_in, rec, skip, seq, assign, while_do, forever, new, escape, accept, put, read, mark, no_trees, and_tree}
+use Rattle.fy_phrase.specs.Tree.{Tree, Trees, var, lit, unary, binary, cond, case, lam, app, field, sel, merge, let_in, rec, skip, seq, assign, while_do, forever, new, cells, escape, accept, put, read, mark, no_trees, and_tree}
 use Rattle.fy_expand.specs.declared.frame.Standing.{Standing}
 use Rattle.fy_expand.specs.declared.frame.Standing.TheVariants.{Variable, Member}
 use Rattle.fy_expand.specs.Scope.{Scope, behind, under, under_defs, under_members, with_type, depth_under, program_scope}
@@ -156,6 +156,7 @@ mutual
   depth-below n (while_do b p at) h = let x = depth-below n b h.0 in let y = depth-below n p h.1 in omega arith
   depth-below n (forever p at) h = let x = depth-below n p h in omega arith
   depth-below n (new d D p q at) h = let e = h.0 in let x = depth-below n p h.1 in let y = depth-below (suc n) q h.2 in omega arith
+  depth-below n (cells d p q at) h = let e = h.0 in let x = depth-below n p h.1 in let y = depth-below (suc n) q h.2 in omega arith
   depth-below n (escape d p at) h = let e = h.0 in let x = depth-below (suc n) p h.1 in omega arith
   depth-below n (accept d D p at) h = let e = h.0 in let x = depth-below (suc n) p h.1 in omega arith
   depth-below n (put kind p at) h = let x = depth-below n p h in omega arith

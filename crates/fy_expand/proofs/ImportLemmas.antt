@@ -143,6 +143,7 @@ mutual
   back a (alike.while_do h k) (alike.while_do x y) = alike.while_do (back a h x) (back a k y)
   back a (alike.forever h) (alike.forever x) = alike.forever (back a h x)
   back a (alike.new h k) (alike.new x y) = alike.new (back a h x) (back (lifted-same _ a) k y)
+  back a (alike.cells h k) (alike.cells x y) = alike.cells (back a h x) (back (lifted-same _ a) k y)
   back a (alike.escape h) (alike.escape x) = alike.escape (back (lifted-same _ a) h x)
   back a (alike.accept h) (alike.accept x) = alike.accept (back (lifted-same _ a) h x)
   back a (alike.put h) (alike.put x) = alike.put (back a h x)

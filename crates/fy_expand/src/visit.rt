@@ -34,7 +34,8 @@ pub fn visits(p: &Phrase) -> u64
         | Phrase::Seq(p, q, _)
         | Phrase::Assign(p, q, _)
         | Phrase::WhileDo(p, q, _)
-        | Phrase::New(_, _, p, q, _) => visits(p).saturating_add(visits(q)).saturating_add(1),
+        | Phrase::New(_, _, p, q, _)
+        | Phrase::Cells(_, p, q, _) => visits(p).saturating_add(visits(q)).saturating_add(1),
         Phrase::Cond(b, p, q, _) => visits(b)
             .saturating_add(visits(p))
             .saturating_add(visits(q))

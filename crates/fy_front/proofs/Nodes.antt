@@ -2,7 +2,7 @@
 use Rattle.std.proofs.Common.{◌≤◌, List, arith}
 use Rattle.std.specs.Prelude.{Ok}
 use Rattle.fy_base.specs.Outside.{Bytes}
-use Rattle.fy_phrase.specs.Tree.{Tree, Trees, no_trees, and_tree, var, lit, unary, binary, cond, case, lam, app, field, sel, merge, let_in, rec, skip, seq, assign, while_do, forever, new, escape, accept, put, read, mark}
+use Rattle.fy_phrase.specs.Tree.{Tree, Trees, no_trees, and_tree, var, lit, unary, binary, cond, case, lam, app, field, sel, merge, let_in, rec, skip, seq, assign, while_do, forever, new, cells, escape, accept, put, read, mark}
 use Rattle.fy_phrase.specs.Sizes.{nodes, all_nodes}
 use Rattle.fy_phrase.specs.CoreLimits.{size_of, parts_size}
 use Rattle.fy_expand.specs.Judged.{IsJudgedFrom}
@@ -30,6 +30,7 @@ mutual
   nodes-size (while_do b c at) = let x = nodes-size b in let y = nodes-size c in omega arith
   nodes-size (forever c at) = let x = nodes-size c in omega arith
   nodes-size (new d D e b at) = let x = nodes-size e in let y = nodes-size b in omega arith
+  nodes-size (cells d e b at) = let x = nodes-size e in let y = nodes-size b in omega arith
   nodes-size (escape d b at) = let x = nodes-size b in omega arith
   nodes-size (accept d D b at) = let x = nodes-size b in omega arith
   nodes-size (put kind p at) = let x = nodes-size p in omega arith

@@ -72,7 +72,7 @@ pub var-found : (G : List PlainPaths) (k : ℕ) (at : Place) (f : Found) → IsM
     derivation_of f ≡ variable_rule (slice_get G k) → IsFound G (var k at) f
 var-found G k at f made e =
     none-found G (var k at) at f (variable_rule (slice_get G k)) made refl refl refl (λ m. refl) e (derived (slice_get G k) refl)
-    (few (slice_get G k)) (shallow (slice_get G k)) refl (plain (slice_get G k)) (layers (slice_get G k))
+    (few (slice_get G k)) (shallow (slice_get G k)) (omega arith) (plain (slice_get G k)) (layers (slice_get G k))
     (prints (slice_get G k)) (none-pairs G (var k at) (variable_rule (slice_get G k)) refl)
   where
     prints : (o : Option PlainPaths) (names : List Bytes) → IsPrintable names (variable_rule o)

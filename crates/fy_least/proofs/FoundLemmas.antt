@@ -115,7 +115,7 @@ blame-same G p f at h = ap (λ P. if_empty P f.blame at) h.paths ∙ ap (λ x. i
 pub none-found : (G : List PlainPaths) (q : Tree) (at : Place) (f : Found) (d : PlainDerivation) →
     IsMade (least_type G q) at 0 f → at ≡ blame_of G q → earlier_joins G q ≡ [] → written_in q ≡ [] →
     ((m : ℕ) → visits m G q ≡ visit m G q ∷ []) → derivation_of f ≡ d → ConcludesBelow G q d → nodes d ≡ 1 →
-    derivations.nesting d ≡ 1 → nesting q ≡ 1 → deepest_type d ≡ 0 → IsLayered met d →
+    derivations.nesting d ≡ 1 → 1 ≤ nesting q → deepest_type d ≡ 0 → IsLayered met d →
     ((names : List Bytes) → IsPrintable names d) → (ConcludesBelow G q d → HasPairsAbove G q d) → IsFound G q f
 none-found G q at f d made blame early written split e derived few shallow deep plain layered printable pairs =
     made-found G q at 0 f (λ m. []) made blame early (subst AreWithin (sym written) no_forms) split (λ m. no_visits) (λ m. refl)

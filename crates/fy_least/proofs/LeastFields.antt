@@ -4,7 +4,7 @@ use Rattle.fy_base.specs.Outside.{Bytes}
 use Rattle.fy_types.specs.Paths.{PlainPaths, paths}
 use Rattle.fy_types.specs.Bounds.{join_of}
 use Rattle.fy_types.specs.Fields.{IsNamed, AllFormFields}
-use Rattle.fy_phrase.specs.Tree.{Tree, Trees, no_trees, and_tree, var, lit, unary, binary, cond, case, lam, app, field, sel, merge, let_in, rec, skip, seq, assign, while_do, forever, new, escape, accept, put, read, mark}
+use Rattle.fy_phrase.specs.Tree.{Tree, Trees, no_trees, and_tree, var, lit, unary, binary, cond, case, lam, app, field, sel, merge, let_in, rec, skip, seq, assign, while_do, forever, new, cells, escape, accept, put, read, mark}
 use Rattle.fy_phrase.specs.CoreLimits.{visits_of}
 use Rattle.fy_phrase.specs.PhraseNames.{AllNames, AllNamesOf, HasFullTypes}
 use Rattle.fy_derive.specs.Atoms.{data_atom, cell_type}
@@ -45,6 +45,7 @@ mutual
   least-fields P (new d D e b at) G g h =
       passed-fields P (has (least_type G e) (data_atom D)) (command_of (least_type (paths (cell_type D) ∷ G) b))
       (command-fields P (least_type (paths (cell_type D) ∷ G) b))
+  least-fields P (cells d e b at) G g h = tt
   least-fields P (escape d b at) G g h = passed-end P _ _
   least-fields P (accept d D b at) G g h = passed-end P _ _
   least-fields P (put kind p at) G g h = passed-end P _ _

@@ -17,7 +17,7 @@ use Rattle.fy_types.proofs.OnceLemmas.{both_true}
 use Rattle.fy_phrase.specs.declared.phrase.DataTy.{DataTy}
 use Rattle.fy_phrase.specs.declared.phrase.DataTy.TheVariants as data_type
 use Rattle.fy_phrase.specs.declared.phrase.MarkKind.{MarkKind}
-use Rattle.fy_phrase.specs.Tree.{Tree, lit, unary, binary, seq, assign, while_do, forever, new, escape, accept, put, read, skip, mark}
+use Rattle.fy_phrase.specs.Tree.{Tree, lit, unary, binary, seq, assign, while_do, forever, new, cells, escape, accept, put, read, skip, mark}
 use Rattle.fy_phrase.specs.Sizes.{nesting}
 use Rattle.fy_phrase.specs.Sizes as sizes
 use Rattle.fy_derive.specs.Atoms.{data_atom, acceptor_atom, cell_type, datum_atom, operand_atom, unary_atom, takes, binary_atom, put_atom, is_command}
@@ -40,7 +40,7 @@ use Rattle.fy_least.specs.Visited.{IsFound, IsMade, blame_at, has_atom, derivati
 use Rattle.fy_least.specs.Pairs.{HasPairsAbove}
 use Rattle.fy_least.proofs.LayerLemmas.{ns-layered, none-layered, two-layered}
 use Rattle.fy_least.proofs.LeastFields.{part-writable, both-writable}
-use Rattle.fy_least.proofs.PairLemmas.{no_premises, and_plain, and_given, provided-solid, command-solid, none-pairs, sub-pairs, rule-pairs, solid-pairs, mark-pairs}
+use Rattle.fy_least.proofs.PairLemmas.{no_premises, and_plain, and_given, provided-solid, command-solid, none-pairs, sub-pairs, rule-pairs, solid-pairs, mark-pairs, cells-pairs}
 use Rattle.fy_least.proofs.PrintableLemmas.{none-printable, two-printable}
 use Rattle.fy_least.proofs.FoundLemmas.{none-found, two-found, atom-found, atoms-found, atoms-derived, none-derived}
 
@@ -50,20 +50,26 @@ pub lit-found : (G : List PlainPaths) (v : Datum) (at : Place) (f : Found) → I
 lit-found G v at f made e =
     none-found G (lit v at) at f (rule no_derivations) made refl refl refl (λ m. refl) e
     (λ H i n. (atom (datum_atom v), no-premise H (lit v at) (atom (datum_atom v)) n refl refl, ArePathsBelow-refl (one_end (datum_atom v)))) refl refl
-    refl refl none-layered none-printable (none-pairs G (lit v at) (rule no_derivations) refl)
+    (omega arith) refl none-layered none-printable (none-pairs G (lit v at) (rule no_derivations) refl)
 
 pub skip-found : (G : List PlainPaths) (at : Place) (f : Found) → IsMade (one_end Comm) at 0 f →
     derivation_of f ≡ rule no_derivations → IsFound G (skip at) f
 skip-found G at f made e =
     none-found G (skip at) at f (rule no_derivations) made refl refl refl (λ m. refl) e
-    (λ H i n. (atom Comm, no-premise H (skip at) (atom Comm) n refl refl, ArePathsBelow-refl (one_end Comm))) refl refl refl refl none-layered none-printable
+    (λ H i n. (atom Comm, no-premise H (skip at) (atom Comm) n refl refl, ArePathsBelow-refl (one_end Comm))) refl refl (omega arith) refl none-layered none-printable
     (none-pairs G (skip at) (rule no_derivations) refl)
 
 pub mark-found : (G : List PlainPaths) (k : MarkKind) (at : Place) (f : Found) → IsMade no_paths at 0 f → derivation_of f ≡ by_ns →
     IsFound G (mark k at) f
 mark-found G k at f made e =
-    none-found G (mark k at) at f by_ns made refl refl refl (λ m. refl) e (none-derived G (mark k at) refl) refl refl refl refl ns-layered (λ names. tt)
+    none-found G (mark k at) at f by_ns made refl refl refl (λ m. refl) e (none-derived G (mark k at) refl) refl refl (omega arith) refl ns-layered (λ names. tt)
     (mark-pairs G k at by_ns)
+
+pub cells-found : (G : List PlainPaths) (d : ℕ) (p q : Tree) (at : Place) (f : Found) → IsMade no_paths at 0 f → derivation_of f ≡ by_ns →
+    IsFound G (cells d p q at) f
+cells-found G d p q at f made e =
+    none-found G (cells d p q at) at f by_ns made refl refl refl (λ m. refl) e (none-derived G (cells d p q at) refl) refl refl (omega arith) refl ns-layered
+    (λ names. tt) (cells-pairs G d p q at by_ns)
 
 -- rules of one premise
 pub unary-found : (G : List PlainPaths) (op : UnOp) (p : Tree) (at : Place) (part f : Found) → IsFound G p part →

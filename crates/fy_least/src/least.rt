@@ -103,6 +103,7 @@ pub(crate) fn found_in(
         ),
         Phrase::Read(part, at) => found_in_input(alloc, part, *at, &*scope, &mut *memo),
         Phrase::Mark(_, at) => Ok(Found::none(alloc, *at, 0)),
+        Phrase::Cells(_, _, _, at) => Ok(Found::none(alloc, *at, 0)),
     }
 }
 

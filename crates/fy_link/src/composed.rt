@@ -101,6 +101,7 @@ fn parts_of<'a>(alloc: Global, p: &'a Phrase) -> Result<Vec<Premise<'a>>, OutOfM
         | Phrase::Skip(_)
         | Phrase::Lam(..)
         | Phrase::Merge(..)
+        | Phrase::Cells(..)
         | Phrase::Mark(..) => Ok(Vec::new(alloc)),
         Phrase::Unary(_, p, _)
         | Phrase::Field(_, p, _)

@@ -41,6 +41,8 @@ mutual
     forever : {f : ℕ → ℕ} {p q : Tree} {a b : Place} → Alike f p q → Alike f (tree.forever p a) (tree.forever q b)
     new : {f : ℕ → ℕ} {d e : ℕ} {D : DataTy} {p q p2 q2 : Tree} {a b : Place} → Alike f p q → Alike (lifted f) p2 q2 →
         Alike f (tree.new d D p p2 a) (tree.new e D q q2 b)
+    cells : {f : ℕ → ℕ} {d e : ℕ} {p q p2 q2 : Tree} {a b : Place} → Alike f p q → Alike (lifted f) p2 q2 →
+        Alike f (tree.cells d p p2 a) (tree.cells e q q2 b)
     escape : {f : ℕ → ℕ} {d e : ℕ} {p q : Tree} {a b : Place} → Alike (lifted f) p q → Alike f (tree.escape d p a) (tree.escape e q b)
     accept : {f : ℕ → ℕ} {d e : ℕ} {D : DataTy} {p q : Tree} {a b : Place} → Alike (lifted f) p q → Alike f (tree.accept d D p a) (tree.accept e D q b)
     put : {f : ℕ → ℕ} {kind : PutKind} {p q : Tree} {a b : Place} → Alike f p q → Alike f (tree.put kind p a) (tree.put kind q b)

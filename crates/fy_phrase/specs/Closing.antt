@@ -1,6 +1,6 @@
 -- A closed phrase copied in for a variable.
 use Rattle.std.specs.Prelude.{ℕ, ◌+◌, ◌-◌, nat_lt, nat_eq, if◌then◌else◌}
-use Rattle.fy_phrase.specs.Tree.{Tree, Trees, var, lit, unary, binary, cond, case, lam, app, field, sel, merge, let_in, rec, skip, seq, assign, while_do, forever, new, escape, accept, put, read, mark, no_trees, and_tree}
+use Rattle.fy_phrase.specs.Tree.{Tree, Trees, var, lit, unary, binary, cond, case, lam, app, field, sel, merge, let_in, rec, skip, seq, assign, while_do, forever, new, cells, escape, accept, put, read, mark, no_trees, and_tree}
 
 -- one of three, as k is below n, equal to it or above it
 abbrev pub compared : ℕ → ℕ → Tree → Tree → Tree → Tree
@@ -28,6 +28,7 @@ abbrev mutual
   closed_at n a (while_do b c at) = while_do (closed_at n a b) (closed_at n a c) at
   closed_at n a (forever c at) = forever (closed_at n a c) at
   closed_at n a (new d D e body at) = new d D (closed_at n a e) (closed_at (n + 1) a body) at
+  closed_at n a (cells d e body at) = cells d (closed_at n a e) (closed_at (n + 1) a body) at
   closed_at n a (escape d body at) = escape d (closed_at (n + 1) a body) at
   closed_at n a (accept d D body at) = accept d D (closed_at (n + 1) a body) at
   closed_at n a (put kind p at) = put kind (closed_at n a p) at

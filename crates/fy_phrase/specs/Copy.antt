@@ -1,6 +1,6 @@
 -- The copy rule: what a phrase does, step by step. After Reynolds, "Design of the Programming Language Forsythe" (1996), where call by
 -- name is explained by copying; the order of evaluation, the places of faults and the load are this project's.
-use Rattle.std.specs.Prelude.{ℕ, zero, suc, ◌+◌, max, Bool, true, false, nat_eq, if◌then◌else◌, List, [], ◌∷◌, ◌++◌, drop, slice_get, Some, None, pos, negsuc}
+use Rattle.std.specs.Prelude.{ℕ, zero, suc, ◌+◌, max, Bool, true, false, nat_eq, nat_lt, if◌then◌else◌, List, [], ◌∷◌, ◌++◌, length, drop, set, slice_get, Some, None, pos, negsuc}
 use Rattle.std.specs.declared.option.Option.{Option}
 use Rattle.fy_base.specs.declared.data.Place.{Place}
 use Rattle.fy_base.specs.declared.data.Datum.{Datum}
@@ -13,23 +13,32 @@ use Rattle.fy_base.specs.declared.arithmetic.Applied.{Applied}
 use Rattle.fy_base.specs.declared.arithmetic.Applied.TheVariants.{Gives, Faults, NoSense}
 use Rattle.fy_base.specs.Outside.{Bytes}
 use Rattle.fy_base.specs.Arithmetic.{unary_result, binary_result, written_text}
-use Rattle.fy_phrase.specs.declared.phrase.MarkKind.{MarkKind}
 use Rattle.fy_phrase.specs.declared.phrase.MarkKind.TheVariants as marks
-use Rattle.fy_phrase.specs.Tree.{Tree, Trees, var, lit, unary, binary, cond, case, lam, app, field, sel, merge, let_in, rec, skip, seq, assign, while_do, forever, new, escape, accept, put, read, mark, no_trees, and_tree}
+use Rattle.fy_phrase.specs.Tree.{Tree, Trees, var, lit, unary, binary, cond, case, lam, app, field, sel, merge, let_in, rec, skip, seq, assign, while_do, forever, new, cells, escape, accept, put, read, mark, no_trees, and_tree}
 use Rattle.fy_phrase.specs.Closing.{closed_with}
-use Rattle.fy_phrase.specs.Contexts.{CopyContext, op_1, op_l, op_r, if_c, case_c, arg_c, pick_c, then_c, assign_c, store_c, while_c, body_c, loop_c, new_c, drop_c, put_c, esc_c, Pushed}
+use Rattle.fy_phrase.specs.Contexts.{CopyContext, op_1, op_l, op_r, if_c, case_c, arg_c, pick_c, then_c, assign_c, store_c, while_c, body_c, loop_c, new_c, drop_c, put_c, esc_c, cells_c, fill_c, element_c, Pushed}
 
--- a cell of the store
-pub record Cell : Type 0 where
+-- what the store holds at a number: the value of a cell, or the values of a sequence of cells, with the place of its `Cells`
+pub data Content : Type 0 where
+  single : (v : Datum) → Content
+  several : (at : Place) (vs : List Datum) → Content
+
+-- a row of the store
+pub record Row : Type 0 where
   pub number : ℕ
-  pub value : Datum
+  pub content : Content
 
--- what a step changes: the closed phrase in focus, the contexts with the newest first, the store with the newest cell first,
+-- which cell of a row: its single one, or the one of an index from 0
+pub data Which : Type 0 where
+  own : Which
+  element : (i : ℕ) → Which
+
+-- what a step changes: the closed phrase in focus, the contexts with the newest first, the store with the newest row first,
 -- the number that the next binding takes, and the load
 pub record CopyState : Type 0 where
   pub focus : Tree
   pub contexts : List (Pushed CopyContext)
-  pub store : List Cell
+  pub store : List Row
   pub next : ℕ
   pub load : ℕ
 
@@ -46,20 +55,45 @@ pub data CopyMove : Type 0 where
 
 -- ---- the store
 
--- the value of cell n
-abbrev pub value_of : ℕ → List Cell → Option Datum
-value_of n [] = None
-value_of n (c ∷ cs) = if nat_eq c.number n then Some c.value else value_of n cs
+-- what the store holds at number n
+abbrev pub content_of : ℕ → List Row → Option Content
+content_of n [] = None
+content_of n (r ∷ rs) = if nat_eq r.number n then Some r.content else content_of n rs
 
--- the store with v in cell n
-abbrev pub with_value : ℕ → Datum → List Cell → List Cell
-with_value n v [] = []
-with_value n v (c ∷ cs) = if nat_eq c.number n then (record { number = n; value = v }) ∷ cs else c ∷ with_value n v cs
+-- the store where a change was made at number n
+abbrev pub with_content : ℕ → (Content → Content) → List Row → List Row
+with_content n change [] = []
+with_content n change (r ∷ rs) = if nat_eq r.number n then (record { number = n; content = change r.content }) ∷ rs else r ∷ with_content n change rs
 
--- the store without cell n
-abbrev pub without_cell : ℕ → List Cell → List Cell
-without_cell n [] = []
-without_cell n (c ∷ cs) = if nat_eq c.number n then cs else c ∷ without_cell n cs
+-- the store without what it holds at number n
+abbrev pub without_row : ℕ → List Row → List Row
+without_row n [] = []
+without_row n (r ∷ rs) = if nat_eq r.number n then rs else r ∷ without_row n rs
+
+-- the value of a cell, where there is one
+abbrev pub value_in : Which → Option Content → Option Datum
+value_in own (Some (single v)) = Some v
+value_in (element i) (Some (several at vs)) = slice_get vs i
+value_in which _ = None
+
+-- v in a cell
+abbrev pub with_value_in : Which → Datum → Content → Content
+with_value_in own v (single u) = single v
+with_value_in (element i) v (several at vs) = several at (set vs i v)
+with_value_in which v content = content
+
+-- one more cell at the end of a sequence, that holds 0
+abbrev pub lengthened : Content → Content
+lengthened (several at vs) = several at (vs ++ datum.Int (pos 0) ∷ [])
+lengthened content = content
+
+-- the value of a cell at number n
+abbrev pub value_of : Which → ℕ → List Row → Option Datum
+value_of which n store = value_in which (content_of n store)
+
+-- the store with v in a cell at number n
+abbrev pub with_value : Which → ℕ → Datum → List Row → List Row
+with_value which n v store = with_content n (with_value_in which v) store
 
 -- ---- words of the table
 
@@ -143,7 +177,20 @@ written None at s = sticks
 -- a new cell holds v as long as the body runs
 abbrev pub stored : Datum → ℕ → Tree → Place → CopyState → CopyMove
 stored v d body at s =
-    bound d (mark (marks.Cell s.next) at) body (record (push (drop_c s.next) s) { store = (record { number = s.next; value = v }) ∷ s.store })
+    bound d (mark (marks.Cell s.next) at) body (record (push (drop_c s.next) s) { store = (record { number = s.next; content = single v }) ∷ s.store })
+
+-- so many cells are wanted of a new sequence, which has none yet; or the fault of a negative number
+abbrev pub counted : Datum → ℕ → Tree → Place → CopyState → CopyMove
+counted (datum.Int (pos v)) d body at s =
+    pushed (fill_c s.next v d body at) (lit (datum.Int (pos 0)) at) (record s { store = (record { number = s.next; content = several at [] }) ∷ s.store })
+counted (datum.Int (negsuc v)) d body at s = faults Range at
+counted _ d body at s = sticks
+
+-- the cell of sequence n that an index picks, or the fault where there is none
+abbrev pub element_picked : Datum → ℕ → Option Content → Place → CopyState → CopyMove
+element_picked (datum.Int (pos i)) n (Some (several at vs)) here s = if nat_lt i (length vs) then focused (mark (marks.Element n i) here) s else faults Range at
+element_picked (datum.Int (negsuc i)) n (Some (several at vs)) here s = faults Range at
+element_picked _ n _ here s = sticks
 
 abbrev pub datum_meets : Datum → Place → CopyContext → CopyState → CopyMove
 datum_meets v here (op_1 op at) s = operated (unary_result op v) at s
@@ -155,7 +202,31 @@ datum_meets v here (while_c loop c) s = chosen v (pushed (body_c loop) c s) (foc
 datum_meets v here (new_c d body) s = stored v d body here s
 datum_meets v here (assign_c p) s = pushed (store_c v) p s
 datum_meets v here (put_c kind) s = written (written_text kind v) here s
+datum_meets v here (cells_c d body at) s = counted v d body at s
+datum_meets v here (element_c n) s = element_picked v n (content_of n s.store) here s
 datum_meets v here _ s = sticks
+
+-- sequence n, which has k cells, gains one, which adds 1 to the load
+abbrev pub one_more : ℕ → ℕ → Place → CopyState → CopyMove
+one_more n k here s = goes (record s { focus = lit (datum.Int (pos (k + 1))) here; store = with_content n lengthened s.store; load = s.load + 1 })
+
+-- sequence n has all its cells, as long as the body runs
+abbrev pub bound_filled : ℕ → ℕ → Tree → Place → ℕ → List (Pushed CopyContext) → CopyState → CopyMove
+bound_filled n d body at base cs s = bound d (mark (marks.Sequence n) at) body (record s { contexts = (record { base = base; context = drop_c n }) ∷ cs })
+
+-- of v cells so many are there: one more is made, or all are there
+abbrev pub filled : Datum → ℕ → (ℕ → CopyMove) → CopyMove → CopyMove
+filled (datum.Int (pos k)) v more all = if nat_lt k v then more k else (if nat_eq k v then all else sticks)
+filled _ v more all = sticks
+
+-- a datum answers each context but that of a sequence, which stays until its cells are there, and then keeps its base as that of the body
+abbrev pub datum_under : Datum → Place → CopyContext → ℕ → List (Pushed CopyContext) → CopyState → CopyMove
+datum_under v here (fill_c n m d body at) base cs s = filled v m (λ k. one_more n k here s) (bound_filled n d body at base cs s)
+datum_under v here c base cs s = datum_meets v here c (record s { contexts = cs; load = base })
+
+abbrev pub datum_focused : Datum → Place → List (Pushed CopyContext) → CopyState → CopyMove
+datum_focused v here [] s = sticks
+datum_focused v here (c ∷ cs) s = datum_under v here c.context c.base cs s
 
 -- ---- a finished command meets a context
 
@@ -163,7 +234,7 @@ abbrev pub skip_meets : Place → CopyContext → CopyState → CopyMove
 skip_meets here (then_c q) s = focused q s
 skip_meets here (body_c loop) s = focused loop s
 skip_meets here (loop_c loop) s = focused loop s
-skip_meets here (drop_c n) s = focused (skip here) (record s { store = without_cell n s.store })
+skip_meets here (drop_c n) s = focused (skip here) (record s { store = without_row n s.store })
 skip_meets here (esc_c n) s = focused (skip here) s
 skip_meets here _ s = sticks
 
@@ -201,27 +272,38 @@ loaded (Some v) here s = focused (lit v here) s
 loaded None here s = sticks
 
 -- or takes a new one, where the store has the cell
-abbrev pub assigned : Option Datum → ℕ → Datum → Place → CopyState → CopyMove
-assigned (Some u) n v here s = focused (skip here) (record s { store = with_value n v s.store })
-assigned None n v here s = sticks
+abbrev pub assigned : Option Datum → Which → ℕ → Datum → Place → CopyState → CopyMove
+assigned (Some u) which n v here s = focused (skip here) (record s { store = with_value which n v s.store })
+assigned None which n v here s = sticks
 
-abbrev pub cell_meets : ℕ → Place → CopyContext → List (Pushed CopyContext) → CopyState → CopyMove
-cell_meets n here (store_c v) cs s = assigned (value_of n s.store) n v here (record s { contexts = cs })
-cell_meets n here _ cs s = loaded (value_of n s.store) here s
+abbrev pub cell_meets : Which → ℕ → Place → CopyContext → List (Pushed CopyContext) → CopyState → CopyMove
+cell_meets which n here (store_c v) cs s = assigned (value_of which n s.store) which n v here (record s { contexts = cs })
+cell_meets which n here _ cs s = loaded (value_of which n s.store) here s
 
-abbrev pub cell_under : ℕ → Place → List (Pushed CopyContext) → CopyState → CopyMove
-cell_under n here [] s = loaded (value_of n s.store) here s
-cell_under n here (c ∷ cs) s = cell_meets n here c.context cs s
+abbrev pub cell_under : Which → ℕ → Place → List (Pushed CopyContext) → CopyState → CopyMove
+cell_under which n here [] s = loaded (value_of which n s.store) here s
+cell_under which n here (c ∷ cs) s = cell_meets which n here c.context cs s
+
+-- the length of a sequence in focus
+abbrev pub measured : Option Content → Place → CopyState → CopyMove
+measured (Some (several at vs)) here s = focused (lit (datum.Int (pos (length vs))) here) s
+measured _ here s = sticks
+
+-- a sequence takes an index, or the selection of `len`, whose name has the number 0
+abbrev pub sequence_meets : ℕ → Place → CopyContext → CopyState → CopyMove
+sequence_meets n here (arg_c q) s = pushed (element_c n) q s
+sequence_meets n here (pick_c i) s = if nat_eq i 0 then measured (content_of n s.store) here s else sticks
+sequence_meets n here _ s = sticks
 
 -- whether a context is that of jump n
 abbrev pub is_target : ℕ → CopyContext → Bool
 is_target n (esc_c m) = nat_eq m n
 is_target n _ = false
 
--- a cell is lost with its context
-abbrev pub store_after : CopyContext → List Cell → List Cell
-store_after (drop_c n) cells = without_cell n cells
-store_after _ cells = cells
+-- a cell or a sequence is lost with its context
+abbrev pub store_after : CopyContext → List Row → List Row
+store_after (drop_c n) rows = without_row n rows
+store_after _ rows = rows
 
 -- a jump takes off the contexts before its own and that one too, and sets the load to its base
 abbrev pub jumped : ℕ → Place → List (Pushed CopyContext) → CopyState → CopyMove
@@ -239,7 +321,7 @@ byte_or_end None = datum.Int (negsuc 0)
 
 abbrev pub step_at : Tree → CopyState → CopyMove
 step_at (var k at) s = sticks
-step_at (lit v at) s = answered (datum_meets v at) s.contexts s
+step_at (lit v at) s = datum_focused v at s.contexts s
 step_at (unary op p at) s = pushed (op_1 op at) p s
 step_at (binary op p q at) s = pushed (op_l op q at) p s
 step_at (cond b p q at) s = pushed (if_c p q) b s
@@ -257,12 +339,15 @@ step_at (assign p q at) s = pushed (assign_c p) q s
 step_at (while_do b c at) s = pushed (while_c (while_do b c at) c) b s
 step_at (forever c at) s = pushed (loop_c (forever c at)) c s
 step_at (new d D e body at) s = pushed (new_c d body) e s
+step_at (cells d e body at) s = pushed (cells_c d body at) e s
 step_at (escape d body at) s = bound d (mark (marks.Jump s.next) at) body (push (esc_c s.next) s)
 step_at (accept d D body at) s = taken (accept_meets d body at) s.contexts s
 step_at (put kind p at) s = pushed (put_c kind) p s
 step_at (read p at) s = takes (λ byte. focus_on p (push (store_c (byte_or_end byte)) s))
-step_at (mark (marks.Cell n) at) s = cell_under n at s.contexts s
+step_at (mark (marks.Cell n) at) s = cell_under own n at s.contexts s
 step_at (mark (marks.Jump n) at) s = jumped n at s.contexts s
+step_at (mark (marks.Sequence n) at) s = taken (sequence_meets n at) s.contexts s
+step_at (mark (marks.Element n i) at) s = cell_under (element i) n at s.contexts s
 
 abbrev pub copy_step : CopyState → CopyMove
 copy_step s = step_at s.focus s

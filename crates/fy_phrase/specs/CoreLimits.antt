@@ -2,7 +2,7 @@
 use Rattle.std.specs.Prelude.{ℕ, suc, ◌+◌, ◌*◌, ◌≤◌, max}
 use Rattle.fy_types.specs.Types.{PlainTypes}
 use Rattle.fy_types.specs.Nested.{type_nodes, types_nodes, type_nesting}
-use Rattle.fy_phrase.specs.Tree.{Tree, Trees, no_trees, and_tree, var, lit, unary, binary, cond, case, lam, app, field, sel, merge, let_in, rec, skip, seq, assign, while_do, forever, new, escape, accept, put, read, mark}
+use Rattle.fy_phrase.specs.Tree.{Tree, Trees, no_trees, and_tree, var, lit, unary, binary, cond, case, lam, app, field, sel, merge, let_in, rec, skip, seq, assign, while_do, forever, new, cells, escape, accept, put, read, mark}
 use Rattle.fy_phrase.specs.Sizes.{nesting}
 
 abbrev mutual
@@ -27,6 +27,7 @@ abbrev mutual
   size_of (while_do b p at) = suc (size_of b + size_of p)
   size_of (forever p at) = suc (size_of p)
   size_of (new d D p q at) = suc (size_of p + size_of q)
+  size_of (cells d p q at) = suc (size_of p + size_of q)
   size_of (escape d p at) = suc (size_of p)
   size_of (accept d D p at) = suc (size_of p)
   size_of (put kind p at) = suc (size_of p)
@@ -64,6 +65,7 @@ abbrev mutual
   visits_of (while_do b p at) = suc (visits_of b + visits_of p)
   visits_of (forever p at) = suc (visits_of p)
   visits_of (new d D p q at) = suc (visits_of p + visits_of q)
+  visits_of (cells d p q at) = suc (visits_of p + visits_of q)
   visits_of (escape d p at) = suc (visits_of p)
   visits_of (accept d D p at) = suc (visits_of p)
   visits_of (put kind p at) = suc (visits_of p)
@@ -96,6 +98,7 @@ abbrev mutual
   deepest_written (while_do b c at) = max (deepest_written b) (deepest_written c)
   deepest_written (forever c at) = deepest_written c
   deepest_written (new d D e b at) = max (deepest_written e) (deepest_written b)
+  deepest_written (cells d e b at) = max (deepest_written e) (deepest_written b)
   deepest_written (escape d b at) = deepest_written b
   deepest_written (accept d D b at) = deepest_written b
   deepest_written (put kind p at) = deepest_written p

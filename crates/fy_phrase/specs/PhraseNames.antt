@@ -1,7 +1,7 @@
 -- The names in a core phrase, of its fields, its selections and the types that it is written with; and the meets of these types.
 use Rattle.std.specs.Prelude.{ℕ}
 use Rattle.fy_types.specs.Fields.{AllFields, AllFieldsOf, HasFullMeets, HaveFullMeets}
-use Rattle.fy_phrase.specs.Tree.{Tree, Trees, no_trees, and_tree, var, lit, unary, binary, cond, case, lam, app, field, sel, merge, let_in, rec, skip, seq, assign, while_do, forever, new, escape, accept, put, read, mark}
+use Rattle.fy_phrase.specs.Tree.{Tree, Trees, no_trees, and_tree, var, lit, unary, binary, cond, case, lam, app, field, sel, merge, let_in, rec, skip, seq, assign, while_do, forever, new, cells, escape, accept, put, read, mark}
 
 abbrev mutual
   -- each name in the phrase has the property
@@ -25,6 +25,7 @@ abbrev mutual
   AllNames P (while_do b c at) = AllNames P b × AllNames P c
   AllNames P (forever c at) = AllNames P c
   AllNames P (new d D e b at) = AllNames P e × AllNames P b
+  AllNames P (cells d e b at) = AllNames P e × AllNames P b
   AllNames P (escape d b at) = AllNames P b
   AllNames P (accept d D b at) = AllNames P b
   AllNames P (put kind p at) = AllNames P p
@@ -57,6 +58,7 @@ abbrev mutual
   HasFullTypes (while_do b c at) = HasFullTypes b × HasFullTypes c
   HasFullTypes (forever c at) = HasFullTypes c
   HasFullTypes (new d D e b at) = HasFullTypes e × HasFullTypes b
+  HasFullTypes (cells d e b at) = HasFullTypes e × HasFullTypes b
   HasFullTypes (escape d b at) = HasFullTypes b
   HasFullTypes (accept d D b at) = HasFullTypes b
   HasFullTypes (put kind p at) = HasFullTypes p

@@ -1,7 +1,7 @@
 -- The phrase that a value of the program stands for.
 use Rattle.std.specs.Prelude.{List, [], ◌∷◌}
 use Rattle.fy_types.specs.Reading.{plain_type, plain_types}
-use Rattle.fy_phrase.specs.Tree.{Tree, Trees, var, lit, unary, binary, cond, case, lam, app, field, sel, merge, let_in, rec, skip, seq, assign, while_do, forever, new, escape, accept, put, read, mark, no_trees, and_tree}
+use Rattle.fy_phrase.specs.Tree.{Tree, Trees, var, lit, unary, binary, cond, case, lam, app, field, sel, merge, let_in, rec, skip, seq, assign, while_do, forever, new, cells, escape, accept, put, read, mark, no_trees, and_tree}
 use Rattle.fy_phrase.specs.declared.phrase.Phrase.{Phrase, fold-Phrase}
 use Rattle.fy_phrase.specs.declared.phrase.Phrase.TheOpen.{Phrase-F}
 use Rattle.fy_phrase.specs.declared.phrase.Parts.{Parts, Parts-F, fold-Parts, out-Parts}
@@ -35,6 +35,7 @@ reads_form (Phrase-F.Assign p q at) = assign p.value q.value at
 reads_form (Phrase-F.WhileDo b c at) = while_do b.value c.value at
 reads_form (Phrase-F.Forever c at) = forever c.value at
 reads_form (Phrase-F.New d D e body at) = new d D e.value body.value at
+reads_form (Phrase-F.Cells d e body at) = cells d e.value body.value at
 reads_form (Phrase-F.Escape d body at) = escape d body.value at
 reads_form (Phrase-F.Accept d D body at) = accept d D body.value at
 reads_form (Phrase-F.Put kind p at) = put kind p.value at

@@ -1,6 +1,6 @@
 -- How large a phrase is.
 use Rattle.std.specs.Prelude.{ℕ, ◌+◌, ◌-◌, ◌^◌, min, max, Bool, nat_le, ◌&&◌}
-use Rattle.fy_phrase.specs.Tree.{Tree, Trees, var, lit, unary, binary, cond, case, lam, app, field, sel, merge, let_in, rec, skip, seq, assign, while_do, forever, new, escape, accept, put, read, mark, no_trees, and_tree}
+use Rattle.fy_phrase.specs.Tree.{Tree, Trees, var, lit, unary, binary, cond, case, lam, app, field, sel, merge, let_in, rec, skip, seq, assign, while_do, forever, new, cells, escape, accept, put, read, mark, no_trees, and_tree}
 
 -- the number of nodes
 abbrev mutual
@@ -24,6 +24,7 @@ abbrev mutual
   nodes (while_do b c at) = 1 + nodes b + nodes c
   nodes (forever c at) = 1 + nodes c
   nodes (new d D e body at) = 1 + nodes e + nodes body
+  nodes (cells d e body at) = 1 + nodes e + nodes body
   nodes (escape d body at) = 1 + nodes body
   nodes (accept d D body at) = 1 + nodes body
   nodes (put kind p at) = 1 + nodes p
@@ -56,6 +57,7 @@ abbrev mutual
   depth (while_do b c at) = max (depth b) (depth c)
   depth (forever c at) = depth c
   depth (new d D e body at) = max d (max (depth e) (depth body))
+  depth (cells d e body at) = max d (max (depth e) (depth body))
   depth (escape d body at) = max d (depth body)
   depth (accept d D body at) = max d (depth body)
   depth (put kind p at) = depth p
@@ -88,6 +90,7 @@ abbrev mutual
   nesting (while_do b c at) = 1 + max (nesting b) (nesting c)
   nesting (forever c at) = 1 + nesting c
   nesting (new d D e body at) = 1 + max (nesting e) (nesting body)
+  nesting (cells d e body at) = 1 + max (nesting e) (nesting body)
   nesting (escape d body at) = 1 + nesting body
   nesting (accept d D body at) = 1 + nesting body
   nesting (put kind p at) = 1 + nesting p

@@ -43,12 +43,14 @@ mutual
     forever : (c : Tree) (at : Place) → Tree
     -- `new x : D := e in q`
     new : (d : ℕ) (D : DataTy) (e body : Tree) (at : Place) → Tree
+    -- the body where x stands for a sequence of e new cells, numbered from 0, that hold 0; only the prelude makes one
+    cells : (d : ℕ) (e body : Tree) (at : Place) → Tree
     escape : (d : ℕ) (body : Tree) (at : Place) → Tree
     -- `accept x : D in q`
     accept : (d : ℕ) (D : DataTy) (body : Tree) (at : Place) → Tree
     put : (kind : PutKind) (p : Tree) (at : Place) → Tree
     read : (p : Tree) (at : Place) → Tree
-    -- a cell or a jump, which only a run makes
+    -- a cell, a jump or a sequence, which only a run makes
     mark : (m : MarkKind) (at : Place) → Tree
 
   pub data Trees : Type 0 where
@@ -76,6 +78,7 @@ place_of (assign p q at) = at
 place_of (while_do b c at) = at
 place_of (forever c at) = at
 place_of (new d D e body at) = at
+place_of (cells d e body at) = at
 place_of (escape d body at) = at
 place_of (accept d D body at) = at
 place_of (put kind p at) = at

@@ -1,6 +1,6 @@
 -- Which core phrases programs are: closed, with the depths of their binders, and well made.
 use Rattle.std.specs.Prelude.{ℕ, suc, ◌≡◌, ◌<◌}
-use Rattle.fy_phrase.specs.Tree.{Tree, Trees, var, lit, unary, binary, cond, case, lam, app, field, sel, merge, let_in, rec, skip, seq, assign, while_do, forever, new, escape, accept, put, read, mark, no_trees, and_tree}
+use Rattle.fy_phrase.specs.Tree.{Tree, Trees, var, lit, unary, binary, cond, case, lam, app, field, sel, merge, let_in, rec, skip, seq, assign, while_do, forever, new, cells, escape, accept, put, read, mark, no_trees, and_tree}
 
 abbrev mutual
   -- each variable's binder is in the phrase or is one of n around it
@@ -24,6 +24,7 @@ abbrev mutual
   IsClosedUnder n (while_do b p at) = IsClosedUnder n b × IsClosedUnder n p
   IsClosedUnder n (forever p at) = IsClosedUnder n p
   IsClosedUnder n (new d D p q at) = IsClosedUnder n p × IsClosedUnder (suc n) q
+  IsClosedUnder n (cells d p q at) = IsClosedUnder n p × IsClosedUnder (suc n) q
   IsClosedUnder n (escape d p at) = IsClosedUnder (suc n) p
   IsClosedUnder n (accept d D p at) = IsClosedUnder (suc n) p
   IsClosedUnder n (put kind p at) = IsClosedUnder n p
@@ -59,6 +60,7 @@ abbrev mutual
   HasDepthsUnder n (while_do b p at) = HasDepthsUnder n b × HasDepthsUnder n p
   HasDepthsUnder n (forever p at) = HasDepthsUnder n p
   HasDepthsUnder n (new d D p q at) = (d ≡ n) × HasDepthsUnder n p × HasDepthsUnder (suc n) q
+  HasDepthsUnder n (cells d p q at) = (d ≡ n) × HasDepthsUnder n p × HasDepthsUnder (suc n) q
   HasDepthsUnder n (escape d p at) = (d ≡ n) × HasDepthsUnder (suc n) p
   HasDepthsUnder n (accept d D p at) = (d ≡ n) × HasDepthsUnder (suc n) p
   HasDepthsUnder n (put kind p at) = HasDepthsUnder n p
@@ -105,6 +107,7 @@ abbrev mutual
   IsWellMade (while_do b p at) = IsWellMade b × IsWellMade p
   IsWellMade (forever p at) = IsWellMade p
   IsWellMade (new d D p q at) = IsWellMade p × IsWellMade q
+  IsWellMade (cells d p q at) = IsWellMade p × IsWellMade q
   IsWellMade (escape d p at) = IsWellMade p
   IsWellMade (accept d D p at) = IsWellMade p
   IsWellMade (put kind p at) = IsWellMade p

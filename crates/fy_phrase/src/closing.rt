@@ -121,6 +121,11 @@ fn close_at(
             let body = close_boxed(alloc, body, level.saturating_add(1), actual)?;
             Ok(Phrase::New(*d, *ty, e, body, *at))
         }
+        Phrase::Cells(d, e, body, at) => {
+            let e = close_boxed(alloc, e, level, actual)?;
+            let body = close_boxed(alloc, body, level.saturating_add(1), actual)?;
+            Ok(Phrase::Cells(*d, e, body, *at))
+        }
         Phrase::Escape(d, body, at) => {
             let body = close_boxed(alloc, body, level.saturating_add(1), actual)?;
             Ok(Phrase::Escape(*d, body, *at))

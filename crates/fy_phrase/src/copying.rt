@@ -71,6 +71,10 @@ pub fn copy_phrase(alloc: Global, p: &Phrase) -> Result<Phrase, OutOfMemory>
             let e = copy_boxed(alloc, e)?;
             Ok(Phrase::New(*d, *ty, e, copy_boxed(alloc, body)?, *at))
         }
+        Phrase::Cells(d, e, body, at) => {
+            let e = copy_boxed(alloc, e)?;
+            Ok(Phrase::Cells(*d, e, copy_boxed(alloc, body)?, *at))
+        }
         Phrase::Escape(d, body, at) => Ok(Phrase::Escape(*d, copy_boxed(alloc, body)?, *at)),
         Phrase::Accept(d, ty, body, at) => {
             Ok(Phrase::Accept(*d, *ty, copy_boxed(alloc, body)?, *at))

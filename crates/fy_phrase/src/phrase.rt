@@ -23,6 +23,10 @@ pub enum MarkKind {
     Cell(u64),
     /// The end of an escape's body.
     Jump(u64),
+    /// A sequence of cells of the store.
+    Sequence(u64),
+    /// The cell of a sequence with an index, counted from 0: the sequence's number and the index.
+    Element(u64, u64),
 }
 
 /// A core phrase. The last field of each form is the phrase's place in the source, and a binder's first field is its depth: the
@@ -68,6 +72,8 @@ pub enum Phrase {
     Forever(Box<Phrase>, Place),
     /// A new variable of a data type, with its first value, and the phrase that it stands in.
     New(u32, DataTy, Box<Phrase>, Box<Phrase>, Place),
+    /// A new sequence of so many cells that hold 0, and the phrase that it stands in. Only the prelude makes one.
+    Cells(u32, Box<Phrase>, Box<Phrase>, Place),
     /// A command that can be left early.
     Escape(u32, Box<Phrase>, Place),
     /// An acceptor of a data type, as what it does with a value.
@@ -105,6 +111,7 @@ impl Phrase {
             | Phrase::WhileDo(_, _, at)
             | Phrase::Forever(_, at)
             | Phrase::New(_, _, _, _, at)
+            | Phrase::Cells(_, _, _, at)
             | Phrase::Escape(_, _, at)
             | Phrase::Accept(_, _, _, at)
             | Phrase::Put(_, _, at)
@@ -138,6 +145,7 @@ impl Drop for Phrase {
             Phrase::WhileDo(_, _, _) => {}
             Phrase::Forever(_, _) => {}
             Phrase::New(_, _, _, _, _) => {}
+            Phrase::Cells(_, _, _, _) => {}
             Phrase::Escape(_, _, _) => {}
             Phrase::Accept(_, _, _, _) => {}
             Phrase::Put(_, _, _) => {}

@@ -30,7 +30,8 @@ pub fn node_count(p: &Phrase) -> u64
         | Phrase::Seq(p, q, _)
         | Phrase::Assign(p, q, _)
         | Phrase::WhileDo(p, q, _)
-        | Phrase::New(_, _, p, q, _) => node_count(p)
+        | Phrase::New(_, _, p, q, _)
+        | Phrase::Cells(_, p, q, _) => node_count(p)
             .saturating_add(node_count(q))
             .saturating_add(1),
         Phrase::Cond(b, p, q, _) => node_count(b)
@@ -79,7 +80,7 @@ pub fn depth_of(p: &Phrase) -> u32
         | Phrase::Seq(p, q, _)
         | Phrase::Assign(p, q, _)
         | Phrase::WhileDo(p, q, _) => depth_of(p).max(depth_of(q)),
-        Phrase::LetIn(d, p, q, _) | Phrase::New(d, _, p, q, _) => {
+        Phrase::LetIn(d, p, q, _) | Phrase::New(d, _, p, q, _) | Phrase::Cells(d, p, q, _) => {
             depth_of(p).max(depth_of(q)).max(*d)
         }
         Phrase::Cond(b, p, q, _) => depth_of(b).max(depth_of(p)).max(depth_of(q)),

@@ -114,7 +114,8 @@ fn add_types_in<'a>(
         | Phrase::Seq(p, q, _)
         | Phrase::Assign(p, q, _)
         | Phrase::WhileDo(p, q, _)
-        | Phrase::New(_, _, p, q, _) => {
+        | Phrase::New(_, _, p, q, _)
+        | Phrase::Cells(_, p, q, _) => {
             add_types_in(alloc, &mut *table, p)?;
             add_types_in(alloc, &mut *table, q)
         }

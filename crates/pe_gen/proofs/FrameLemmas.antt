@@ -3,7 +3,7 @@ use Rattle.std.proofs.Common.{ℕ, ◌≤◌, max, List, [], ◌∷◌, length, 
 use Rattle.std.specs.Option.{ForSome}
 use Rattle.fy_phrase.specs.declared.shapes.ShapeTable.{ShapeTable}
 use Rattle.fy_phrase.specs.Sizes.{depth, all_depth}
-use Rattle.fy_phrase.specs.Tree.{Tree, Trees, var, lit, unary, binary, cond, case, lam, app, field, sel, merge, let_in, rec, skip, seq, assign, while_do, forever, new, escape, accept, put, read, mark, no_trees, and_tree}
+use Rattle.fy_phrase.specs.Tree.{Tree, Trees, var, lit, unary, binary, cond, case, lam, app, field, sel, merge, let_in, rec, skip, seq, assign, while_do, forever, new, cells, escape, accept, put, read, mark, no_trees, and_tree}
 use Rattle.fy_phrase.specs.WellMade.{HasDepthsUnder}
 use Rattle.fy_derive.specs.Shapes.{PlainShape}
 use Rattle.pe_code.specs.declared.code.PeCode.{PeCode}
@@ -47,6 +47,7 @@ parts-no-deeper d (assign p q at) = (omega arith, (omega arith, tt))
 parts-no-deeper d (while_do b c at) = (omega arith, (omega arith, tt))
 parts-no-deeper d (forever c at) = (omega arith, tt)
 parts-no-deeper d (new n D e b at) = (omega arith, (omega arith, tt))
+parts-no-deeper d (cells n e b at) = (omega arith, (omega arith, tt))
 parts-no-deeper d (escape n b at) = (omega arith, tt)
 parts-no-deeper d (accept n D b at) = (omega arith, tt)
 parts-no-deeper d (put kind p at) = (omega arith, tt)

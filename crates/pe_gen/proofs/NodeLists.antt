@@ -4,7 +4,7 @@ use Rattle.std.specs.Prelude.{slice_get}
 use Rattle.std.proofs.lemmas.Bool.{cases_lt}
 use Rattle.std.proofs.lemmas.List.{append-nil, length-append}
 use Rattle.fy_phrase.specs.Sizes.{nodes, all_nodes}
-use Rattle.fy_phrase.specs.Tree.{Tree, Trees, var, lit, unary, binary, cond, case, lam, app, field, sel, merge, let_in, rec, skip, seq, assign, while_do, forever, new, escape, accept, put, read, mark, no_trees, and_tree}
+use Rattle.fy_phrase.specs.Tree.{Tree, Trees, var, lit, unary, binary, cond, case, lam, app, field, sel, merge, let_in, rec, skip, seq, assign, while_do, forever, new, cells, escape, accept, put, read, mark, no_trees, and_tree}
 use Rattle.fy_derive.specs.Shapes.{of_trees, parts_of, IsNodeAt, itself as plain_itself, in_part as plain_part, IsNodeAmong, in_first as plain_first, in_later as plain_later}
 use Rattle.pe_gen.specs.Preorder.{nodes_below, nodes_of_all, preorder}
 use Rattle.pe_right.specs.Right.{with_depth, parts_under, IsNodeUnder, itself, in_part, IsNodeAmongUnder, in_first, in_later}
@@ -59,6 +59,7 @@ below-parts d (assign p q at) = two-parts d d p q
 below-parts d (while_do b c at) = two-parts d d b c
 below-parts d (forever c at) = one-part d c
 below-parts d (new n D e b at) = two-parts d (d + 1) e b
+below-parts d (cells n e b at) = two-parts d (d + 1) e b
 below-parts d (escape n b at) = one-part (d + 1) b
 below-parts d (accept n D b at) = one-part (d + 1) b
 below-parts d (put kind p at) = one-part d p

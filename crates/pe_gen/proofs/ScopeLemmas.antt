@@ -1,7 +1,7 @@
 -- What is so of a whole program is so of each of its nodes: its variables are bound, its binders carry their depths, it is well made and not deep.
 use Rattle.std.proofs.Common.{ℕ, suc, ◌+◌, ◌≤◌, ◌≡◌, List, [], ◌∷◌, subst, arith}
 use Rattle.fy_phrase.specs.Sizes.{depth, all_depth}
-use Rattle.fy_phrase.specs.Tree.{Tree, Trees, var, lit, unary, binary, cond, case, lam, app, field, sel, merge, let_in, rec, skip, seq, assign, while_do, forever, new, escape, accept, put, read, mark, no_trees, and_tree}
+use Rattle.fy_phrase.specs.Tree.{Tree, Trees, var, lit, unary, binary, cond, case, lam, app, field, sel, merge, let_in, rec, skip, seq, assign, while_do, forever, new, cells, escape, accept, put, read, mark, no_trees, and_tree}
 use Rattle.fy_phrase.specs.WellMade.{IsClosedUnder, AreClosedUnder, HasDepthsUnder, HaveDepthsUnder, IsWellMade, AreWellMade}
 use Rattle.pe_right.specs.Right.{with_depth, parts_under, IsNodeUnder, itself, in_part, IsNodeAmongUnder, in_first, in_later}
 
@@ -81,6 +81,10 @@ parts-scoped d (while_do b c at) s = (
 )
 parts-scoped d (forever c at) s = (scoped d c s.closed s.depths s.made s.low s.few, tt)
 parts-scoped d (new n D e b at) s = (
+  scoped d e s.closed.0 s.depths.1 s.made.0 (omega (arith, s.low)) s.few,
+  (inside d n b s.closed.1 s.depths.2 s.made.1 (omega (arith, s.low)) s.depths.0 (omega (arith, s.low)), tt),
+)
+parts-scoped d (cells n e b at) s = (
   scoped d e s.closed.0 s.depths.1 s.made.0 (omega (arith, s.low)) s.few,
   (inside d n b s.closed.1 s.depths.2 s.made.1 (omega (arith, s.low)) s.depths.0 (omega (arith, s.low)), tt),
 )

@@ -5,7 +5,7 @@ use Rattle.std.proofs.lemmas.List.{append-nil, append_assoc, length-append, leng
 use Rattle.std.proofs.lemmas.Option.{get_or_from_slice_get}
 use Rattle.fy_base.specs.declared.data.Place.{Place}
 use Rattle.fy_phrase.specs.Sizes.{nodes}
-use Rattle.fy_phrase.specs.Tree.{Tree, Trees, var, lit, unary, binary, cond, case, lam, app, field, sel, merge, let_in, rec, skip, seq, assign, while_do, forever, new, escape, accept, put, read, mark, no_trees, and_tree}
+use Rattle.fy_phrase.specs.Tree.{Tree, Trees, var, lit, unary, binary, cond, case, lam, app, field, sel, merge, let_in, rec, skip, seq, assign, while_do, forever, new, cells, escape, accept, put, read, mark, no_trees, and_tree}
 use Rattle.fy_derive.specs.Shapes.{thunks, all_thunks}
 use Rattle.pe_gen.specs.Preorder.{preorder, own_thunks, thunks_from}
 use Rattle.pe_right.specs.Right.{with_depth, parts_under, IsNodeUnder, itself, in_part, IsNodeAmongUnder, in_first, in_later, thunk_nodes, all_thunk_nodes}
@@ -50,6 +50,7 @@ thunks-parts m d (assign p q at) = two-parts (m + 1) d d p q
 thunks-parts m d (while_do b c at) = two-parts (m + 1) d d b c
 thunks-parts m d (forever c at) = one-part (m + 1) d c
 thunks-parts m d (new n D e b at) = two-parts (m + 1) d (d + 1) e b
+thunks-parts m d (cells n e b at) = two-parts (m + 1) d (d + 1) e b
 thunks-parts m d (escape n b at) = one-part (m + 1) (d + 1) b
 thunks-parts m d (accept n D b at) = one-part (m + 1) (d + 1) b
 thunks-parts m d (put kind p at) = one-part (m + 1) d p

@@ -3,7 +3,7 @@ use Rattle.std.specs.Prelude.{ℕ, ◌+◌, ◌≤◌, ◌≡◌, false, List, l
 use Rattle.fy_phrase.specs.declared.shapes.Pair.{Pair}
 use Rattle.fy_phrase.specs.declared.shapes.ShapeTable.{ShapeTable}
 use Rattle.fy_phrase.specs.Sizes.{nodes}
-use Rattle.fy_phrase.specs.Tree.{Tree, Trees, var, lit, unary, binary, cond, case, lam, app, field, sel, merge, let_in, rec, skip, seq, assign, while_do, forever, new, escape, accept, put, read, mark, no_trees, and_tree}
+use Rattle.fy_phrase.specs.Tree.{Tree, Trees, var, lit, unary, binary, cond, case, lam, app, field, sel, merge, let_in, rec, skip, seq, assign, while_do, forever, new, cells, escape, accept, put, read, mark, no_trees, and_tree}
 use Rattle.fy_derive.specs.Shapes.{PlainShape, at_end, a_call, a_field, a_value, an_assignment, a_run}
 use Rattle.fy_derive.specs.ShapeTables.{shape_at, HasPairOf, IsShapeTable}
 use Rattle.pe_code.specs.declared.code.Entry.{Entry}
@@ -61,6 +61,7 @@ module _ (plan : Plan) where
   AsksParts k (while_do b c at) s = IsDue plan (k + 1) b (at_end a_value) × IsDue plan (k + 1 + nodes b) c (at_end a_run)
   AsksParts k (forever c at) s = IsDue plan (k + 1) c (at_end a_run)
   AsksParts k (new d D e b at) s = IsDue plan (k + 1) e (at_end a_value) × IsDue plan (k + 1 + nodes e) b (at_end a_run)
+  AsksParts k (cells d e b at) s = ⊥
   AsksParts k (escape d b at) s = IsDue plan (k + 1) b (at_end a_run)
   AsksParts k (accept d D b at) s = IsDue plan (k + 1) b (at_end a_run)
   AsksParts k (put kind p at) s = IsDue plan (k + 1) p (at_end a_value)

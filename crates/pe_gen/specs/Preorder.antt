@@ -2,7 +2,7 @@
 use Rattle.std.specs.Prelude.{ℕ, ◌+◌, List, [], ◌∷◌, ◌++◌, map, reverse}
 use Rattle.fy_phrase.specs.Reads.{reads}
 use Rattle.fy_phrase.specs.Sizes.{nodes}
-use Rattle.fy_phrase.specs.Tree.{Tree, Trees, var, lit, unary, binary, cond, case, lam, app, field, sel, merge, let_in, rec, skip, seq, assign, while_do, forever, new, escape, accept, put, read, mark, no_trees, and_tree}
+use Rattle.fy_phrase.specs.Tree.{Tree, Trees, var, lit, unary, binary, cond, case, lam, app, field, sel, merge, let_in, rec, skip, seq, assign, while_do, forever, new, cells, escape, accept, put, read, mark, no_trees, and_tree}
 use Rattle.pe_gen.specs.declared.nodes.Node.{Node}
 
 abbrev mutual
@@ -27,6 +27,7 @@ abbrev mutual
   nodes_below d (while_do b c at) = (d, b) ∷ (nodes_below d b ++ (d, c) ∷ nodes_below d c)
   nodes_below d (forever c at) = (d, c) ∷ nodes_below d c
   nodes_below d (new n D e b at) = (d, e) ∷ (nodes_below d e ++ (d + 1, b) ∷ nodes_below (d + 1) b)
+  nodes_below d (cells n e b at) = (d, e) ∷ (nodes_below d e ++ (d + 1, b) ∷ nodes_below (d + 1) b)
   nodes_below d (escape n b at) = (d + 1, b) ∷ nodes_below (d + 1) b
   nodes_below d (accept n D b at) = (d + 1, b) ∷ nodes_below (d + 1) b
   nodes_below d (put kind p at) = (d, p) ∷ nodes_below d p

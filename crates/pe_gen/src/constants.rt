@@ -44,6 +44,7 @@ fn value_of(p: &Phrase) -> Option<Datum>
         | Phrase::WhileDo(..)
         | Phrase::Forever(..)
         | Phrase::New(..)
+        | Phrase::Cells(..)
         | Phrase::Escape(..)
         | Phrase::Accept(..)
         | Phrase::Put(..)

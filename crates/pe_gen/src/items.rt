@@ -141,6 +141,7 @@ fn insn_of(
             Ok(PeInsn::Read(target))
         }
         Phrase::Merge(..) | Phrase::Mark(..) => unreachable!(),
+        Phrase::Cells(_, _, _, _) => unreachable!(),
     }
 }
 
@@ -189,6 +190,7 @@ fn variable_of(p: &Phrase) -> Option<u32>
         | Phrase::WhileDo(..)
         | Phrase::Forever(..)
         | Phrase::New(..)
+        | Phrase::Cells(..)
         | Phrase::Escape(..)
         | Phrase::Accept(..)
         | Phrase::Put(..)

@@ -64,7 +64,9 @@ fn add_nodes<'a>(
             let size = add_nodes(p, depth, nodes)? + behind + 1;
             add_node(phrase, depth, size, nodes)
         }
-        Phrase::LetIn(_, p, body, _) | Phrase::New(_, _, p, body, _) => {
+        Phrase::LetIn(_, p, body, _)
+        | Phrase::New(_, _, p, body, _)
+        | Phrase::Cells(_, p, body, _) => {
             let behind = add_nodes(body, depth + 1, nodes)?;
             let size = add_nodes(p, depth, nodes)? + behind + 1;
             add_node(phrase, depth, size, nodes)

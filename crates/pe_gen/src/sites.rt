@@ -69,6 +69,7 @@ fn right_operand(p: &Phrase) -> Option<&Phrase>
         | Phrase::WhileDo(..)
         | Phrase::Forever(..)
         | Phrase::New(..)
+        | Phrase::Cells(..)
         | Phrase::Escape(..)
         | Phrase::Accept(..)
         | Phrase::Put(..)

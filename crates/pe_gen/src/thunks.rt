@@ -79,6 +79,7 @@ fn thunk_of(p: &Phrase) -> Option<ThunkOf>
         | Phrase::WhileDo(..)
         | Phrase::Forever(..)
         | Phrase::New(..)
+        | Phrase::Cells(..)
         | Phrase::Escape(..)
         | Phrase::Accept(..)
         | Phrase::Put(..)

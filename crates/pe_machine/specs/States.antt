@@ -44,7 +44,7 @@ pub data Focus : Type 0 where
 
 -- a list of parts is the instruction that picks from them
 abbrev pub PeContext : Type 0
-PeContext = Context Thunk Pointer Pointer
+PeContext = Context Thunk Pointer Pointer ℕ
 
 -- a context, with the load and the number of frames before it was pushed
 pub record Held : Type 0 where

@@ -18,7 +18,7 @@ use Rattle.fy_types.specs.PathOrder.{same_end, compl_below, IsPathBelow, ends, c
 use Rattle.fy_types.proofs.Order.{IsPathBelow-refl, HasBelow-trans, ArePathsBelow-refl}
 use Rattle.fy_phrase.specs.declared.phrase.DataTy.{DataTy}
 use Rattle.fy_phrase.specs.declared.phrase.DataTy.TheVariants as data_type
-use Rattle.fy_phrase.specs.Tree.{Tree, Trees, no_trees, and_tree, var, lit, unary, binary, cond as conditional, case, lam, app, field, sel, merge, let_in, rec, skip, seq, assign, while_do, forever, new, escape, accept, put, read, mark}
+use Rattle.fy_phrase.specs.Tree.{Tree, Trees, no_trees, and_tree, var, lit, unary, binary, cond as conditional, case, lam, app, field, sel, merge, let_in, rec, skip, seq, assign, while_do, forever, new, cells, escape, accept, put, read, mark}
 use Rattle.fy_phrase.specs.Sizes.{nodes}
 use Rattle.fy_phrase.specs.Copy.{part_at}
 use Rattle.fy_derive.specs.Atoms.{data_atom, acceptor_atom, cell_type, datum_atom, operand_atom, unary_atom, takes, binary_atom, put_atom, is_command, is_acceptor}
@@ -238,6 +238,7 @@ module _ (T : ℕ → PlainShape → Type 0) where
   has-pair (while_do b c at) G k P h = h.0
   has-pair (forever c at) G k P h = h.0
   has-pair (new d D e b at) G k P h = h.0
+  has-pair (cells d e b at) G k P h = absurd h
   has-pair (escape d b at) G k P h = h.0
   has-pair (accept d D b at) G k P h = h.0
   has-pair (put kind p at) G k P h = h.0
@@ -339,6 +340,7 @@ module _ (T : ℕ → PlainShape → Type 0) where
       answers-up e G H (k + 1) _ _ c (IsPathBelow-refl _) h.2,
       answers-up b (paths (cell_type D) ∷ G) (paths (cell_type D) ∷ H) (k + 1 + nodes e) P Q (under-same (paths (cell_type D)) H G c) l h.3,
     )
+    answers-up (cells d e b at) G H k P Q c l h = absurd h
     answers-up (escape d b at) G H k P Q c l h = (
       pair-up k l h.0,
       fixed-up atoms.Comm tt h.1 l,

@@ -4,7 +4,7 @@ use Rattle.std.proofs.lemmas.Bool.{cases_eq, cases_lt}
 use Rattle.fy_base.specs.declared.data.Place.{Place}
 use Rattle.fy_base.specs.declared.data.Datum.{Datum}
 use Rattle.fy_phrase.specs.declared.phrase.MarkKind.{MarkKind}
-use Rattle.fy_phrase.specs.Tree.{Tree, Trees, var, lit, unary, binary, cond as conditional, case, lam, app, field, sel, merge, let_in, rec, skip, seq, assign, while_do, forever, new, escape, accept, put, read, mark, no_trees, and_tree}
+use Rattle.fy_phrase.specs.Tree.{Tree, Trees, var, lit, unary, binary, cond as conditional, case, lam, app, field, sel, merge, let_in, rec, skip, seq, assign, while_do, forever, new, cells, escape, accept, put, read, mark, no_trees, and_tree}
 use Rattle.fy_phrase.specs.Closing.{closed_at, all_closed_at, closed_with}
 use Rattle.fy_phrase.specs.Copy.{part_at}
 use Rattle.fy_phrase.specs.WellMade.{IsClosedUnder, AreClosedUnder}
@@ -73,6 +73,8 @@ mutual
   closed_by-shut (forever c at) n j qs z all le = ap (λ (x0 : Tree). forever x0 at) (closed_by-shut c n j qs z all le)
   closed_by-shut (new d D e b at) n j qs z all le =
       ap₂ (λ (x0 : Tree) (x1 : Tree). new d D x0 x1 at) (closed_by-shut e n j qs z all le) (closed_by-shut b (n + 1) (j + 1) qs z all (omega arith))
+  closed_by-shut (cells d e b at) n j qs z all le =
+      ap₂ (λ (x0 : Tree) (x1 : Tree). cells d x0 x1 at) (closed_by-shut e n j qs z all le) (closed_by-shut b (n + 1) (j + 1) qs z all (omega arith))
   closed_by-shut (escape d b at) n j qs z all le = ap (λ (x0 : Tree). escape d x0 at) (closed_by-shut b (n + 1) (j + 1) qs z all (omega arith))
   closed_by-shut (accept d D b at) n j qs z all le = ap (λ (x0 : Tree). accept d D x0 at) (closed_by-shut b (n + 1) (j + 1) qs z all (omega arith))
   closed_by-shut (put kind p at) n j qs z all le = ap (λ (x0 : Tree). put kind x0 at) (closed_by-shut p n j qs z all le)
@@ -126,6 +128,7 @@ mutual
   closed-more (while_do b c at) n z qs all = ap₂ (λ (x0 : Tree) (x1 : Tree). while_do x0 x1 at) (closed-more b n z qs all) (closed-more c n z qs all)
   closed-more (forever c at) n z qs all = ap (λ (x0 : Tree). forever x0 at) (closed-more c n z qs all)
   closed-more (new d D e b at) n z qs all = ap₂ (λ (x0 : Tree) (x1 : Tree). new d D x0 x1 at) (closed-more e n z qs all) (closed-more b (n + 1) z qs all)
+  closed-more (cells d e b at) n z qs all = ap₂ (λ (x0 : Tree) (x1 : Tree). cells d x0 x1 at) (closed-more e n z qs all) (closed-more b (n + 1) z qs all)
   closed-more (escape d b at) n z qs all = ap (λ (x0 : Tree). escape d x0 at) (closed-more b (n + 1) z qs all)
   closed-more (accept d D b at) n z qs all = ap (λ (x0 : Tree). accept d D x0 at) (closed-more b (n + 1) z qs all)
   closed-more (put kind p at) n z qs all = ap (λ (x0 : Tree). put kind x0 at) (closed-more p n z qs all)
@@ -168,6 +171,8 @@ mutual
   closed_by-nothing (forever c at) n h = ap (λ (x0 : Tree). forever x0 at) (closed_by-nothing c n h)
   closed_by-nothing (new d D e b at) n h =
       ap₂ (λ (x0 : Tree) (x1 : Tree). new d D x0 x1 at) (closed_by-nothing e n h.0) (closed_by-nothing b (n + 1) (one_more n b h.1))
+  closed_by-nothing (cells d e b at) n h =
+      ap₂ (λ (x0 : Tree) (x1 : Tree). cells d x0 x1 at) (closed_by-nothing e n h.0) (closed_by-nothing b (n + 1) (one_more n b h.1))
   closed_by-nothing (escape d b at) n h = ap (λ (x0 : Tree). escape d x0 at) (closed_by-nothing b (n + 1) (one_more n b h))
   closed_by-nothing (accept d D b at) n h = ap (λ (x0 : Tree). accept d D x0 at) (closed_by-nothing b (n + 1) (one_more n b h))
   closed_by-nothing (put kind p at) n h = ap (λ (x0 : Tree). put kind x0 at) (closed_by-nothing p n h)

@@ -11,7 +11,7 @@ use Rattle.fy_types.specs.Paths.{PlainPath, end, call, pick}
 use Rattle.fy_phrase.specs.declared.phrase.DataTy.{DataTy}
 use Rattle.fy_phrase.specs.Tree.{Tree, lam, field, accept}
 use Rattle.fy_phrase.specs.Contexts.{CopyContext, arg_c, pick_c, store_c, Pushed}
-use Rattle.fy_phrase.specs.Copy.{Cell, demands, demanded, store_after}
+use Rattle.fy_phrase.specs.Copy.{Row, demands, demanded, store_after}
 use Rattle.fy_phrase.specs.Copy as copy
 use Rattle.fy_derive.specs.Atoms.{data_atom, datum_atom, operand_atom, put_atom, is_acceptor}
 use Rattle.fy_derive.specs.Kinds.{Kind, of_call, of_field, of_assignment, kind_of, begins}
@@ -224,7 +224,7 @@ module _ (g : Compiled) where
   target_command i e escape_body = refl
   target_command i e h = absurd cc
 
-  pub target_store : (i : ℕ) (cells : List Cell) {fs : List Frame} {c : PeContext} {x : CopyContext} {P Q : PlainPath} → machine.is_target i c ≡ true → ContextTakes g fs c x P Q →
+  pub target_store : (i : ℕ) (cells : List Row) {fs : List Frame} {c : PeContext} {x : CopyContext} {P Q : PlainPath} → machine.is_target i c ≡ true → ContextTakes g fs c x P Q →
       store_after x cells ≡ cells
   target_store i cells e escape_body = refl
   target_store i cells e h = absurd cc

@@ -13,7 +13,7 @@ use Rattle.fy_types.proofs.OnceLemmas.{both_true}
 use Rattle.fy_phrase.specs.declared.phrase.DataTy.{DataTy}
 use Rattle.fy_phrase.specs.declared.phrase.DataTy.TheVariants as data_type
 use Rattle.fy_phrase.specs.declared.shapes.ShapeTable.{ShapeTable}
-use Rattle.fy_phrase.specs.Tree.{Tree, Trees, no_trees, and_tree, var, lit, unary, binary, cond as conditional, case, lam, app, field, sel, merge, let_in, rec, skip, seq, assign, while_do, forever, new, escape, accept, put, read, mark}
+use Rattle.fy_phrase.specs.Tree.{Tree, Trees, no_trees, and_tree, var, lit, unary, binary, cond as conditional, case, lam, app, field, sel, merge, let_in, rec, skip, seq, assign, while_do, forever, new, cells, escape, accept, put, read, mark}
 use Rattle.fy_phrase.specs.Sizes.{nodes}
 use Rattle.fy_derive.specs.Atoms.{data_atom, acceptor_atom, cell_type, datum_atom, operand_atom, unary_atom, takes, binary_atom, put_atom, is_command}
 use Rattle.fy_derive.specs.Kinds.{Kind, kind_of, begins, none_begins}
@@ -407,6 +407,7 @@ module _ (T : ℕ → PlainShape → Type 0) where
       let x = provided-some (is_atom IntAcc A) (atom Comm) C e in
       concludes-as G m (read p at) (atom Comm) C x.1 (λ mine. ((mine.0, refl, end-answers G (m + 1) p IntAcc A x.0 t.0), tt))
   conclusion-answers G m (read p at) (A ∷ B ∷ Bs) C t e = absurd t.1
+  conclusion-answers G m (cells d p b at) Bs C t e = absurd cc
   conclusion-answers G m (mark k at) Bs C t e = absurd cc
 
   -- ---- abstractions and merges

@@ -10,7 +10,7 @@ use Rattle.fy_phrase.specs.declared.phrase.DataTy.{DataTy}
 use Rattle.fy_phrase.specs.declared.phrase.MarkKind.TheVariants as marks
 use Rattle.fy_phrase.specs.Tree.{Tree, lit, skip, mark}
 use Rattle.fy_phrase.specs.Contexts.{CopyContext, store_c, Pushed}
-use Rattle.fy_phrase.specs.Copy.{CopyState, CopyMove, Cell, copy_step, store_after, value_of, with_value}
+use Rattle.fy_phrase.specs.Copy.{CopyState, CopyMove, Row, own, copy_step, store_after, value_of, with_value}
 use Rattle.fy_phrase.specs.Copy as copy
 use Rattle.fy_derive.specs.Atoms.{data_atom, acceptor_atom, datum_atom}
 use Rattle.fy_derive.specs.Shapes.{a_value, erase}
@@ -37,19 +37,19 @@ holds-cell X to_escape h = h
 
 -- a context that doesn't assign makes a cell give its datum
 not_assigned : (x : CopyContext) (n : ℕ) (at : Place) (xs : List (Pushed CopyContext)) (c : CopyState) → for_end a_value ≡ asked_by x →
-    copy.cell_meets n at x xs c ≡ copy.loaded (value_of n c.store) at c
+    copy.cell_meets own n at x xs c ≡ copy.loaded (value_of own n c.store) at c
 not_assigned (store_c v) n at xs c f = absurd cc
 not_assigned x n at xs c f = refl
 
 module _ (g : Compiled) where
   -- the datum of a cell, on both sides
-  cell-datum : (X : DataTy) (n : ℕ) (fs : List Frame) → HasCell X n fs → (v : Datum) × (datum_atom v ≡ data_atom X) × (datum_of n fs ≡ Some v) × (value_of n (cells_in fs) ≡ Some v)
+  cell-datum : (X : DataTy) (n : ℕ) (fs : List Frame) → HasCell X n fs → (v : Datum) × (datum_atom v ≡ data_atom X) × (datum_of n fs ≡ Some v) × (value_of own n (cells_in fs) ≡ Some v)
   cell-datum X n fs h = cell-found (λ b. HoldsDatum X b) n fs (holds-cell X) h
 
   -- ---- a cell is read
 
   reads-under : (X : DataTy) (n : ℕ) (at : Place) (P : PlainPath) (fs : List Frame) (cs : List Held) (xs : List (Pushed CopyContext)) (c : CopyState) →
-      P ≡ end (data_atom X) → ContextsTake g fs cs xs P → copy.cell_under n at xs c ≡ copy.loaded (value_of n c.store) at c
+      P ≡ end (data_atom X) → ContextsTake g fs cs xs P → copy.cell_under own n at xs c ≡ copy.loaded (value_of own n c.store) at c
   reads-under X n at P fs [] [] c e t = refl
   reads-under X n at P fs (k ∷ cs) (x ∷ xs) c e t = not_assigned x.context n at xs c (sym (value_asked X e) ∙ held-asked g t.3.1)
   reads-under X n at P fs [] (x ∷ xs) c e t = absurd t
@@ -61,29 +61,29 @@ module _ (g : Compiled) where
       let x = cell-datum X n s.frames h in
       let step : copy_step c ≡ copy.goes (copy.focus_on (lit x.0 at) c) =
       focus-step c (mark (marks.Cell n) at) f ∙ reads-under X n at P s.frames s.contexts c.contexts c e b.0
-      ∙ ap (λ (cells : List Cell). copy.loaded (value_of n cells) at c) b.1 ∙ ap (λ (o : Option Datum). copy.loaded o at c) x.3 in
+      ∙ ap (λ (cells : List Row). copy.loaded (value_of own n cells) at c) b.1 ∙ ap (λ (o : Option Datum). copy.loaded o at c) x.3 in
       subst (λ (o : Option Datum). MovesIn g (extra g) 2 1 c (loaded o s)) (sym x.2) (one_move g step (omega arith) (P, (at, refl, e ∙ ap end (sym x.1)), b))
 
   -- ---- a cell is written
 
   assigns : (X : DataTy) (n : ℕ) (at : Place) (P Q : PlainPath) (k : PeContext) (x : CopyContext) (count : ℕ) (cs : List Held) (xs : List (Pushed CopyContext)) (s : PeState) (c : CopyState) →
-      copy_step c ≡ copy.cell_meets n at x xs c → P ≡ end (acceptor_atom X) → HasCell X n s.frames → count ≤ length s.frames →
+      copy_step c ≡ copy.cell_meets own n at x xs c → P ≡ end (acceptor_atom X) → HasCell X n s.frames → count ≤ length s.frames →
       marks_in s.frames ≡ marked k (marks_in (oldest count s.frames)) → ContextTakes g (oldest count s.frames) k x P Q → ContextsTake g (oldest count s.frames) cs xs Q →
       c.store ≡ cells_in s.frames → Below s.next s.frames → c.next ≡ s.next → c.load ≡ s.load → MovesIn g (extra g) 2 1 c (assignment_meets n k (record s { contexts = cs }))
   assigns X n at P Q k x count cs xs s c step e h le m (acceptor {v = v} D f) t st lo nx ld =
       let same : D ≡ X = acceptor_atom-same D X (end-same refl e) in
       let typed : datum_atom v ≡ data_atom X = f ∙ ap (λ (Y : DataTy). data_atom Y) same in
       let y = cell-datum X n s.frames h in
-      let to : copy_step c ≡ copy.goes (record c { focus = skip at; contexts = xs; store = with_value n v c.store }) =
-      step ∙ ap (λ (cells : List Cell). copy.assigned (value_of n cells) n v at (record c { contexts = xs })) st
-      ∙ ap (λ (o : Option Datum). copy.assigned o n v at (record c { contexts = xs })) y.3 in
+      let to : copy_step c ≡ copy.goes (record c { focus = skip at; contexts = xs; store = with_value own n v c.store }) =
+      step ∙ ap (λ (cells : List Row). copy.assigned (value_of own n cells) own n v at (record c { contexts = xs })) st
+      ∙ ap (λ (o : Option Datum). copy.assigned o own n v at (record c { contexts = xs })) y.3 in
       subst (λ (o : Option Datum). MovesIn g (extra g) 2 1 c (assigned o n v (record s { contexts = cs }))) (sym y.2)
       (one_move g to (omega arith) (
         end atoms.Comm,
         (at, refl, refl),
         (
           contexts-written g X n v s.frames s.next typed lo (inl h) cs xs (end atoms.Comm) (contexts-taken g count s.frames le m cs xs (end atoms.Comm) t),
-          ap (λ (cells : List Cell). with_value n v cells) st ∙ cells-with_cell n v s.frames s.next lo,
+          ap (λ (cells : List Row). with_value own n v cells) st ∙ cells-with_cell n v s.frames s.next lo,
           Below-with_cell n v s.frames s.next lo,
           nx,
           ld,
@@ -92,7 +92,7 @@ module _ (g : Compiled) where
   assigns X n at P Q k x count cs xs s c step e h le m held t st lo nx ld = let f = sym (assignment_asked X e) ∙ held-asked g held in absurd cc
 
   writes-under : (X : DataTy) (n : ℕ) (at : Place) (P : PlainPath) (cs : List Held) (xs : List (Pushed CopyContext)) (s : PeState) (c : CopyState) →
-      copy_step c ≡ copy.cell_under n at xs c → P ≡ end (acceptor_atom X) → HasCell X n s.frames → ContextsTake g s.frames cs xs P →
+      copy_step c ≡ copy.cell_under own n at xs c → P ≡ end (acceptor_atom X) → HasCell X n s.frames → ContextsTake g s.frames cs xs P →
       c.store ≡ cells_in s.frames → Below s.next s.frames → c.next ≡ s.next → c.load ≡ s.load → MovesIn g (extra g) 2 1 c (taken (assignment_meets n) cs s)
   writes-under X n at P [] [] s c step e h t st lo nx ld = let f = sym (assignment_asked X e) ∙ run_asked t.0 in absurd cc
   writes-under X n at P (k ∷ cs) (x ∷ xs) s c step e h t st lo nx ld =
@@ -124,7 +124,7 @@ module _ (g : Compiled) where
       let few = t.1 in
       let cut = same k.frames few in
       let st' : store_after x.context c.store ≡ cells_in (oldest k.frames fs) =
-      ap (λ (cells : List Cell). store_after x.context cells) st ∙ left_store g k.frames fs t.3.1 t.2 in
+      ap (λ (cells : List Row). store_after x.context cells) st ∙ left_store g k.frames fs t.3.1 t.2 in
       let off : PeMove = goes (record s { focus = completed; contexts = cs; frames = oldest k.frames s.frames; load = k.base }) in
       let over : CopyMove = copy.goes (record c { focus = skip at; contexts = xs; load = x.base }) in
       let rest : CopyState = record c { store = store_after x.context c.store } in

@@ -3,7 +3,7 @@ use Rattle.std.proofs.Common.{ℕ, ◌+◌, ◌≡◌, Bool, true, false, nat_eq
 use Rattle.fy_base.specs.declared.data.Datum.{Datum}
 use Rattle.fy_phrase.specs.declared.shapes.ShapeTable.{ShapeTable}
 use Rattle.fy_phrase.specs.declared.shapes.Pair.{Pair}
-use Rattle.fy_phrase.specs.Tree.{Tree, var, lit, unary, binary, cond as conditional, case, lam, app, field, sel, merge, let_in, rec, skip, seq, assign, while_do, forever, new, escape, accept, put, read, mark}
+use Rattle.fy_phrase.specs.Tree.{Tree, var, lit, unary, binary, cond as conditional, case, lam, app, field, sel, merge, let_in, rec, skip, seq, assign, while_do, forever, new, cells, escape, accept, put, read, mark}
 use Rattle.fy_phrase.specs.Sizes.{nodes}
 use Rattle.fy_derive.specs.Shapes.{PlainShape, at_end, a_call, a_field, a_value, an_assignment, a_run}
 use Rattle.fy_derive.specs.ShapeTables.{shape_at, HasPairOf}
@@ -51,6 +51,7 @@ module _ (handed : Tree → Option Datum) (table : ShapeTable) (code : PeCode) w
   InsnIs k (forever c at) s i = (x : ℕ) × Enters table code (k + 1) (at_end a_run) x × (i ≡ insn.Loop x)
   InsnIs k (new d D e b at) s i =
       (x y : ℕ) × Enters table code (k + 1) (at_end a_value) x × Enters table code (k + 1 + nodes e) (at_end a_run) y × (i ≡ insn.New x y)
+  InsnIs k (cells d e b at) s i = ⊥
   InsnIs k (escape d b at) s i = (x : ℕ) × Enters table code (k + 1) (at_end a_run) x × (i ≡ insn.Escape x)
   InsnIs k (accept d D b at) s i = (x : ℕ) × Enters table code (k + 1) (at_end a_run) x × (i ≡ insn.Accept x)
   InsnIs k (put kind p at) s i = (x : ℕ) × Enters table code (k + 1) (at_end a_value) x × (i ≡ insn.Put kind x)

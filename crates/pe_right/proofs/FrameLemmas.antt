@@ -2,7 +2,7 @@
 use Rattle.std.proofs.Common.{ℕ, suc, ◌<◌, ◌≤◌, ◌≡◌, ◌≢◌, ◌⊎◌, Bool, true, false, cond, List, [], ◌∷◌, length, Option, Some, None, refl, sym, ap, ◌∙◌, subst, inl, inr, arith, le-leb, eq-eqb, ne_eqb}
 use Rattle.std.proofs.lemmas.Bool.{cases_eq, cases_lt, lt-leb}
 use Rattle.fy_base.specs.declared.data.Datum.{Datum}
-use Rattle.fy_phrase.specs.Copy.{Cell, value_of, with_value, without_cell}
+use Rattle.fy_phrase.specs.Copy.{Row, single, own, content_of, value_in, value_of, with_value, without_row}
 use Rattle.pe_machine.specs.States.{Binding, to_thunk, to_cell, to_escape, Frame, is_named, oldest, is_listed, from_frame, frame_outside, datum_in, datum_of, with_datum, with_cell}
 use Rattle.pe_right.specs.ReadsBack.{with_cell_of, cells_in}
 
@@ -11,8 +11,8 @@ abbrev pub written : Datum → Frame → Frame
 written v f = record f { binding = with_datum v f.binding }
 
 -- the cell with the number and the datum
-abbrev cell_with : ℕ → Datum → Cell
-cell_with n v = record { number = n; value = v }
+abbrev cell_with : ℕ → Datum → Row
+cell_with n v = record { number = n; content = single v }
 
 -- the numbers of the frames fall, and all are below the bound
 abbrev pub Below : ℕ → List Frame → Type 0
@@ -195,7 +195,7 @@ marks-oldest =
     (λ f fs gs le. let l = marks-one_more f.number f.binding (marks_in fs) in omega arith)
 
 -- a frame that no mark is lost with holds no cell
-unmarked : (m : ℕ) (b : Binding) (ms ks : List Mark) (cs ds : List Cell) → length ks ≤ length ms → length (with_mark_of m b ms) ≡ length ks →
+unmarked : (m : ℕ) (b : Binding) (ms ks : List Mark) (cs ds : List Row) → length ks ≤ length ms → length (with_mark_of m b ms) ≡ length ks →
     (length ms ≡ length ks → cs ≡ ds) → with_cell_of m b cs ≡ ds
 unmarked m (to_thunk t) ms ks cs ds le e f = f e
 unmarked m (to_cell v) ms ks cs ds le e f = absurd (omega arith)
@@ -212,14 +212,14 @@ cells-kept n fs e =
     (omega arith, λ e. unmarked f.number f.binding (marks_in fs) (marks_in gs) (cells_in fs) (cells_in gs) ih.0 e ih.1))
     n fs).1 e
 
-one_escape_less : (m : ℕ) (b : Binding) (i : ℕ) (ms ks : List Mark) (cs ds : List Cell) → with_mark_of m b ms ≡ an_escape i ∷ ks →
+one_escape_less : (m : ℕ) (b : Binding) (i : ℕ) (ms ks : List Mark) (cs ds : List Row) → with_mark_of m b ms ≡ an_escape i ∷ ks →
     (length ms ≡ length ks → cs ≡ ds) → (ms ≡ an_escape i ∷ ks → cs ≡ ds) → with_cell_of m b cs ≡ ds
 one_escape_less m (to_thunk t) i ms ks cs ds e f g = g e
 one_escape_less m (to_cell v) i ms ks cs ds e f g = absurd cc
 one_escape_less m to_escape i ms ks cs ds e f g = let same : ms ≡ ks = cc in f (ap length same)
 
-one_cell_less : (m : ℕ) (b : Binding) (i : ℕ) (ms ks : List Mark) (cs ds : List Cell) → with_mark_of m b ms ≡ a_cell i ∷ ks →
-    (length ms ≡ length ks → cs ≡ ds) → (ms ≡ a_cell i ∷ ks → without_cell i cs ≡ ds) → without_cell i (with_cell_of m b cs) ≡ ds
+one_cell_less : (m : ℕ) (b : Binding) (i : ℕ) (ms ks : List Mark) (cs ds : List Row) → with_mark_of m b ms ≡ a_cell i ∷ ks →
+    (length ms ≡ length ks → cs ≡ ds) → (ms ≡ a_cell i ∷ ks → without_row i cs ≡ ds) → without_row i (with_cell_of m b cs) ≡ ds
 one_cell_less m (to_thunk t) i ms ks cs ds e f g = g e
 one_cell_less m (to_cell v) i ms ks cs ds e f g =
     let same : ms ≡ ks = cc in
@@ -245,7 +245,7 @@ cells-one_escape_less n i (f ∷ fs) e =
     ]
 
 -- a cut that leaves all marks but one cell leaves the other cells
-pub cells-one_less : (n i : ℕ) (fs : List Frame) → marks_in fs ≡ a_cell i ∷ marks_in (oldest n fs) → without_cell i (cells_in fs) ≡ cells_in (oldest n fs)
+pub cells-one_less : (n i : ℕ) (fs : List Frame) → marks_in fs ≡ a_cell i ∷ marks_in (oldest n fs) → without_row i (cells_in fs) ≡ cells_in (oldest n fs)
 cells-one_less n i [] e = absurd cc
 cells-one_less n i (f ∷ fs) e =
     elim (cases_oldest n f fs) [
@@ -375,21 +375,21 @@ marks-with_cell n v (f ∷ fs) =
       | inr other ↦ ap marks_in (with_cell-newer n v f fs other) ∙ ap (with_mark_of f.number f.binding) (marks-with_cell n v fs)
     ]
 
-cells-written : (m n : ℕ) (v : Datum) (b : Binding) (cs : List Cell) → n ≡ m → with_value n v cs ≡ cs →
-    with_value n v (with_cell_of m b cs) ≡ with_cell_of m (with_datum v b) cs
+cells-written : (m n : ℕ) (v : Datum) (b : Binding) (cs : List Row) → n ≡ m → with_value own n v cs ≡ cs →
+    with_value own n v (with_cell_of m b cs) ≡ with_cell_of m (with_datum v b) cs
 cells-written m n v (to_thunk t) cs is e = e
 cells-written m n v (to_cell u) cs is e = rw (eq-eqb m n (sym is)) (ap (λ (k : ℕ). cell_with k v ∷ cs) is)
 cells-written m n v to_escape cs is e = e
 
-cells-apart : (m n : ℕ) (v : Datum) (b : Binding) (cs ds : List Cell) → n ≢ m → with_value n v cs ≡ ds →
-    with_value n v (with_cell_of m b cs) ≡ with_cell_of m b ds
+cells-apart : (m n : ℕ) (v : Datum) (b : Binding) (cs ds : List Row) → n ≢ m → with_value own n v cs ≡ ds →
+    with_value own n v (with_cell_of m b cs) ≡ with_cell_of m b ds
 cells-apart m n v (to_thunk t) cs ds apart e = e
 cells-apart m n v (to_cell u) cs ds apart e =
-    rw (ne_eqb m n (λ q. apart (sym q))) (ap (λ (xs : List Cell). cell_with m u ∷ xs) e)
+    rw (ne_eqb m n (λ q. apart (sym q))) (ap (λ (xs : List Row). cell_with m u ∷ xs) e)
 cells-apart m n v to_escape cs ds apart e = e
 
 -- where no frame has the number, the store has no such cell
-pub with_value-none : (n : ℕ) (v : Datum) (fs : List Frame) → Below n fs → with_value n v (cells_in fs) ≡ cells_in fs
+pub with_value-none : (n : ℕ) (v : Datum) (fs : List Frame) → Below n fs → with_value own n v (cells_in fs) ≡ cells_in fs
 with_value-none n v [] h = refl
 with_value-none n v (f ∷ fs) h =
     let l = h.0 in
@@ -397,7 +397,7 @@ with_value-none n v (f ∷ fs) h =
     (with_value-none n v fs (Below-up fs f.number n (omega arith) h.1))
 
 -- a write to a frame is one to the store
-pub cells-with_cell : (n : ℕ) (v : Datum) (fs : List Frame) (b : ℕ) → Below b fs → with_value n v (cells_in fs) ≡ cells_in (with_cell n v fs)
+pub cells-with_cell : (n : ℕ) (v : Datum) (fs : List Frame) (b : ℕ) → Below b fs → with_value own n v (cells_in fs) ≡ cells_in (with_cell n v fs)
 cells-with_cell n v [] b h = refl
 cells-with_cell n v (f ∷ fs) b h =
     elim (cases_eq n f.number) [
@@ -456,18 +456,18 @@ cell_datum (to_thunk t) is = absurd is
 cell_datum (to_cell v) is = (v, refl)
 cell_datum to_escape is = absurd is
 
-value_of-apart : (n m : ℕ) (b : Binding) (cs : List Cell) → n ≢ m → value_of n (with_cell_of m b cs) ≡ value_of n cs
+value_of-apart : (n m : ℕ) (b : Binding) (cs : List Row) → n ≢ m → value_of own n (with_cell_of m b cs) ≡ value_of own n cs
 value_of-apart n m (to_thunk t) cs apart = refl
-value_of-apart n m (to_cell v) cs apart = ap (λ (t : Bool). cond t (Some v) (value_of n cs)) (ne_eqb m n (λ q. apart (sym q)))
+value_of-apart n m (to_cell v) cs apart = ap (λ (t : Bool). value_in own (cond t (Some (single v)) (content_of n cs))) (ne_eqb m n (λ q. apart (sym q)))
 value_of-apart n m to_escape cs apart = refl
 
-value_of-here : (n m : ℕ) (b : Binding) (v : Datum) (cs : List Cell) → n ≡ m → b ≡ to_cell v → value_of n (with_cell_of m b cs) ≡ Some v
+value_of-here : (n m : ℕ) (b : Binding) (v : Datum) (cs : List Row) → n ≡ m → b ≡ to_cell v → value_of own n (with_cell_of m b cs) ≡ Some v
 value_of-here n m b v cs is e =
-    ap (λ (c : Binding). value_of n (with_cell_of m c cs)) e ∙ ap (λ (t : Bool). cond t (Some v) (value_of n cs)) (eq-eqb m n (sym is))
+    ap (λ (c : Binding). value_of own n (with_cell_of m c cs)) e ∙ ap (λ (t : Bool). value_in own (cond t (Some (single v)) (content_of n cs))) (eq-eqb m n (sym is))
 
 -- a frame that holds a cell is found on both sides; F says more of the datum
 pub cell-found : (F : Binding → Type 0) (n : ℕ) (fs : List Frame) → ((b : Binding) → F b → IsCell b) → HasFrame F n fs →
-    (v : Datum) × F (to_cell v) × (datum_of n fs ≡ Some v) × (value_of n (cells_in fs) ≡ Some v)
+    (v : Datum) × F (to_cell v) × (datum_of n fs ≡ Some v) × (value_of own n (cells_in fs) ≡ Some v)
 cell-found F n [] is h = absurd h
 cell-found F n (f ∷ fs) is (inl h) =
     let x = cell_datum f.binding (is f.binding h.1) in (

@@ -7,7 +7,7 @@ use Rattle.fy_types.specs.Paths.{PlainPath, PlainPaths, end, call, pick, paths}
 use Rattle.fy_types.specs.PathOrder.{HasBelow, here, there}
 use Rattle.fy_phrase.specs.declared.phrase.DataTy.TheVariants as data_type
 use Rattle.fy_phrase.specs.declared.phrase.MarkKind.TheVariants as marks
-use Rattle.fy_phrase.specs.Tree.{Tree, Trees, var, lit, unary, binary, cond as conditional, case, lam, app, field, sel, merge, let_in, rec, skip, seq, assign, while_do, forever, new, escape, accept, put, read, mark}
+use Rattle.fy_phrase.specs.Tree.{Tree, Trees, var, lit, unary, binary, cond as conditional, case, lam, app, field, sel, merge, let_in, rec, skip, seq, assign, while_do, forever, new, cells, escape, accept, put, read, mark}
 use Rattle.fy_phrase.specs.Sizes.{nodes}
 use Rattle.fy_phrase.specs.WellMade.{IsClosedUnder, AreClosedUnder, HasDepthsUnder, HaveDepthsUnder}
 use Rattle.fy_phrase.specs.Contexts.{CopyContext, op_1, op_l, if_c, case_c, arg_c, pick_c, then_c, assign_c, store_c, while_c, loop_c, new_c, put_c, esc_c}
@@ -416,4 +416,5 @@ module _ (g : Compiled) where
         (takes_byte (λ byte. copy.focus_on (closed_by 0 qs p) (copy.push (store_c (byte_or_end byte)) c)) no_step (omega arith) (focus-step c (read (closed_by 0 qs p) at) f)
         (λ byte. pushed-simulates g s c (end atoms.IntAcc) (end atoms.Comm) (store_c (byte_or_end byte)) (store_c (byte_or_end byte)) (Here v.0) (closed_by 0 qs p) refl h
         (acceptor data_type.Int (byte-typed byte)) (subst (λ (R : PlainPath). Behind g s c R) a.1 w)))
+    executed-followed (cells d i b at) k P c n a e f w = absurd a
     executed-followed (mark m at) k P c n a e f w = absurd a

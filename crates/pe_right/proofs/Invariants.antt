@@ -14,7 +14,7 @@ use Rattle.fy_phrase.specs.declared.shapes.ShapeTable.{ShapeTable}
 use Rattle.fy_phrase.specs.Tree.{Tree, Trees, no_trees, and_tree, var, lit, skip, mark}
 use Rattle.fy_phrase.specs.Sizes.{nodes}
 use Rattle.fy_phrase.specs.WellMade.{IsClosed, IsClosedUnder, HasDepths, HasDepthsUnder}
-use Rattle.fy_phrase.specs.Contexts.{CopyContext, op_1, op_l, op_r, if_c, case_c, arg_c, pick_c, then_c, assign_c, store_c, while_c, body_c, loop_c, new_c, drop_c, put_c, esc_c, Pushed}
+use Rattle.fy_phrase.specs.Contexts.{CopyContext, op_1, op_l, op_r, if_c, case_c, arg_c, pick_c, then_c, assign_c, store_c, while_c, body_c, loop_c, new_c, drop_c, put_c, esc_c, cells_c, fill_c, element_c, Pushed}
 use Rattle.fy_phrase.specs.Copy.{CopyState}
 use Rattle.fy_derive.specs.Atoms.{data_atom, acceptor_atom, cell_type, datum_atom, operand_atom, unary_atom, takes, binary_atom, put_atom}
 use Rattle.fy_derive.specs.Shapes.{erase}
@@ -80,6 +80,9 @@ marked (body_c c) ms = ms
 marked (loop_c c) ms = ms
 marked (new_c d c) ms = ms
 marked (put_c kind) ms = ms
+marked (cells_c d c at) ms = ms
+marked (fill_c n v d c at) ms = ms
+marked (element_c n) ms = ms
 
 -- how many steps of the machine may follow, at most, before one that the copy rule makes too
 abbrev pub rank_of : Tree → ℕ

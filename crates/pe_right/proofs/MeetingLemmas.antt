@@ -19,7 +19,7 @@ use Rattle.fy_phrase.specs.declared.phrase.MarkKind.TheVariants as marks
 use Rattle.fy_phrase.specs.Tree.{Tree, Trees, no_trees, and_tree, lit, skip, mark}
 use Rattle.fy_phrase.specs.Closing.{closed_with}
 use Rattle.fy_phrase.specs.Contexts.{CopyContext, op_r, store_c, body_c, drop_c, Pushed}
-use Rattle.fy_phrase.specs.Copy.{CopyState, CopyMove, Cell, copy_step, store_after, part_at}
+use Rattle.fy_phrase.specs.Copy.{CopyState, CopyMove, Row, single, copy_step, store_after, part_at}
 use Rattle.fy_phrase.specs.Copy as copy
 use Rattle.fy_derive.specs.Atoms.{data_atom, acceptor_atom, cell_type, datum_atom, unary_atom, takes, binary_atom, put_atom}
 use Rattle.fy_derive.proofs.PathTyping.{IsRun}
@@ -122,7 +122,7 @@ module _ (g : Compiled) where
         (
           contexts-pushed g (new ∷ s.frames) s.frames (length s.frames) (drop_c s.next) (drop_c c.next) s.load c.load s.contexts c.contexts P P (oldest-itself new s.frames)
               (omega arith) refl b.4 (subst (λ (k : ℕ). ContextTakes g s.frames (drop_c s.next) (drop_c k) P P) (sym b.3) (cell_body is)) b.0,
-          ap (λ (k : ℕ). (record { number = k; value = v }) ∷ c.store) b.3 ∙ ap (λ (cells : List Cell). (record { number = s.next; value = v }) ∷ cells) b.1,
+          ap (λ (k : ℕ). (record { number = k; content = single v }) ∷ c.store) b.3 ∙ ap (λ (cells : List Row). (record { number = s.next; content = single v }) ∷ cells) b.1,
           (omega arith, b.2),
           ap (λ (k : ℕ). k + 1) b.3,
           ap (λ (k : ℕ). k + 8 + (8 + n)) b.4,
@@ -184,15 +184,29 @@ module _ (g : Compiled) where
   answered-followed to meets P [] [] s c d e apart t st lo nx f = absurd (apart refl t.0)
   answered-followed to meets P (k ∷ cs) (x ∷ xs) s c d e apart t st lo nx f =
       f k.context x.context t.3.0 (record s { contexts = cs; frames = oldest k.frames s.frames; load = k.base }) (record c { contexts = xs; load = x.base }) d e t.3.1 t.3.2
-      (ap (λ (cells : List Cell). store_after x.context cells) st ∙ left_store g k.frames s.frames t.3.1 t.2) (Below-oldest k.frames s.frames s.next lo) nx t.0
+      (ap (λ (cells : List Row). store_after x.context cells) st ∙ left_store g k.frames s.frames t.3.1 t.2) (Below-oldest k.frames s.frames s.next lo) nx t.0
   answered-followed to meets P [] (x ∷ xs) s c d e apart t st lo nx f = absurd t
   answered-followed to meets P (k ∷ cs) [] s c d e apart t st lo nx f = absurd t
+
+  -- no context that stands for one is that of a sequence which gets its cells, so a datum answers it
+  under-answers : (v : Datum) (at : Place) (base : ℕ) (xs : List (Pushed CopyContext)) (c : CopyState) {fs : List Frame} {k : PeContext} {x : CopyContext} {P Q : PlainPath} →
+      ContextTakes g fs k x P Q → copy.datum_under v at x base xs c ≡ copy.datum_meets v at x (record c { contexts = xs; load = base })
+  under-answers v at base xs c escape_body = refl
+  under-answers v at base xs c h = refl
+
+  datum-answers : (v : Datum) (at : Place) (fs : List Frame) (cs : List Held) (xs : List (Pushed CopyContext)) (c : CopyState) (P : PlainPath) →
+      ContextsTake g fs cs xs P → copy.datum_focused v at xs c ≡ copy.answered (copy.datum_meets v at) xs c
+  datum-answers v at fs [] [] c P t = refl
+  datum-answers v at fs (k ∷ cs) (x ∷ xs) c P t = under-answers v at x.base xs c t.3.1
+  datum-answers v at fs [] (x ∷ xs) c P t = absurd t
+  datum-answers v at fs (k ∷ cs) [] c P t = absurd t
 
   -- a datum in focus
   pub value-followed : (v : Datum) (at : Place) (s : PeState) (c : CopyState) (P : PlainPath) → c.focus ≡ lit v at → P ≡ end (datum_atom v) → Behind g s c P →
       IsFollowed g 0 1 c (answered (datum_meets g.code v) s.contexts s)
   value-followed v at s c P e i b =
-      answered-followed (copy.datum_meets v at) (datum_meets g.code v) P s.contexts c.contexts s c c (focus-step c (lit v at) e)
+      answered-followed (copy.datum_meets v at) (datum_meets g.code v) P s.contexts c.contexts s c c
+      (focus-step c (lit v at) e ∙ datum-answers v at s.frames s.contexts c.contexts c P b.0)
       (λ none is. let f = sym (datum_asked v i) ∙ run_asked is in cc) b.0 b.1 b.2 b.3 (λ k x Q u w d f h t st lo nx ld. datum-followed v at k x P Q u w d f i h t st lo nx ld)
 
   -- a finished command in focus, where a context is left

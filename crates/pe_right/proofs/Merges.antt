@@ -1,7 +1,7 @@
 -- Merges in a phrase, and how many nodes are left beside them.
 use Rattle.std.proofs.Common.{ℕ, ◌+◌, ◌-◌, ◌≤◌, ◌≡◌, Some, refl, arith}
 use Rattle.fy_base.specs.declared.data.Datum.{Datum}
-use Rattle.fy_phrase.specs.Tree.{Tree, Trees, no_trees, and_tree, var, lit, unary, binary, cond as conditional, case, lam, app, field, sel, merge, let_in, rec, skip, seq, assign, while_do, forever, new, escape, accept, put, read, mark}
+use Rattle.fy_phrase.specs.Tree.{Tree, Trees, no_trees, and_tree, var, lit, unary, binary, cond as conditional, case, lam, app, field, sel, merge, let_in, rec, skip, seq, assign, while_do, forever, new, cells, escape, accept, put, read, mark}
 use Rattle.fy_phrase.specs.Sizes.{nodes, all_nodes}
 use Rattle.pe_right.specs.Constants.{value_of}
 use Rattle.pe_right.proofs.ConstantLemmas.{unary-of, binary-of}
@@ -27,6 +27,7 @@ abbrev mutual
   merges (while_do b c at) = merges b + merges c
   merges (forever c at) = merges c
   merges (new n D e b at) = merges e + merges b
+  merges (cells n e b at) = merges e + merges b
   merges (escape n b at) = merges b
   merges (accept n D b at) = merges b
   merges (put kind p at) = merges p
@@ -59,6 +60,7 @@ mutual
   merges-few (while_do b c at) = let h0 = merges-few b in let h1 = merges-few c in omega arith
   merges-few (forever c at) = let h0 = merges-few c in omega arith
   merges-few (new n D e b at) = let h0 = merges-few e in let h1 = merges-few b in omega arith
+  merges-few (cells n e b at) = let h0 = merges-few e in let h1 = merges-few b in omega arith
   merges-few (escape n b at) = let h0 = merges-few b in omega arith
   merges-few (accept n D b at) = let h0 = merges-few b in omega arith
   merges-few (put kind p at) = let h0 = merges-few p in omega arith

@@ -1,6 +1,6 @@
 -- Nodes of a phrase: a part of a node is one, it is no larger, and each has its number in preorder.
 use Rattle.std.proofs.Common.{ℕ, suc, ◌+◌, ◌≤◌, ◌≡◌, List, [], ◌∷◌, refl, ap, subst, arith}
-use Rattle.fy_phrase.specs.Tree.{Tree, Trees, no_trees, and_tree, var, lit, unary, binary, cond as conditional, case, lam, app, field, sel, merge, let_in, rec, skip, seq, assign, while_do, forever, new, escape, accept, put, read, mark}
+use Rattle.fy_phrase.specs.Tree.{Tree, Trees, no_trees, and_tree, var, lit, unary, binary, cond as conditional, case, lam, app, field, sel, merge, let_in, rec, skip, seq, assign, while_do, forever, new, cells, escape, accept, put, read, mark}
 use Rattle.fy_phrase.specs.Sizes.{nodes, all_nodes}
 use Rattle.fy_phrase.specs.WellMade.{IsClosedUnder, HasDepthsUnder}
 use Rattle.fy_derive.specs.Shapes.{of_trees, parts_of, IsNodeAt, IsNodeAmong, itself as itself_at, in_part as in_part_at, in_first as in_first_at, in_later as in_later_at}
@@ -50,6 +50,7 @@ parts-trees d (assign p q at) = refl
 parts-trees d (while_do b c at) = refl
 parts-trees d (forever c at) = refl
 parts-trees d (new n D e b at) = refl
+parts-trees d (cells n e b at) = refl
 parts-trees d (escape n b at) = refl
 parts-trees d (accept n D b at) = refl
 parts-trees d (put kind p at) = refl
@@ -96,6 +97,7 @@ parts-sizes d (assign p q at) = omega arith
 parts-sizes d (while_do b c at) = omega arith
 parts-sizes d (forever c at) = omega arith
 parts-sizes d (new n D e b at) = omega arith
+parts-sizes d (cells n e b at) = omega arith
 parts-sizes d (escape n b at) = omega arith
 parts-sizes d (accept n D b at) = omega arith
 parts-sizes d (put kind p at) = omega arith
@@ -145,6 +147,7 @@ parts-merges d (assign p q at) = (omega arith, omega arith)
 parts-merges d (while_do b c at) = (omega arith, omega arith)
 parts-merges d (forever c at) = (omega arith, omega arith)
 parts-merges d (new n D e b at) = (omega arith, omega arith)
+parts-merges d (cells n e b at) = (omega arith, omega arith)
 parts-merges d (escape n b at) = (omega arith, omega arith)
 parts-merges d (accept n D b at) = (omega arith, omega arith)
 parts-merges d (put kind p at) = (omega arith, omega arith)

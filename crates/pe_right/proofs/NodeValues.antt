@@ -2,7 +2,7 @@
 use Rattle.std.proofs.Common.{ℕ, zero, suc, ◌+◌, ◌-◌, ◌≤◌, ◌≡◌, List, [], ◌∷◌, ◌++◌, length, Option, Some, None, slice_get, refl, ap, ◌∙◌, arith}
 use Rattle.std.proofs.lemmas.List.{length-append}
 use Rattle.fy_base.specs.declared.data.Datum.{Datum}
-use Rattle.fy_phrase.specs.Tree.{Tree, Trees, no_trees, and_tree, var, lit, unary, binary, cond as conditional, case, lam, app, field, sel, merge, let_in, rec, skip, seq, assign, while_do, forever, new, escape, accept, put, read, mark}
+use Rattle.fy_phrase.specs.Tree.{Tree, Trees, no_trees, and_tree, var, lit, unary, binary, cond as conditional, case, lam, app, field, sel, merge, let_in, rec, skip, seq, assign, while_do, forever, new, cells, escape, accept, put, read, mark}
 use Rattle.fy_phrase.specs.Sizes.{nodes, all_nodes}
 use Rattle.pe_right.specs.Constants.{constant}
 use Rattle.pe_right.specs.Right.{with_depth, parts_under, IsNodeUnder, IsNodeAmongUnder, itself, in_part, in_first, in_later}
@@ -29,6 +29,7 @@ abbrev mutual
   below (while_do b c at) = constant b ∷ (below b ++ constant c ∷ (below c ++ []))
   below (forever c at) = constant c ∷ (below c ++ [])
   below (new n D e b at) = constant e ∷ (below e ++ constant b ∷ (below b ++ []))
+  below (cells n e b at) = constant e ∷ (below e ++ constant b ∷ (below b ++ []))
   below (escape n b at) = constant b ∷ (below b ++ [])
   below (accept n D b at) = constant b ∷ (below b ++ [])
   below (put kind p at) = constant p ∷ (below p ++ [])
@@ -85,6 +86,7 @@ mutual
   below-long (while_do b c at) = let a = two-long b (before c []) (nodes c) (below-long b) (one-long c (below-long c)) in omega arith
   below-long (forever c at) = let a = one-long c (below-long c) in omega arith
   below-long (new n D e b at) = let a = two-long e (before b []) (nodes b) (below-long e) (one-long b (below-long b)) in omega arith
+  below-long (cells n e b at) = let a = two-long e (before b []) (nodes b) (below-long e) (one-long b (below-long b)) in omega arith
   below-long (escape n b at) = let a = one-long b (below-long b) in omega arith
   below-long (accept n D b at) = let a = one-long b (below-long b) in omega arith
   below-long (put kind p at) = let a = one-long p (below-long p) in omega arith

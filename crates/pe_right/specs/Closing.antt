@@ -1,7 +1,7 @@
 -- Closed phrases copied in for all the variables of a phrase that are free.
 use Rattle.std.specs.Prelude.{ℕ, zero, suc, ◌+◌, ◌-◌, nat_lt, if◌then◌else◌, List, [], ◌∷◌}
 use Rattle.fy_base.specs.declared.data.Place.{Place}
-use Rattle.fy_phrase.specs.Tree.{Tree, Trees, var, lit, unary, binary, cond, case, lam, app, field, sel, merge, let_in, rec, skip, seq, assign, while_do, forever, new, escape, accept, put, read, mark, no_trees, and_tree}
+use Rattle.fy_phrase.specs.Tree.{Tree, Trees, var, lit, unary, binary, cond, case, lam, app, field, sel, merge, let_in, rec, skip, seq, assign, while_do, forever, new, cells, escape, accept, put, read, mark, no_trees, and_tree}
 
 -- the phrase with the number, or a closed one where there is none
 abbrev pub phrase_at : List Tree → ℕ → Place → Tree
@@ -31,6 +31,7 @@ abbrev mutual
   closed_by n qs (while_do b c at) = while_do (closed_by n qs b) (closed_by n qs c) at
   closed_by n qs (forever c at) = forever (closed_by n qs c) at
   closed_by n qs (new d D e b at) = new d D (closed_by n qs e) (closed_by (n + 1) qs b) at
+  closed_by n qs (cells d e b at) = cells d (closed_by n qs e) (closed_by (n + 1) qs b) at
   closed_by n qs (escape d b at) = escape d (closed_by (n + 1) qs b) at
   closed_by n qs (accept d D b at) = accept d D (closed_by (n + 1) qs b) at
   closed_by n qs (put kind p at) = put kind (closed_by n qs p) at

@@ -5,8 +5,8 @@ use Rattle.fy_base.specs.declared.data.Place.{Place}
 use Rattle.fy_base.specs.declared.data.Datum.{Datum}
 use Rattle.fy_phrase.specs.declared.phrase.MarkKind.TheVariants as marks
 use Rattle.fy_phrase.specs.Tree.{Tree, Trees, lit, skip, mark, no_trees, and_tree}
-use Rattle.fy_phrase.specs.Contexts.{CopyContext, op_1, op_l, op_r, if_c, case_c, arg_c, pick_c, then_c, assign_c, store_c, while_c, body_c, loop_c, new_c, drop_c, put_c, esc_c, Pushed}
-use Rattle.fy_phrase.specs.Copy.{Cell, CopyState}
+use Rattle.fy_phrase.specs.Contexts.{CopyContext, op_1, op_l, op_r, if_c, case_c, arg_c, pick_c, then_c, assign_c, store_c, while_c, body_c, loop_c, new_c, drop_c, put_c, esc_c, cells_c, fill_c, element_c, Pushed}
+use Rattle.fy_phrase.specs.Copy.{Row, single, CopyState}
 use Rattle.fy_derive.specs.Shapes.{IsNodeAt}
 use Rattle.pe_code.specs.declared.code.PeItem.{PeItem}
 use Rattle.pe_code.specs.declared.code.PeCode.{PeCode}
@@ -72,6 +72,9 @@ module _ (handed : Tree → Option Datum) (p : Tree) (code : PeCode) where
   ContextStands fs (drop_c n) x = x ≡ drop_c n
   ContextStands fs (put_c kind) x = x ≡ put_c kind
   ContextStands fs (esc_c n) x = x ≡ esc_c n
+  ContextStands fs (cells_c d c at) x = ⊥
+  ContextStands fs (fill_c n v d c at) x = ⊥
+  ContextStands fs (element_c n) x = ⊥
 
   -- each context stands for one, in the frames that stood when it was pushed
   abbrev pub ContextsStand : List Frame → List Held → List (Pushed CopyContext) → Type 0
@@ -86,13 +89,13 @@ module _ (handed : Tree → Option Datum) (p : Tree) (code : PeCode) where
   FocusStands fs completed q = (at : Place) × (q ≡ skip at)
 
 -- the cell of frame n, if it holds one, before the others
-abbrev pub with_cell_of : ℕ → Binding → List Cell → List Cell
+abbrev pub with_cell_of : ℕ → Binding → List Row → List Row
 with_cell_of n (to_thunk t) cs = cs
-with_cell_of n (to_cell v) cs = (record { number = n; value = v }) ∷ cs
+with_cell_of n (to_cell v) cs = (record { number = n; content = single v }) ∷ cs
 with_cell_of n to_escape cs = cs
 
 -- the cells that the frames hold
-abbrev pub cells_in : List Frame → List Cell
+abbrev pub cells_in : List Frame → List Row
 cells_in [] = []
 cells_in (f ∷ fs) = with_cell_of f.number f.binding (cells_in fs)
 

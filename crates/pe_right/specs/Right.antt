@@ -8,7 +8,7 @@ use Rattle.fy_base.specs.declared.data.PutKind.{PutKind}
 use Rattle.fy_types.specs.Types.{PlainType, PlainTypes}
 use Rattle.fy_phrase.specs.declared.phrase.DataTy.{DataTy}
 use Rattle.fy_phrase.specs.declared.shapes.ShapeTable.{ShapeTable}
-use Rattle.fy_phrase.specs.Tree.{Tree, Trees, place_of, var, lit, unary, binary, cond, case, lam, app, field, sel, merge, let_in, rec, skip, seq, assign, while_do, forever, new, escape, accept, put, read, mark, no_trees, and_tree}
+use Rattle.fy_phrase.specs.Tree.{Tree, Trees, place_of, var, lit, unary, binary, cond, case, lam, app, field, sel, merge, let_in, rec, skip, seq, assign, while_do, forever, new, cells, escape, accept, put, read, mark, no_trees, and_tree}
 use Rattle.fy_phrase.specs.Sizes.{nodes}
 use Rattle.fy_derive.specs.Kinds.{Kind, kind_of}
 use Rattle.fy_derive.specs.Shapes.{PlainShape, at_end, a_call, a_field, a_value, an_assignment, a_run, shape_begins}
@@ -46,6 +46,7 @@ parts_under d (assign p q at) = (d, p) ∷ (d, q) ∷ []
 parts_under d (while_do b c at) = (d, b) ∷ (d, c) ∷ []
 parts_under d (forever c at) = (d, c) ∷ []
 parts_under d (new n D e b at) = (d, e) ∷ (d + 1, b) ∷ []
+parts_under d (cells n e b at) = (d, e) ∷ (d + 1, b) ∷ []
 parts_under d (escape n b at) = (d + 1, b) ∷ []
 parts_under d (accept n D b at) = (d + 1, b) ∷ []
 parts_under d (put kind p at) = (d, p) ∷ []
@@ -84,6 +85,7 @@ abbrev mutual
   thunk_nodes m (while_do b c at) = thunk_nodes (m + 1) b ++ thunk_nodes (m + 1 + nodes b) c
   thunk_nodes m (forever c at) = thunk_nodes (m + 1) c
   thunk_nodes m (new d D e b at) = thunk_nodes (m + 1) e ++ thunk_nodes (m + 1 + nodes e) b
+  thunk_nodes m (cells d e b at) = thunk_nodes (m + 1) e ++ thunk_nodes (m + 1 + nodes e) b
   thunk_nodes m (escape d b at) = thunk_nodes (m + 1) b
   thunk_nodes m (accept d D b at) = thunk_nodes (m + 1) b
   thunk_nodes m (put kind p at) = thunk_nodes (m + 1) p

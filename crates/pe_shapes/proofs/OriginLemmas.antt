@@ -13,7 +13,7 @@ use Rattle.fy_phrase.specs.declared.phrase.DataTy.{DataTy}
 use Rattle.fy_phrase.specs.declared.phrase.DataTy.TheVariants as data_type
 use Rattle.fy_phrase.specs.declared.shapes.ShapeEnd.{ShapeEnd}
 use Rattle.fy_phrase.specs.declared.shapes.ShapeEnd.TheVariants as ending
-use Rattle.fy_phrase.specs.Tree.{Tree, var, lit, unary, binary, cond, case, lam, app, field, sel, merge, let_in, rec, skip, seq, assign, while_do, forever, new, escape, accept, put, read, mark}
+use Rattle.fy_phrase.specs.Tree.{Tree, var, lit, unary, binary, cond, case, lam, app, field, sel, merge, let_in, rec, skip, seq, assign, while_do, forever, new, cells, escape, accept, put, read, mark}
 use Rattle.fy_derive.specs.Atoms.{data_atom, acceptor_atom, datum_atom, unary_atom, binary_atom, operand_atom, put_atom}
 use Rattle.fy_derive.specs.Rules.{provided, same_type, is_atom, fits_operator, fits_assignment, chosen, all_same, picked_type, applied, selected, command_behind, conclusion}
 use Rattle.fy_derive.specs.Shapes.{end_shape, a_value, an_assignment}
@@ -101,6 +101,7 @@ comes_from G (assign p q at) As A e = ends (fits_assignment (type_at As 0) (type
 comes_from G (while_do b q at) As A e = ends (is_atom Truth (type_at As 0) && is_atom Comm (type_at As 1)) Comm A ending.Run refl e
 comes_from G (forever q at) As A e = ends (is_atom Comm (type_at As 0)) Compl A ending.Run refl e
 comes_from G (new d D i b at) As A e = is_command (data_atom D) (type_at As 0) (type_at As 1) A e
+comes_from G (cells d i b at) As A e = absurd cc
 comes_from G (escape d b at) As A e = ends (is_atom Comm (type_at As 0)) Comm A ending.Run refl e
 comes_from G (accept d D b at) As A e = ends (is_atom Comm (type_at As 0)) (acceptor_atom D) A ending.Assign (acceptor_end D) e
 comes_from G (put kind p at) As A e = ends (is_atom (put_atom kind) (type_at As 0)) Comm A ending.Run refl e

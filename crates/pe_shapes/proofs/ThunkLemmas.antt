@@ -1,6 +1,6 @@
 -- A phrase has no more thunks than nodes.
 use Rattle.std.proofs.Common.{◌≤◌, ◌≡◌, arith}
-use Rattle.fy_phrase.specs.Tree.{Tree, Trees, no_trees, and_tree, var, lit, unary, binary, cond, case, lam, app, field, sel, merge, let_in, rec, skip, seq, assign, while_do, forever, new, escape, accept, put, read, mark}
+use Rattle.fy_phrase.specs.Tree.{Tree, Trees, no_trees, and_tree, var, lit, unary, binary, cond, case, lam, app, field, sel, merge, let_in, rec, skip, seq, assign, while_do, forever, new, cells, escape, accept, put, read, mark}
 use Rattle.fy_phrase.specs.Sizes.{nodes, all_nodes, greatest_u32}
 use Rattle.fy_derive.specs.Shapes.{thunks, all_thunks}
 
@@ -25,6 +25,7 @@ mutual
   thunks-few (while_do b c at) = omega (arith, thunks-few b, thunks-few c)
   thunks-few (forever c at) = omega (arith, thunks-few c)
   thunks-few (new d D e b at) = omega (arith, thunks-few e, thunks-few b)
+  thunks-few (cells d e b at) = omega (arith, thunks-few e, thunks-few b)
   thunks-few (escape d b at) = omega (arith, thunks-few b)
   thunks-few (accept d D b at) = omega (arith, thunks-few b)
   thunks-few (put kind p at) = omega (arith, thunks-few p)

@@ -5,7 +5,7 @@ use Rattle.fy_phrase.specs.declared.shapes.ShapeElem.TheVariants as elem
 use Rattle.fy_phrase.specs.declared.shapes.ShapeEnd.TheVariants as ending
 use Rattle.fy_types.specs.declared.types.Atom.{Atom}
 use Rattle.fy_types.specs.Types.{PlainType, atom, arrow, field as field_type}
-use Rattle.fy_phrase.specs.Tree.{Tree, var, lit, unary, binary, cond, case, lam, app, field, sel, merge, let_in, rec, skip, seq, assign, while_do, forever, new, escape, accept, put, read, mark}
+use Rattle.fy_phrase.specs.Tree.{Tree, var, lit, unary, binary, cond, case, lam, app, field, sel, merge, let_in, rec, skip, seq, assign, while_do, forever, new, cells, escape, accept, put, read, mark}
 use Rattle.fy_derive.specs.Shapes.{end_shape}
 use Rattle.fy_derive.specs.ShapeTables.{plain_end}
 use Rattle.fy_derive.specs.Tables.{type_at}
@@ -32,6 +32,7 @@ origin (assign p q at) = End ending.Run
 origin (while_do b c at) = End ending.Run
 origin (forever c at) = End ending.Run
 origin (new d D e b at) = Second
+origin (cells d e b at) = Nothing
 origin (escape d b at) = End ending.Run
 origin (accept d D b at) = End ending.Assign
 origin (put kind p at) = End ending.Run

@@ -80,6 +80,7 @@ pub fn parts<'a>(alloc: Global, p: &'a Phrase) -> Result<Vec<Part<'a>>, OutOfMem
         Phrase::Binary(_, p, q, _)
         | Phrase::App(p, q, _)
         | Phrase::Merge(p, q, _)
+        | Phrase::Cells(_, p, q, _)
         | Phrase::Seq(p, q, _)
         | Phrase::Assign(p, q, _)
         | Phrase::WhileDo(p, q, _) => {
@@ -170,6 +171,7 @@ pub fn alternative(p: &Phrase, index: u32) -> Option<(&Ty, &Phrase)>
         | Phrase::WhileDo(..)
         | Phrase::Forever(..)
         | Phrase::New(..)
+        | Phrase::Cells(..)
         | Phrase::Escape(..)
         | Phrase::Accept(..)
         | Phrase::Put(..)
@@ -202,6 +204,7 @@ pub fn operands(p: &Phrase) -> Option<(&Phrase, &Phrase)>
         | Phrase::WhileDo(..)
         | Phrase::Forever(..)
         | Phrase::New(..)
+        | Phrase::Cells(..)
         | Phrase::Escape(..)
         | Phrase::Accept(..)
         | Phrase::Put(..)

@@ -52,7 +52,8 @@ pub fn thunks_of(p: &Phrase) -> u32
         | Phrase::Seq(p, q, _)
         | Phrase::Assign(p, q, _)
         | Phrase::WhileDo(p, q, _)
-        | Phrase::New(_, _, p, q, _) => thunks_of(p).saturating_add(thunks_of(q)),
+        | Phrase::New(_, _, p, q, _)
+        | Phrase::Cells(_, p, q, _) => thunks_of(p).saturating_add(thunks_of(q)),
         Phrase::App(p, q, _) | Phrase::LetIn(_, p, q, _) => thunks_of(p)
             .saturating_add(thunks_of(q))
             .saturating_add(1),

@@ -3,7 +3,7 @@ use Rattle.std.specs.Prelude.{◌≡◌, ℕ, suc, ◌+◌, ◌^◌, ◌<◌, �
 use Rattle.std.specs.declared.option.Option.{Option}
 use Rattle.fy_base.specs.declared.data.Place.{Place}
 use Rattle.fy_base.specs.declared.data.Datum.{Datum}
-use Rattle.fy_phrase.specs.Contexts.{op_1, op_l, op_r, if_c, case_c, arg_c, pick_c, then_c, assign_c, store_c, while_c, body_c, loop_c, new_c, drop_c, put_c, esc_c}
+use Rattle.fy_phrase.specs.Contexts.{op_1, op_l, op_r, if_c, case_c, arg_c, pick_c, then_c, assign_c, store_c, while_c, body_c, loop_c, new_c, drop_c, put_c, esc_c, cells_c, fill_c, element_c}
 use Rattle.pe_code.specs.declared.code.PeInsn.{PeInsn}
 use Rattle.pe_code.specs.declared.code.PeInsn.TheVariants as insn
 use Rattle.pe_code.specs.declared.code.PeCode.{PeCode}
@@ -120,6 +120,9 @@ HasParts code depths (new_c d body) w0 w2 w3 = (a x : ℕ) × (at : Place) × Is
 HasParts code depths (drop_c n) w0 w2 w3 = w0 ≡ entry_word pop_entry
 HasParts code depths (put_c kind) w0 w2 w3 = w0 ≡ entry_word (put_entry kind)
 HasParts code depths (esc_c n) w0 w2 w3 = w0 ≡ entry_word pop_entry
+HasParts code depths (cells_c d body at) w0 w2 w3 = ⊥
+HasParts code depths (fill_c n v d body at) w0 w2 w3 = ⊥
+HasParts code depths (element_c n) w0 w2 w3 = ⊥
 
 -- a context that stands on these items
 pub record ContextIsLaid (code : PeCode) (words : List ℕ) (is : List Item) (content : PeContext) (outside : ℕ) : Type 0 where

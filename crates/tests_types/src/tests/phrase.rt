@@ -34,6 +34,7 @@ fn with_two(letter: u8, a: Box<Phrase>, b: Box<Phrase>) -> Phrase {
     match letter {
         b'A' => Phrase::Assign(a, b, AT),
         b'C' => Phrase::App(a, b, AT),
+        b'K' => Phrase::Cells(3, a, b, AT),
         b'L' => Phrase::LetIn(4, a, b, AT),
         b'M' => Phrase::Merge(a, b, AT),
         b'N' => Phrase::New(5, DataTy::Int, a, b, AT),
@@ -110,7 +111,7 @@ fn phrase_of(alloc: Global, letters: &[u8]) -> Result<Phrase, Fail> {
 // Phrases of all forms in reverse Polish notation, a letter for each node. In these expressions variable 0 stands three times.
 const EXPRESSIONS: &[u8] = b"2n0P004#5?fs";
 
-const COMMANDS: &[u8] = b"1pb4aM0Clr201AN34eiWQL";
+const COMMANDS: &[u8] = b"1pb4aM0Clr201AN324KeiWQL";
 
 const DEPTHS: &[(&[u8], u32)] = &[(EXPRESSIONS, 0), (COMMANDS, 7)];
 
@@ -133,7 +134,7 @@ fn closes_every_form(rt: HostRuntime) -> Result<(), Fail> {
     let actual = phrase_of(alloc, EXPRESSIONS)?;
     let body = phrase_of(alloc, COMMANDS)?;
     let closed = close_with(alloc, &actual, &body)?;
-    assert!(rt; node_count(&closed) == 12 + 3 * 21 && depth_of(&closed) == 7);
+    assert!(rt; node_count(&closed) == 12 + 3 * 23 && depth_of(&closed) == 7);
     assert_eq!(rt; closed.place(), AT);
     Ok(())
 }

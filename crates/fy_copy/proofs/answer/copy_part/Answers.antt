@@ -2,7 +2,7 @@ use Rattle.std.proofs.Common.{sym, ap, ◌∙◌}
 use Rattle.std.specs.Prelude.{Some}
 use Rattle.fy_phrase.specs.Reads.{reads}
 use Rattle.fy_phrase.specs.Copy.{part_at}
-use Rattle.fy_copy.proofs.CellLemmas.{part_at-in, part_at-past}
+use Rattle.fy_copy.proofs.StoreLemmas.{part_at-in, part_at-past}
 use Rattle.fy_copy.proofs.answer.copy_part.Goals as goal
 
 pub returns-in_ok-copy_phrase-in-Some : goal.returns-in_ok-copy_phrase-in-Some

@@ -168,6 +168,9 @@ found_in-returns-in-Read-clause-large = forms.found_in-returns-in-Read-clause-la
 pub found_in-returns-in-Mark-clause-ok : goal.found_in-returns-in-Mark-clause-ok
 found_in-returns-in-Mark-clause-ok = forms.found_in-returns-in-Mark-clause-ok
 
+pub found_in-returns-in-Cells-clause-ok : goal.found_in-returns-in-Cells-clause-ok
+found_in-returns-in-Cells-clause-ok = forms.found_in-returns-in-Cells-clause-ok
+
 pub found_in_unary-returns-in_err-part-clause-large : goal.found_in_unary-returns-in_err-part-clause-large
 found_in_unary-returns-in_err-part-clause-large t c =
     let G = scope_forms c.args.scope.now in

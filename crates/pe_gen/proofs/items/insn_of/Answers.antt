@@ -3,10 +3,10 @@ use Rattle.fy_types.specs.Reading.{plain_type, plain_types}
 use Rattle.fy_phrase.specs.declared.shapes.ShapeElem.TheVariants as elem
 use Rattle.fy_phrase.specs.Reads.{reads, reads_parts}
 use Rattle.fy_phrase.specs.Sizes.{nodes}
-use Rattle.fy_phrase.specs.Tree.{var, lit, unary, binary, cond, case, lam, app, field, sel, let_in, rec, skip, seq, assign, while_do, forever, new, escape, accept, put, read, mark}
+use Rattle.fy_phrase.specs.Tree.{var, lit, unary, binary, cond, case, lam, app, field, sel, let_in, rec, skip, seq, assign, while_do, forever, new, cells, escape, accept, put, read, mark}
 use Rattle.fy_derive.specs.Shapes.{at_end, a_value, a_run}
 use Rattle.fy_derive.specs.ShapeTables.{HasPairOf}
-use Rattle.fy_derive.proofs.FormLemmas.{Var-tree, Unary-tree, Binary-tree, Cond-tree, Case-tree, Lam-tree, App-tree, Field-tree, Sel-tree, Merge-tree, LetIn-tree, Rec-tree, Seq-tree, Assign-tree, WhileDo-tree, Forever-tree, New-tree, Escape-tree, Accept-tree, Put-tree, Read-tree}
+use Rattle.fy_derive.proofs.FormLemmas.{Var-tree, Unary-tree, Binary-tree, Cond-tree, Case-tree, Lam-tree, App-tree, Field-tree, Sel-tree, Merge-tree, LetIn-tree, Rec-tree, Seq-tree, Assign-tree, WhileDo-tree, Forever-tree, New-tree, Escape-tree, Accept-tree, Put-tree, Read-tree, Cells-tree}
 use Rattle.pe_code.specs.declared.code.PeInsn.TheVariants as insn
 use Rattle.pe_gen.specs.Plan.{nodes_in, AreDue}
 use Rattle.pe_right.specs.Right.{is_variable}
@@ -211,12 +211,16 @@ entry_at-requires-clause-asked c =
     let a = form-asks c.args.plan.now c.args.site.node c.args.site.shape (reads c.args.phrase.now) (rec c.in-Rec.field-0 (plain_type c.in-Rec.field-1) (reads c.in-Rec.field-2.value) c.in-Rec.field-3) (Rec-tree c.args.phrase.now c.in-Rec.field-0 c.in-Rec.field-1 c.in-Rec.field-2 c.in-Rec.field-3 c.in-Rec.is) c.requires.asked in
     (c.requires.asked.0, c.requires.asked.1, a.1)
 
-pub unreachable-requires : goal.unreachable-requires
-unreachable-requires c =
+pub unreachable-requires-in-Merge : goal.unreachable-requires-in-Merge
+unreachable-requires-in-Merge c =
     elim c.in-Merge.is [
       | inl x ↦ let e = sym (ap is_merge (Merge-tree c.args.phrase.now x.0 x.1 x.2 x.3)) ∙ c.requires.whole in absurd cc
       | inr x ↦ form-asks c.args.plan.now c.args.site.node c.args.site.shape (reads c.args.phrase.now) (mark x.0 x.1) (Mark-tree c.args.phrase.now x.0 x.1 x.2) c.requires.asked
     ]
+
+pub unreachable-requires : goal.unreachable-requires
+unreachable-requires c =
+    form-asks c.args.plan.now c.args.site.node c.args.site.shape (reads c.args.phrase.now) (cells c.in-Cells.field-0 (reads c.in-Cells.field-1.value) (reads c.in-Cells.field-2.value) c.in-Cells.field-3) (Cells-tree c.args.phrase.now c.in-Cells.field-0 c.in-Cells.field-1 c.in-Cells.field-2 c.in-Cells.field-3 c.in-Cells.is) c.requires.asked
 
 pub returns-in-Var : goal.returns-in-Var
 returns-in-Var c = λ s is.
