@@ -1,9 +1,10 @@
 -- Push-enter code: what its instructions name, and where nodes are entered.
-use Rattle.std.specs.Prelude.{ℕ, ◌==◌, ◌&&◌, if◌then◌else◌, List, [], ◌∷◌, slice_get, Option, Some, None}
+use Rattle.std.specs.Prelude.{ℕ, ◌==◌, ◌&&◌, Bool, true, false, if◌then◌else◌, List, [], ◌∷◌, slice_get, Option, Some, None}
 use Rattle.pe_code.specs.declared.code.PeInsn.{PeInsn}
 use Rattle.pe_code.specs.declared.code.PeInsn.TheVariants as insn
 use Rattle.pe_code.specs.declared.code.PeItem.{PeItem}
 use Rattle.pe_code.specs.declared.code.Entry.{Entry}
+use Rattle.pe_code.specs.declared.code.SequenceShapes.{SequenceShapes}
 use Rattle.pe_code.specs.declared.code.PeCode.{PeCode}
 
 -- the item at the address
@@ -43,6 +44,7 @@ beside (insn.Assign x y) = x ∷ y ∷ []
 beside (insn.While x y) = x ∷ y ∷ []
 beside (insn.Loop x) = x ∷ []
 beside (insn.New x y) = x ∷ []
+beside (insn.Cells x y) = x ∷ []
 beside (insn.Escape y) = []
 beside (insn.Accept y) = []
 beside (insn.Put kind x) = x ∷ []
@@ -72,6 +74,7 @@ body_of (insn.Assign x y) = None
 body_of (insn.While x y) = None
 body_of (insn.Loop x) = None
 body_of (insn.New x y) = Some y
+body_of (insn.Cells x y) = Some y
 body_of (insn.Escape y) = Some y
 body_of (insn.Accept y) = Some y
 body_of (insn.Put kind x) = None
@@ -100,3 +103,12 @@ node_of _ = None
 abbrev pub picked_from : PeInsn → List ℕ
 picked_from (insn.Case x ys) = ys
 picked_from _ = []
+
+-- no sequence of cells is used at any shape
+abbrev pub no_sequences : SequenceShapes
+no_sequences = record { value = None; element = None; assigned_element = None; row_length = None }
+
+-- whether it makes a sequence of cells
+abbrev pub makes_cells : PeInsn → Bool
+makes_cells (insn.Cells x y) = true
+makes_cells _ = false

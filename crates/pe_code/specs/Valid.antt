@@ -1,10 +1,11 @@
 -- Valid code.
-use Rattle.std.specs.Prelude.{ℕ, ◌+◌, ◌*◌, ◌<◌, ◌≤◌, ◌≡◌, List, [], ◌∷◌, length, slice_get, All, Some}
+use Rattle.std.specs.Prelude.{ℕ, ◌+◌, ◌*◌, ◌<◌, ◌≤◌, ◌≡◌, false, List, [], ◌∷◌, length, slice_get, All, Option, Some}
 use Rattle.std.specs.Option.{ForSome}
 use Rattle.pe_code.specs.declared.code.PeItem.{PeItem}
 use Rattle.pe_code.specs.declared.code.Entry.{Entry}
+use Rattle.pe_code.specs.declared.code.SequenceShapes.{SequenceShapes}
 use Rattle.pe_code.specs.declared.code.PeCode.{PeCode}
-use Rattle.pe_code.specs.Code.{item_at, beside, body_of, variable_of, shape_of, node_of, picked_from}
+use Rattle.pe_code.specs.Code.{item_at, beside, body_of, variable_of, shape_of, node_of, picked_from, makes_cells}
 
 -- the address leads to an item of the depth
 pub record LeadsTo (code : PeCode) (depth address : ℕ) : Type 0 where
@@ -18,9 +19,10 @@ pub record IsThunkNode (code : PeCode) (depth node : ℕ) : Type 0 where
   pub listed : slice_get code.thunks place ≡ Some node
   pub led : All (λ e. e.node ≡ node → LeadsTo code depth e.address) code.entries
 
--- what an item names is there, at the depth that it asks for
+-- what an item names is there, at the depth that it asks for; no image makes a sequence of cells
 pub record IsSoundItem (code : PeCode) (item : PeItem) : Type 0 where
   pub depth : item.depth ≤ 512
+  pub no_cells : makes_cells item.insn ≡ false
   pub beside_it : All (λ a. LeadsTo code item.depth a) (beside item.insn)
   pub body : ForSome (body_of item.insn) (λ a. LeadsTo code (item.depth + 1) a)
   pub variable : ForSome (variable_of item.insn) (λ k. k < item.depth)
@@ -42,6 +44,14 @@ abbrev pub AreOnce : List Entry → Type 0
 AreOnce es =
     (i j : ℕ) (d e : Entry) → slice_get es i ≡ Some d → slice_get es j ≡ Some e → d.node ≡ e.node → d.shape ≡ e.shape → i ≡ j
 
+-- the numbers of the shapes by which sequences of cells are entered, where they are among the shapes
+abbrev pub asked_sequences : SequenceShapes → List (Option ℕ)
+asked_sequences shapes = shapes.value ∷ shapes.element ∷ shapes.assigned_element ∷ shapes.row_length ∷ []
+
+-- and of that by which a cell is assigned
+abbrev pub asked_shapes : PeCode → List (Option ℕ)
+asked_shapes code = code.assignment ∷ asked_sequences code.sequences
+
 -- code that the machine and the selection take
 pub record IsValid (code : PeCode) : Type 0 where
   pub some : 1 ≤ length code.items
@@ -51,5 +61,5 @@ pub record IsValid (code : PeCode) : Type 0 where
   pub parts : all_picked_from code.items ≤ length code.items
   pub entries : All (λ e. IsSoundEntry code e) code.entries
   pub once : AreOnce code.entries
-  pub assignment : ForSome code.assignment (λ s. s < code.shapes)
+  pub asked : All (λ o. ForSome o (λ s. s < code.shapes)) (asked_shapes code)
   pub words : code.shapes * (4 + length code.thunks) ≤ 1048576

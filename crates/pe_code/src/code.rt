@@ -48,6 +48,8 @@ pub enum PeInsn {
     Loop(u32),
     /// The first value of a new variable, and what it stands in.
     New(u32, u32),
+    /// The number of cells of a new sequence, and what it stands in.
+    Cells(u32, u32),
     Escape(u32),
     /// Takes an assigned value for its body.
     Accept(u32),
@@ -57,7 +59,7 @@ pub enum PeInsn {
 
 impl PeInsn {
     ghost use Rattle.std.specs.Prelude.{◌≡◌};
-    ghost use Rattle.pe_code.specs.Code.{body_of, variable_of, shape_of, node_of, picked_from};
+    ghost use Rattle.pe_code.specs.Code.{body_of, variable_of, shape_of, node_of, picked_from, makes_cells};
 
     /// The address of its body under its binder, or `None` where it has no binder.
     pub fn body(&self) -> Option<u32>
@@ -70,6 +72,7 @@ impl PeInsn {
             | PeInsn::LetData(_, body)
             | PeInsn::Knot(_, body)
             | PeInsn::New(_, body)
+            | PeInsn::Cells(_, body)
             | PeInsn::Escape(body)
             | PeInsn::Accept(body) => Some(*body),
             _ => None,
@@ -117,6 +120,16 @@ impl PeInsn {
             _ => &[],
         }
     }
+
+    /// Whether it makes a sequence of cells.
+    pub fn makes_cells(&self) -> bool
+        ensures { result ≡ makes_cells self.now }
+    {
+        match self {
+            PeInsn::Cells(..) => true,
+            _ => false,
+        }
+    }
 }
 
 /// An instruction, the number of binders around its node in the source, and the node's place.
@@ -147,6 +160,16 @@ impl Entry {
     }
 }
 
+/// The numbers of the shapes that sequences of cells are used at, each `None` where the shape isn't among them: the shape of a value, at which an index is entered;
+/// those of a procedure that gives a value or takes an assignment, at which a cell is read or written; and that of the selection of `len` from a record of values.
+#[derive(Clone, Copy, PartialEq, Eq, Debug)]
+pub struct SequenceShapes {
+    pub value: Option<u32>,
+    pub element: Option<u32>,
+    pub assigned_element: Option<u32>,
+    pub row_length: Option<u32>,
+}
+
 /// Code for a phrase. Item 0 is the program.
 #[derive(Debug, Drop)]
 pub struct PeCode {
@@ -156,6 +179,8 @@ pub struct PeCode {
     pub shapes: u32,
     /// The number of the shape that asks for an assignment and nothing before it, if it is among them: at this shape a cell is written, and at any other it is read.
     pub assignment: Option<u32>,
+    /// The numbers of the shapes at which a sequence of cells is used, and its index entered.
+    pub sequences: SequenceShapes,
     /// The nodes that thunks are made of, one for each call, definition and recursion, in preorder of these.
     pub thunks: NodeList,
 }

@@ -7,7 +7,7 @@ mod lists;
 mod print;
 mod valid;
 
-pub use code::{AddressList, Entry, PeCode, PeInsn, PeItem, PeItemList};
+pub use code::{AddressList, Entry, PeCode, PeInsn, PeItem, PeItemList, SequenceShapes};
 pub use lists::{EntryList, NodeList};
 pub use print::print_pe;
 pub use valid::is_valid;

@@ -47,6 +47,7 @@ fn put_insn(text: &mut Text, names: &Names, insn: &PeInsn) -> Result<(), OutOfMe
         PeInsn::While(x, y) => put_line(text, b"while", &[*x, *y]),
         PeInsn::Loop(x) => put_line(text, b"loop", &[*x]),
         PeInsn::New(x, body) => put_line(text, b"new", &[*x, *body]),
+        PeInsn::Cells(x, body) => put_line(text, b"cells", &[*x, *body]),
         PeInsn::Escape(body) => put_line(text, b"escape", &[*body]),
         PeInsn::Accept(body) => put_line(text, b"accept", &[*body]),
         PeInsn::Put(kind, x) => put_worded(text, b"put", kind_word(*kind), &[*x]),

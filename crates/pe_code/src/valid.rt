@@ -1,10 +1,10 @@
 //! Which code is valid.
 
-ghost use Rattle.std.specs.Prelude.{◌≡◌, ℕ, ◌+◌, ◌*◌, ◌<◌, ◌≤◌, ◌↔◌, All, IsTrue, length};
+ghost use Rattle.std.specs.Prelude.{◌≡◌, ℕ, ◌+◌, ◌*◌, ◌<◌, ◌≤◌, ◌↔◌, false, All, IsTrue, length};
 ghost use Rattle.std.specs.Option.{ForSome};
 ghost use Rattle.pe_code.specs.Entries.{AreInOrder};
-ghost use Rattle.pe_code.specs.Code.{beside};
-ghost use Rattle.pe_code.specs.Valid.{LeadsTo, IsThunkNode, IsSoundItem, all_picked_from, IsSoundEntry, AreOnce, IsValid};
+ghost use Rattle.pe_code.specs.Code.{beside, makes_cells};
+ghost use Rattle.pe_code.specs.Valid.{LeadsTo, IsThunkNode, IsSoundItem, all_picked_from, IsSoundEntry, AreOnce, IsValid, asked_shapes};
 
 use crate::code::{Entry, PeCode, PeInsn, PeItem};
 
@@ -15,7 +15,7 @@ const MOST_DEPTH: u32 = 512;
 const MOST_WORDS: usize = 1_048_576;
 
 /// Whether the machine and the selection take the code: it has 1 to 65,536 items, of which the first stands under no
-/// binder; each item is at most 512 deep, and all that it names is there, at the depth that it asks for; the items pick
+/// binder; each item is at most 512 deep and makes no sequence of cells, and all that it names is there, at the depth that it asks for; the items pick
 /// from no more parts together than there are items; each entry leads to an item, and has a shape that is there and a
 /// node that has no other entry for it; and the table of all shapes and thunk nodes has at most 1,048,576 words. It
 /// takes no memory.
@@ -30,7 +30,7 @@ pub fn is_valid(code: &PeCode) -> bool
         && are_few_parts(items)
         && are_sound_entries(code, entries)
         && are_once(entries)
-        && is_below(code.assignment, code.shapes)
+        && are_sound_shapes(code)
         && are_few_words(code.shapes, code.thunks.as_slice())
 }
 
@@ -81,12 +81,19 @@ fn are_sound_items(code: &PeCode, items: &[PeItem]) -> bool
 fn is_sound_item(code: &PeCode, item: &PeItem) -> bool
     ensures { IsTrue result ↔ IsSoundItem code.now item.now }
 {
-    item.depth <= MOST_DEPTH
+    is_allowed(item)
         && has_sound_parts(code, item.depth, &item.insn)
         && has_sound_body(code, item.depth + 1, item.insn.body())
         && is_below(item.insn.variable(), item.depth)
         && is_below(item.insn.shape(), code.shapes)
         && has_sound_node(code, item.depth, item.insn.node())
+}
+
+// Whether it isn't too deep, and makes no sequence of cells.
+fn is_allowed(item: &PeItem) -> bool
+    ensures { IsTrue result ↔ ((item.now.depth ≤ 512) × (makes_cells item.now.insn ≡ false)) }
+{
+    item.depth <= MOST_DEPTH && !item.insn.makes_cells()
 }
 
 fn has_sound_parts(code: &PeCode, depth: u32, insn: &PeInsn) -> bool
@@ -101,6 +108,7 @@ fn has_sound_parts(code: &PeCode, depth: u32, insn: &PeInsn) -> bool
         | PeInsn::Pick(_, x)
         | PeInsn::Loop(x)
         | PeInsn::New(x, _)
+        | PeInsn::Cells(x, _)
         | PeInsn::Put(_, x)
         | PeInsn::Read(x) => all_lead(code, depth, &[*x]),
         PeInsn::Op2(_, x, y) | PeInsn::Seq(x, y) | PeInsn::Assign(x, y) | PeInsn::While(x, y) =>
@@ -154,6 +162,27 @@ fn is_below(number: Option<u32>, bound: u32) -> bool
         Some(number) => number < bound,
         None => true,
     }
+}
+
+// Whether the numbers of shapes are below their count.
+fn are_sound_shapes(code: &PeCode) -> bool
+    ensures { IsTrue result ↔ All (λ o. ForSome o (λ s. s < code.now.shapes)) (asked_shapes code.now) }
+{
+    let shapes = code.sequences;
+    let asked = [
+        code.assignment,
+        shapes.value,
+        shapes.element,
+        shapes.assigned_element,
+        shapes.row_length,
+    ];
+    are_below(&asked, code.shapes)
+}
+
+fn are_below(numbers: &[Option<u32>], bound: u32) -> bool
+    ensures { IsTrue result ↔ All (λ o. ForSome o (λ n. n < bound)) numbers.now }
+{
+    numbers.iter().all(|number| is_below(*number, bound))
 }
 
 // Whether the items pick from no more parts, all together, than there are items.

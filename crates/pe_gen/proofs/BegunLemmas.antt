@@ -14,7 +14,7 @@ use Rattle.fy_derive.specs.Shapes.{at_end, a_run, an_assignment, IsClosed}
 use Rattle.fy_derive.specs.ShapeTables.{shape_at, HasPairOf, IsShapeTable}
 use Rattle.pe_code.specs.declared.code.PeCode.{PeCode}
 use Rattle.pe_code.specs.declared.code.PeItem.{PeItem}
-use Rattle.pe_code.specs.Code.{address_in}
+use Rattle.pe_code.specs.Code.{address_in, no_sequences}
 use Rattle.pe_gen.specs.declared.plan.Plan.{Plan}
 use Rattle.pe_gen.specs.declared.steps.ShapeStep.{ShapeStep}
 use Rattle.pe_gen.specs.declared.steps.ShapeStep.TheVariants.{End}
@@ -145,8 +145,8 @@ module _ (p : Tree) (table : ShapeTable) (ns : List (ℕ × Tree)) (steps : List
         ((i : ℕ) (x : Pair) (item : PeItem) → slice_get sites i ≡ Some x → slice_get code.items i ≡ Some item → IsItemIn plan x item) →
         code.shapes ≡ length table.shapes →
         MatchOption code.assignment ((n : ℕ) → slice_get steps n ≢ Some (End ending.Assign)) (λ n. slice_get steps n ≡ Some (End ending.Assign)) →
-        code.thunks ≡ thunks_from 0 ns → IsMade p table code
-    code-made code is_entries at_zero run every items shapes assignment thunks = record {
+        code.sequences ≡ no_sequences → code.thunks ≡ thunks_from 0 ns → IsMade p table code
+    code-made code is_entries at_zero run every items shapes assignment sequences thunks = record {
       closed = closed;
       sound = b.its.pairs.sound;
       scoped = b.scoped;
@@ -165,6 +165,7 @@ module _ (p : Tree) (table : ShapeTable) (ns : List (ℕ × Tree)) (steps : List
           (items i x item at here d q s (ap (λ xs. slice_get xs x.node) (is_nodes ∙ b.made) ∙ node) (subst (λ u. shape_at u x.shape ≡ Some s) (sym is_table) is) code is_entries);
       shapes = shapes;
       assignment = λ n. (named code.assignment assignment n, unnamed code.assignment assignment n);
+      sequences = sequences;
       thunks = thunks ∙ (ap (thunks_from 0) b.made ∙ thunks_from-preorder 0 0 p);
     }
       where

@@ -101,6 +101,7 @@ module _ (p : Tree) (table : ShapeTable) (code made : PeCode) (direct : IsDirect
     right = λ d k a q s node e. kept-right q d k a s node (right.right d k a q s node (leaves k e));
     shapes = direct.shapes ∙ right.shapes;
     assignment = λ n. let r = right.assignment n in (λ h. r.0 (sym direct.assignment ∙ h), λ h. direct.assignment ∙ r.1 h);
+    sequences = direct.sequences ∙ right.sequences;
     thunks = direct.thunks ∙ right.thunks;
   }
 

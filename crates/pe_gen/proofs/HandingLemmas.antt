@@ -46,8 +46,8 @@ module _ (p : Tree) (ns : List (ℕ × Tree)) (made : ns ≡ preorder 0 p) where
 
   -- code with the items of another one, with data, and all else as there
   pub direct-of : (code new : PeCode) → new.items ≡ map (item_with_data ns) code.items → new.entries ≡ code.entries → new.shapes ≡ code.shapes →
-      new.assignment ≡ code.assignment → new.thunks ≡ code.thunks → IsDirectOf p code new
-  direct-of code new items entries shapes assignment thunks = record {
+      new.assignment ≡ code.assignment → new.sequences ≡ code.sequences → new.thunks ≡ code.thunks → IsDirectOf p code new
+  direct-of code new items entries shapes assignment sequences thunks = record {
     count = ap length items ∙ length-map code.items (item_with_data ns);
     items = λ a old at. (
       item_with_data ns old,
@@ -57,5 +57,6 @@ module _ (p : Tree) (ns : List (ℕ × Tree)) (made : ns ≡ preorder 0 p) where
     entries = entries;
     shapes = shapes;
     assignment = assignment;
+    sequences = sequences;
     thunks = thunks;
   }

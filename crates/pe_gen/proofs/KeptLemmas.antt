@@ -1,5 +1,5 @@
 -- Code in which constants are handed as data is valid and of its phrase's sizes where the code given is.
-use Rattle.std.proofs.Common.{ℕ, suc, ◌+◌, ◌*◌, ◌≤◌, ◌≡◌, List, [], ◌∷◌, length, Some, refl, ap, sym, ◌∙◌, subst, arith}
+use Rattle.std.proofs.Common.{ℕ, suc, ◌+◌, ◌*◌, ◌<◌, ◌≤◌, ◌≡◌, List, [], ◌∷◌, length, Option, Some, refl, ap, sym, ◌∙◌, subst, arith}
 use Rattle.std.specs.List.{All}
 use Rattle.std.specs.Option.{ForSome}
 use Rattle.std.specs.Prelude.{slice_get}
@@ -9,11 +9,12 @@ use Rattle.fy_phrase.specs.Sizes.{depth}
 use Rattle.fy_phrase.specs.Tree.{Tree}
 use Rattle.pe_code.specs.declared.code.Entry.{Entry}
 use Rattle.pe_code.specs.declared.code.PeCode.{PeCode}
+use Rattle.pe_code.specs.declared.code.SequenceShapes.{SequenceShapes}
 use Rattle.pe_code.specs.declared.code.PeInsn.{PeInsn}
 use Rattle.pe_code.specs.declared.code.PeItem.{PeItem}
-use Rattle.pe_code.specs.Code.{address_in, beside, body_of, variable_of, shape_of, node_of, picked_from}
+use Rattle.pe_code.specs.Code.{address_in, beside, body_of, variable_of, shape_of, node_of, picked_from, makes_cells}
 use Rattle.pe_code.specs.Entries.{AreInOrder}
-use Rattle.pe_code.specs.Valid.{LeadsTo, IsThunkNode, IsSoundItem, IsSoundEntry, all_picked_from, AreOnce, IsValid}
+use Rattle.pe_code.specs.Valid.{LeadsTo, IsThunkNode, IsSoundItem, IsSoundEntry, all_picked_from, AreOnce, asked_sequences, asked_shapes, IsValid}
 use Rattle.pe_right.specs.Direct.{IsHanded, passed, bound, same, IsItemHanded, IsDirectOf}
 use Rattle.fy_phrase.specs.declared.shapes.Pair.{Pair}
 use Rattle.pe_gen.specs.Layout.{IsOwn, IsLaidOut}
@@ -45,6 +46,11 @@ same-shape : {p : Tree} {i j : PeInsn} → IsHanded p i j → shape_of j ≡ sha
 same-shape (passed c) = refl
 same-shape (bound c) = refl
 same-shape (same none) = refl
+
+same-cells : {p : Tree} {i j : PeInsn} → IsHanded p i j → makes_cells i ≡ makes_cells j
+same-cells (passed c) = refl
+same-cells (bound c) = refl
+same-cells (same none) = refl
 
 same-picked : {p : Tree} {i j : PeInsn} → IsHanded p i j → picked_from j ≡ picked_from i
 same-picked (passed c) = refl
@@ -87,6 +93,7 @@ module _ (p : Tree) (code made : PeCode) (direct : IsDirectOf p code made) where
   sound : (old new : PeItem) → IsItemHanded p old new → IsSoundItem code old → IsSoundItem made new
   sound old new h s = record {
     depth = omega (arith, h.depth, s.depth);
+    no_cells = sym (same-cells h.insn) ∙ s.no_cells;
     beside_it =
         let there = All-weaker (λ a. LeadsTo code old.depth a) (λ a. LeadsTo made old.depth a) (λ a l. leads l) (beside old.insn) s.beside_it in
         subst (λ xs. All (λ a. LeadsTo made new.depth a) xs) (sym (same-beside h.insn)) (subst (λ d. All (λ a. LeadsTo made d a) (beside old.insn)) (sym h.depth) there);
@@ -116,7 +123,10 @@ module _ (p : Tree) (code made : PeCode) (direct : IsDirectOf p code made) where
     entries = subst (λ es. All (λ e. IsSoundEntry made e) es) (sym direct.entries)
         (All-weaker (λ e. IsSoundEntry code e) (λ e. IsSoundEntry made e) (λ e s. record { address = omega (arith, s.address, direct.count); shape = omega (arith, s.shape, direct.shapes) }) code.entries v.entries);
     once = subst AreOnce (sym direct.entries) v.once;
-    assignment = λ n e. let w = v.assignment n (sym direct.assignment ∙ e) in omega (arith, w, direct.shapes);
+    asked =
+        subst (λ (a : Option ℕ). All (λ o. ForSome o (λ s. s < made.shapes)) (a ∷ asked_sequences made.sequences)) (sym direct.assignment)
+        (subst (λ (q : SequenceShapes). All (λ o. ForSome o (λ s. s < made.shapes)) (code.assignment ∷ asked_sequences q)) (sym direct.sequences)
+        (subst (λ n. All (λ o. ForSome o (λ s. s < n)) (asked_shapes code)) (sym direct.shapes) v.asked));
     words =
         let same : made.shapes * (4 + length made.thunks) ≡ code.shapes * (4 + length code.thunks) =
         ap (λ n. n * (4 + length made.thunks)) direct.shapes ∙ ap (λ (ts : List ℕ). code.shapes * (4 + length ts)) direct.thunks in

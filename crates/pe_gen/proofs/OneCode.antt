@@ -13,6 +13,7 @@ use Rattle.fy_derive.specs.Shapes.{PlainShape, a_field, shape_begins}
 use Rattle.fy_derive.specs.ShapeTables.{shape_at}
 use Rattle.pe_code.specs.declared.code.Entry.{Entry}
 use Rattle.pe_code.specs.declared.code.PeCode.{PeCode}
+use Rattle.pe_code.specs.declared.code.SequenceShapes.{SequenceShapes}
 use Rattle.pe_code.specs.declared.code.PeInsn.{PeInsn}
 use Rattle.pe_code.specs.declared.code.PeInsn.TheVariants as insn
 use Rattle.pe_code.specs.declared.code.PeItem.{PeItem}
@@ -135,14 +136,15 @@ item_with n d p = record { insn = n; depth = d; place = p }
 item_same : (i j : PeItem) → i.insn ≡ j.insn → i.depth ≡ j.depth → i.place ≡ j.place → i ≡ j
 item_same i j n d p = ap (λ x. item_with x i.depth i.place) n ∙ (ap (λ x. item_with j.insn x i.place) d ∙ ap (λ x. item_with j.insn j.depth x) p)
 
-abbrev code_with : List PeItem → List Entry → ℕ → Option ℕ → List ℕ → PeCode
-code_with is es s a ts = record { items = is; entries = es; shapes = s; assignment = a; thunks = ts }
+abbrev code_with : List PeItem → List Entry → ℕ → Option ℕ → SequenceShapes → List ℕ → PeCode
+code_with is es s a q ts = record { items = is; entries = es; shapes = s; assignment = a; sequences = q; thunks = ts }
 
-code_same : (c d : PeCode) → c.items ≡ d.items → c.entries ≡ d.entries → c.shapes ≡ d.shapes → c.assignment ≡ d.assignment → c.thunks ≡ d.thunks → c ≡ d
-code_same c d i e s a t =
-    ap (λ x. code_with x c.entries c.shapes c.assignment c.thunks) i
-    ∙ (ap (λ x. code_with d.items x c.shapes c.assignment c.thunks) e
-    ∙ (ap (λ x. code_with d.items d.entries x c.assignment c.thunks) s ∙ (ap (λ x. code_with d.items d.entries d.shapes x c.thunks) a ∙ ap (λ x. code_with d.items d.entries d.shapes d.assignment x) t)))
+code_same : (c d : PeCode) → c.items ≡ d.items → c.entries ≡ d.entries → c.shapes ≡ d.shapes → c.assignment ≡ d.assignment → c.sequences ≡ d.sequences → c.thunks ≡ d.thunks → c ≡ d
+code_same c d i e s a q t =
+    ap (λ x. code_with x c.entries c.shapes c.assignment c.sequences c.thunks) i
+    ∙ (ap (λ x. code_with d.items x c.shapes c.assignment c.sequences c.thunks) e
+    ∙ (ap (λ x. code_with d.items d.entries x c.assignment c.sequences c.thunks) s ∙ (ap (λ x. code_with d.items d.entries d.shapes x c.sequences c.thunks) a
+    ∙ (ap (λ x. code_with d.items d.entries d.shapes d.assignment x c.thunks) q ∙ ap (λ x. code_with d.items d.entries d.shapes d.assignment d.sequences x) t))))
 
 before-once : (x y : Pair) → IsBefore x y → IsBefore y x → ⊥
 before-once x y (inl a) (inl b) = omega (arith, a, b)
@@ -390,6 +392,7 @@ code-is-one handed p table one other whole its named right correct valid sound l
     (same-entries one.entries other.entries laid.entries placed.entries valid.once sound.once (same-found handed p table whole its one other g h))
     (right.shapes ∙ sym correct.shapes)
     (by one.assignment other.assignment refl refl)
+    (right.sequences ∙ sym correct.sequences)
     (right.thunks ∙ sym correct.thunks)
   where
     by : (o u : Option ℕ) → one.assignment ≡ o → other.assignment ≡ u → one.assignment ≡ other.assignment

@@ -14,10 +14,11 @@ use Rattle.fy_derive.specs.Shapes.{PlainShape, at_end, a_run, an_assignment, sha
 use Rattle.fy_derive.specs.ShapeTables.{shape_at}
 use Rattle.pe_code.specs.declared.code.Entry.{Entry}
 use Rattle.pe_code.specs.declared.code.PeCode.{PeCode}
+use Rattle.pe_code.specs.declared.code.SequenceShapes.{SequenceShapes}
 use Rattle.pe_code.specs.declared.code.PeInsn.{PeInsn}
 use Rattle.pe_code.specs.declared.code.PeItem.{PeItem}
-use Rattle.pe_code.specs.Code.{entry_of, beside, body_of, variable_of, shape_of, node_of}
-use Rattle.pe_code.specs.Valid.{LeadsTo, IsThunkNode, IsSoundItem, IsSoundEntry, IsValid}
+use Rattle.pe_code.specs.Code.{entry_of, beside, body_of, variable_of, shape_of, node_of, makes_cells}
+use Rattle.pe_code.specs.Valid.{LeadsTo, IsThunkNode, IsSoundItem, IsSoundEntry, asked_sequences, IsValid}
 use Rattle.pe_gen.specs.Preorder.{own_thunks}
 use Rattle.pe_right.specs.Constants.{no_data}
 use Rattle.pe_right.specs.Right.{with_depth, is_variable, IsNodeUnder, itself, IsNodeAmongUnder, in_first, in_later, Enters, EachEnters, no_parts, and_part, IsInsnOf, of_var, of_lit, of_unary, of_binary, of_cond, of_case, of_lam, of_app, of_app_variable, of_app_datum, of_field, of_sel, of_let, of_let_variable, of_let_datum, of_rec, of_skip, of_seq, of_assign, of_while, of_forever, of_new, of_escape, of_accept, of_put, of_read}
@@ -230,6 +231,11 @@ module _ (p : Tree) (table : ShapeTable) (code : PeCode) (made : IsMade p table 
   sound-insn d k q s o node scoped (of_read {x = x} {p = a} ex) =
       record { beside_it = one d x (leads-to a d (k + 1) x _ (first-part [] node refl) ex); body = no_body d; variable = no_variable d; shape = no_shape; thunk = no_thunk d }
 
+  -- no typed phrase makes a sequence of cells
+  no-cells : {k : ℕ} {q : Tree} {s : PlainShape} {i : PeInsn} → IsInsnOf no_data table code k q s i → makes_cells i ≡ false
+  no-cells (of_var e) = refl
+  no-cells h = refl
+
   sound-item : (i : ℕ) (item : PeItem) → slice_get code.items i ≡ Some item → IsSoundItem code item
   sound-item i item at =
       let x = site-of p table code made i item at in
@@ -238,6 +244,7 @@ module _ (p : Tree) (table : ShapeTable) (code : PeCode) (made : IsMade p table 
       let sound = subst (λ d. IsSoundInsn d item.insn) same (sound-insn x.depth x.site.node x.form x.shape item.insn x.node scoped x.its.insn) in
       record {
         depth = omega (arith, scoped.few);
+        no_cells = no-cells x.its.insn;
         beside_it = sound.beside_it;
         body = sound.body;
         variable = sound.variable;
@@ -266,7 +273,12 @@ module _ (p : Tree) (table : ShapeTable) (code : PeCode) (made : IsMade p table 
         parts = parts-few p table code made;
         entries = All-from_gets (λ e. IsSoundEntry code e) code.entries sound-entry;
         once = made.entries.once;
-        assignment = by code.assignment (λ n e. (made.assignment n).0 e);
+        asked =
+            let P : Option ℕ → Type 0 = λ o. ForSome o (λ s. s < code.shapes) in
+            let none : P None = for-none (λ s. s < code.shapes) in
+            All-cons P code.assignment (asked_sequences code.sequences) (by code.assignment (λ n e. (made.assignment n).0 e))
+            (subst (λ (q : SequenceShapes). All P (asked_sequences q)) (sym made.sequences)
+            (All-cons P None (None ∷ None ∷ None ∷ []) none (All-cons P None (None ∷ None ∷ []) none (All-cons P None (None ∷ []) none (All-cons P None [] none (All-nil P))))));
         words =
             let count = ap length made.thunks ∙ length-thunk_nodes 0 p in
             let same : code.shapes * (4 + length code.thunks) ≡ table_words p (length table.shapes) =

@@ -1,61 +1,32 @@
 -- A thunk is entered, and an instruction is executed.
-use Rattle.std.proofs.Common.{ℕ, ◌≡◌, Bool, true, false, Option, Some, None, refl, sym, subst, arith}
+use Rattle.std.proofs.Common.{ℕ, Bool, length, Option, Some, None, refl, sym, subst, nat_eq}
 use Rattle.fy_base.specs.declared.data.Place.{Place}
 use Rattle.fy_base.specs.declared.data.Datum.{Datum}
-use Rattle.fy_phrase.specs.Contexts.{op_1, op_l, if_c, case_c, arg_c, pick_c, then_c, assign_c, store_c, while_c, loop_c, new_c, put_c, esc_c}
-use Rattle.fy_phrase.specs.Copy.{byte_or_end}
+use Rattle.fy_base.specs.declared.data.Datum.TheVariants as datum_kind
+use Rattle.std.specs.Prelude.{pos}
+use Rattle.fy_phrase.specs.Contexts.{op_1, op_l, if_c, case_c, arg_c, pick_c, then_c, assign_c, store_c, while_c, loop_c, new_c, put_c, esc_c, cells_c, element_c}
+use Rattle.fy_phrase.specs.Copy.{own, byte_or_end}
 use Rattle.pe_code.specs.declared.code.PeInsn.{PeInsn}
 use Rattle.pe_code.specs.declared.code.PeInsn.TheVariants as insn
 use Rattle.pe_code.specs.declared.code.PeItem.{PeItem}
 use Rattle.pe_code.specs.declared.code.PeCode.{PeCode}
 use Rattle.pe_code.specs.Code.{item_at, entry_of}
-use Rattle.pe_machine.specs.States.{Thunk, source, datum, to_thunk, to_escape, Focus, code_at, value, completed, PeState, is_listed, oldest, frame_outside, datum_of}
+use Rattle.pe_machine.specs.States.{Thunk, source, datum, Sequence, to_thunk, to_escape, Focus, code_at, value, completed, Wanted, PeState, is_listed, oldest, frame_outside, sequence_at}
 use Rattle.pe_machine.specs.Step as machine
-use Rattle.pe_machine.specs.Step.{PeMove, goes, is_assignment}
-use Rattle.pe_machine.proofs.FrameLemmas.{numbered_oldest, numbered_with_cell}
+use Rattle.pe_machine.specs.Step.{PeMove, goes, is_assignment, Asked, a_cell, a_length, no_part, asked_at, pe_step}
+use Rattle.pe_machine.proofs.FrameLemmas.{numbered_oldest}
 use Rattle.pe_items.specs.Items as items
-use Rattle.pe_items.specs.Items.{Item, address_on, FoundContext, frame_from, datum_at, escape_at, ItemState}
+use Rattle.pe_items.specs.Items.{address_on, FoundContext, frame_from, escape_at, ItemState}
 use Rattle.pe_items.specs.Step as moves
-use Rattle.pe_items.specs.Step.{ItemMove}
-use Rattle.pe_items.proofs.Lays.{any_frame, escape_frame, IsAt, AreAt, ThunkStands, a_source, a_datum, a_cell, a_jump, at_op_1, at_op_l, at_if, at_case, at_arg, at_pick, at_then, at_assign, at_store, at_while, at_loop, at_new, at_put, at_escape, FocusStands, at_code, at_value, at_end, thunk_bound, escape_bound, UnderState}
-use Rattle.pe_items.proofs.Standing.{at-listed, name-listed, kept-context, names-kept}
-use Rattle.pe_items.proofs.VariableLemmas.{variable-at, datum-found, cost-with_cell, lays-with_cell}
+use Rattle.pe_items.specs.Step.{item_step}
+use Rattle.pe_items.proofs.Lays.{escape_frame, IsAt, AreAt, IsSequenceAt, ThunkStands, a_source, a_datum, a_cell, a_jump, a_sequence, at_op_1, at_op_l, at_if, at_case, at_arg, at_pick, at_then, at_assign, at_store, at_while, at_loop, at_new, at_cells, at_element, at_put, at_escape, FocusStands, at_code, at_value, at_end, thunk_bound, escape_bound, UnderState, Stands, at_rest, at_fill}
+use Rattle.pe_items.proofs.Standing.{at-listed, name-listed, kept-context, names-kept, thunk-kept}
+use Rattle.pe_items.proofs.VariableLemmas.{variable-at}
+use Rattle.pe_items.proofs.SequenceLemmas.{sequence-found}
+use Rattle.pe_items.proofs.CellLemmas.{cell-alike}
 use Rattle.pe_items.proofs.JumpLemmas.{leaves}
-use Rattle.pe_items.proofs.Alike.{Alike, both_go, both_take, one_sticks, one_loses, focused-alike, pushed-under, pushed-alike, bound-alike, listed-alike, variable-alike, answered-alike, TakenAlike, taken-alike}
-use Rattle.pe_items.proofs.MeetingLemmas.{datum-alike, completion-alike, bind-alike, field-alike, accept-alike}
-
--- ---- cells
-
-loaded-alike : (o : Option Datum) (s : PeState) (t : ItemState) → UnderState s t → Alike (machine.loaded o s) (moves.loaded o t)
-loaded-alike (Some v) s t u = focused-alike (value v) (value v) s t at_value u
-loaded-alike None s t u = one_loses
-
-assigned-alike : (o : Option Datum) (n x : ℕ) (v : Datum) (s : PeState) (t : ItemState) → IsAt any_frame s.frames t.items n x → UnderState s t →
-    Alike (machine.assigned o n v s) (moves.assigned o x v t)
-assigned-alike (Some w) n x v s t a u =
-    both_go (record {
-      focus = at_end;
-      under = record {
-        lays = lays-with_cell v n x a u.lays;
-        load = (let l = u.load in let c = cost-with_cell x v t.items in omega arith);
-        numbers = numbered_with_cell s.next n v s.frames u.numbers;
-      };
-    })
-assigned-alike None n x v s t a u = one_loses
-
-assignment-alike : (n x : ℕ) (s : PeState) (t : ItemState) → IsAt any_frame s.frames t.items n x → datum_of n s.frames ≡ datum_at x t.items →
-    TakenAlike (machine.assignment_meets n) (moves.assignment_meets x) s t
-assignment-alike n x s t a same c e cs outside ks old (at_store {v = v}) w left =
-    subst (λ (o : Option Datum). Alike (machine.assigned (datum_of n s.frames) n v (record s { contexts = cs })) (moves.assigned o x v (record t { newest = outside }))) same
-    (assigned-alike (datum_of n s.frames) n x v (record s { contexts = cs }) (record t { newest = outside }) a (left (λ m q. cc)))
-assignment-alike n x s t a same c e cs outside ks old h w left = one_sticks
-
-cell-alike : (b : Bool) (n x : ℕ) (s : PeState) (t : ItemState) → IsAt any_frame s.frames t.items n x → UnderState s t →
-    Alike (machine.cell_entered b n s) (moves.cell_entered b x t)
-cell-alike true n x s t a u =
-    taken-alike (machine.assignment_meets n) (moves.assignment_meets x) s t (assignment-alike n x s t a (datum-found n x a u.lays)) u
-cell-alike false n x s t a u =
-    subst (λ (o : Option Datum). Alike (machine.loaded (datum_of n s.frames) s) (moves.loaded o t)) (datum-found n x a u.lays) (loaded-alike (datum_of n s.frames) s t u)
+use Rattle.pe_items.proofs.Alike.{Alike, both_go, both_take, one_sticks, one_loses, focused-alike, pushed-under, pushed-alike, bound-alike, listed-alike, variable-alike, if_alike, answered-alike, datum_focused-alike, TakenAlike, taken-alike}
+use Rattle.pe_items.proofs.MeetingLemmas.{datum-alike, filling-alike, completion-alike, bind-alike, field-alike, accept-alike}
 
 -- ---- jumps
 
@@ -67,10 +38,10 @@ jump-alike n x s t a u =
     subst (λ (m : PeMove). Alike m (moves.jumped (escape_at x t.items) t)) (sym (w.jumps s))
     (subst (λ (o : Option ℕ). Alike (goes q) (moves.jumped o t)) (sym w.is_place)
     (subst (λ (o : Option FoundContext). Alike (goes q) (moves.left_by o t)) (sym w.is_found)
-    (both_go (record {
+    (both_go (at_rest (record {
       focus = at_end;
       under = record { lays = w.lays; load = w.small; numbers = numbered_oldest s.next w.held.frames s.frames u.numbers };
-    }))))
+    })))))
 
 -- ---- thunks
 
@@ -78,13 +49,63 @@ entry-alike : (o r x : Option ℕ) (s : PeState) (t : ItemState) → AreAt s.fra
 entry-alike (Some a) r x s t k u = focused-alike (code_at (record { address = a; frame = r })) (code_at (record { address = a; frame = x })) s t (at_code k) u
 entry-alike None r x s t k u = one_sticks
 
+-- a thunk that isn't a sequence
+plain-alike : (code : PeCode) (shape : ℕ) (c e : Thunk) (s : PeState) (t : ItemState) → ThunkStands s.frames t.items c e → UnderState s t →
+    Alike (machine.entered_plain code shape c s) (moves.entered_plain code shape e t)
+plain-alike code shape c e s t (a_source {node = node} {r = r} {x = x} k) u =
+    listed-alike (is_listed r s.frames) _ _ (name-listed s.frames t.items r x k) (entry-alike (entry_of code node shape) r x s t k u)
+plain-alike code shape c e s t (a_datum {v = v}) u = focused-alike (value v) (value v) s t at_value u
+plain-alike code shape c e s t (a_cell {n = n} {x = x} a) u = cell-alike (is_assignment code.assignment shape) own n x s t a u
+plain-alike code shape c e s t (a_jump {n = n} {x = x} a) u = listed-alike (is_listed (Some n) s.frames) _ _ (at-listed escape_frame t.items s.frames n x a) (jump-alike n x s t a u)
+plain-alike code shape c e s t (a_sequence a) u = one_sticks
+
+-- ---- sequences
+
+index_entered-alike : (code : PeCode) (o : Option ℕ) (v w : Wanted) (c e : Thunk) (s : PeState) (t : ItemState) → ThunkStands s.frames t.items c e →
+    UnderState (machine.push (element_c v) s) (moves.push (element_c w) t) → Alike (machine.index_entered code o v c s) (moves.index_entered code o w e t)
+index_entered-alike code (Some shape) v w c e s t h u =
+    plain-alike code shape c e (machine.push (element_c v) s) (moves.push (element_c w) t) (thunk-kept (kept-context s.frames t.items (element_c w) t.newest) h) u
+index_entered-alike code None v w c e s t h u = one_sticks
+
+index-alike : (code : PeCode) (b : Bool) (n x : ℕ) (s : PeState) (t : ItemState) → IsSequenceAt s.frames t.items n x →
+    TakenAlike (machine.index_meets code (record { is_written = b; number = n })) (moves.index_meets code (record { is_written = b; number = x })) s t
+index-alike code b n x s t a c e cs outside ks old (at_arg {t = th} {u = tu} h) w left =
+    let v : Wanted = record { is_written = b; number = n } in
+    let z : Wanted = record { is_written = b; number = x } in
+    let q : PeState = record s { contexts = cs } in
+    let i : ItemState = record t { newest = outside } in
+    index_entered-alike code code.sequences.value v z th tu q i (thunk-kept w h) (pushed-under (element_c v) (element_c z) q i (at_element a) (left (λ m p. cc)))
+index-alike code b n x s t a c e cs outside ks old h w left = one_sticks
+
+length-alike : (n : ℕ) (s : PeState) (t : ItemState) → TakenAlike (machine.length_meets n) (moves.length_meets n) s t
+length-alike n s t c e cs outside ks old (at_pick {i = i}) w left =
+    let v : Datum = datum_kind.Int (pos n) in
+    if_alike (nat_eq i 0) _ _ (focused-alike (value v) (value v) (record s { contexts = cs }) (record t { newest = outside }) at_value (left (λ m p. cc)))
+length-alike n s t c e cs outside ks old h w left = one_sticks
+
+asked-alike : (code : PeCode) (k : Asked) (o : Option Sequence) (n x : ℕ) (s : PeState) (t : ItemState) → IsSequenceAt s.frames t.items n x → UnderState s t →
+    Alike (machine.sequence_asked code k n o s) (moves.sequence_asked code k x o t)
+asked-alike code (a_cell b) (Some q) n x s t a u =
+    taken-alike (machine.index_meets code (record { is_written = b; number = n })) (moves.index_meets code (record { is_written = b; number = x })) s t (index-alike code b n x s t a) u
+asked-alike code a_length (Some q) n x s t a u = taken-alike (machine.length_meets (length q.values)) (moves.length_meets (length q.values)) s t (length-alike (length q.values) s t) u
+asked-alike code no_part (Some q) n x s t a u = one_sticks
+asked-alike code k None n x s t a u = one_loses
+
+sequence-alike : (code : PeCode) (shape n x : ℕ) (s : PeState) (t : ItemState) → IsSequenceAt s.frames t.items n x → UnderState s t →
+    Alike (machine.sequence_asked code (asked_at code.sequences shape) n (sequence_at n s.frames) s) (moves.sequence_asked code (asked_at code.sequences shape) x (items.sequence_at x t.items) t)
+sequence-alike code shape n x s t a u =
+    subst (λ (o : Option Sequence). Alike (machine.sequence_asked code (asked_at code.sequences shape) n (sequence_at n s.frames) s) (moves.sequence_asked code (asked_at code.sequences shape) x o t))
+    (sequence-found n x a u.lays) (asked-alike code (asked_at code.sequences shape) (sequence_at n s.frames) n x s t a u)
+
+-- ---- any thunk
+
 entered-alike : (code : PeCode) (shape : ℕ) (c e : Thunk) (s : PeState) (t : ItemState) → ThunkStands s.frames t.items c e → UnderState s t →
     Alike (machine.entered code shape c s) (moves.entered code shape e t)
-entered-alike code shape c e s t (a_source {node = node} {r = r} {x = x} k) u =
-    listed-alike (is_listed r s.frames) _ _ (name-listed s.frames t.items r x k) (entry-alike (entry_of code node shape) r x s t k u)
-entered-alike code shape c e s t (a_datum {v = v}) u = focused-alike (value v) (value v) s t at_value u
-entered-alike code shape c e s t (a_cell {n = n} {x = x} a) u = cell-alike (is_assignment code.assignment shape) n x s t a u
-entered-alike code shape c e s t (a_jump {n = n} {x = x} a) u = listed-alike (is_listed (Some n) s.frames) _ _ (at-listed escape_frame t.items s.frames n x a) (jump-alike n x s t a u)
+entered-alike code shape c e s t (a_source k) u = plain-alike code shape _ _ s t (a_source k) u
+entered-alike code shape c e s t a_datum u = plain-alike code shape _ _ s t a_datum u
+entered-alike code shape c e s t (a_cell a) u = plain-alike code shape _ _ s t (a_cell a) u
+entered-alike code shape c e s t (a_jump a) u = plain-alike code shape _ _ s t (a_jump a) u
+entered-alike code shape c e s t (a_sequence {n = n} {x = x} a) u = sequence-alike code shape n x s t a u
 
 -- ---- instructions
 
@@ -132,6 +153,8 @@ module _ (code : PeCode) where
       pushed-alike (loop_c (record { address = a; frame = r })) (loop_c (record { address = a; frame = x })) y r x s t (at_loop k) k u
   executed-alike (insn.New y z) d at a r x s t k u =
       pushed-alike (new_c d (record { address = z; frame = r })) (new_c d (record { address = z; frame = x })) y r x s t (at_new k) k u
+  executed-alike (insn.Cells y z) d at a r x s t k u =
+      pushed-alike (cells_c d (record { address = z; frame = r }) at) (cells_c d (record { address = z; frame = x }) at) y r x s t (at_cells k) k u
   executed-alike (insn.Escape y) d at a r x s t k u =
       bound-alike d to_escape (items.to_escape (address_on t.items)) y r x (machine.push (esc_c s.next) s) (moves.push (esc_c 0) t) (escape_bound refl)
       (names-kept (kept-context s.frames t.items (esc_c 0) t.newest) r x k) (pushed-under (esc_c s.next) (esc_c 0) s t (at_escape u.numbers) u)
@@ -149,8 +172,14 @@ module _ (code : PeCode) where
   item-alike None a r x s t k u = one_sticks
 
   -- one step, by the focus
-  pub step-alike : (f g : Focus) (s : PeState) (t : ItemState) → FocusStands s.frames t.items f g → UnderState s t → Alike (machine.step_at code f s) (moves.step_at code g t)
+  step-alike : (f g : Focus) (s : PeState) (t : ItemState) → FocusStands s.frames t.items f g → UnderState s t → Alike (machine.step_at code f s) (moves.step_at code g t)
   step-alike f g s t (at_code {a = a} {r = r} {x = x} k) u = item-alike (item_at code a) a r x s t k u
   step-alike f g s t (at_value {v = v}) u =
-      answered-alike (machine.datum_meets code v) (moves.datum_meets code v) s t (λ c e q w h v2. datum-alike code v c e q w h v2) u
+      datum_focused-alike code v (moves.step_at code (value v) t) s t u
+      (answered-alike (machine.datum_meets code v) (moves.datum_meets code v) s t (λ c e q w h v2. datum-alike code v c e q w h v2) u)
   step-alike f g s t at_end u = answered-alike machine.completion_meets moves.completion_meets s t completion-alike u
+
+  pub both-step : (s : PeState) (t : ItemState) → Stands s t → Alike (pe_step code s) (item_step code t)
+  both-step s t (at_rest w) = step-alike s.focus t.focus s t w.focus w.under
+  both-step s t (at_fill {fs = fs} {cs = cs} {n = n} {k = k} {m = m} {d = d} {a = a} {base = base} {load = load} {next = next} {outside = outside} {at = at} {r = r} {x = x} {is = is} paid around under) =
+      filling-alike fs cs n k m d a base load next outside at r x is paid around under code

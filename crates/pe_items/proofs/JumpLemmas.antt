@@ -1,11 +1,11 @@
 -- A jump leads to one context on both sides.
 use Rattle.std.proofs.Common.{ℕ, ◌<◌, ◌≤◌, ◌≡◌, false, List, [], ◌∷◌, length, Option, Some, refl, sym, ap, ◌∙◌, subst, inl, inr, arith, nat_eq, eq-eqb, ne_eqb}
 use Rattle.std.proofs.lemmas.Bool.{cond-true, cond-false}
-use Rattle.pe_machine.specs.States.{Binding, Frame, completed, PeContext, Held, PeState, oldest}
+use Rattle.pe_machine.specs.States.{Sequence, Binding, Frame, completed, PeContext, Held, PeState, oldest}
 use Rattle.pe_machine.specs.Step.{goes, is_target, jumped}
 use Rattle.pe_machine.specs.Sound.{IsNumbered}
-use Rattle.pe_items.specs.Items.{ItemBinding, Item, frame, context, address_on, FoundContext, context_at, context_in, escape_at}
-use Rattle.pe_items.proofs.Lays.{cost, escape_frame, Fits, IsAt, ContextStands, at_escape, IsEscapeOf, BindingStands, thunk_bound, cell_bound, escape_bound, Lays, nothing, newer_frame, live_context, taken_context}
+use Rattle.pe_items.specs.Items.{ItemBinding, Item, frame, context, sequence, address_on, FoundContext, context_at, context_in, escape_at}
+use Rattle.pe_items.proofs.Lays.{cost, escape_frame, Fits, IsAt, ContextStands, at_escape, IsEscapeOf, BindingStands, thunk_bound, cell_bound, escape_bound, sequence_bound, Lays, nothing, newer_frame, live_context, taken_context, laid_cells}
 use Rattle.pe_items.proofs.Standing.{at-below, oldest-newer}
 use Rattle.pe_items.proofs.NewestLemmas.{IsNewest, newest-of}
 
@@ -30,6 +30,7 @@ escape-here : {fs : List Frame} {is : List Item} {cs : List Held} {newest n : �
 escape-here fit (thunk_bound t) = absurd fit
 escape-here fit cell_bound = absurd fit
 escape-here fit (escape_bound e) = (e, refl)
+escape-here fit (sequence_bound e q) = absurd fit
 
 leaves-here : (f : Frame) (fs : List Frame) (cs : List Held) (newest : ℕ) (is : List Item) (u : ItemBinding) (y : Option ℕ) (n x : ℕ) → n ≡ f.number → x ≡ address_on is →
     IsEscapeOf f.number cs → context_in u ≡ Some newest → IsNewest fs cs newest is → Leaves (f ∷ fs) cs (frame f.depth u y ∷ is) n x
@@ -83,6 +84,21 @@ leaves-context fs cs is e o n x w =
       lays = w.lays;
     }
 
+leaves-cells : (fs : List Frame) (cs : List Held) (is : List Item) (c : Sequence) (n x : ℕ) → Leaves fs cs is n x → Leaves fs cs (sequence c ∷ is) n x
+leaves-cells fs cs is c n x w = record {
+  place = w.place;
+  found = w.found;
+  held = w.held;
+  rest = w.rest;
+  is_place = w.is_place;
+  is_found = w.is_found;
+  below_top = (let l = w.below_top in omega arith);
+  jumps = w.jumps;
+  within = w.within;
+  small = w.small;
+  lays = w.lays;
+}
+
 -- a context that isn't the escape's is passed
 leaves-passed : (fs : List Frame) (c : Held) (cs : List Held) (is : List Item) (n x : ℕ) → is_target n c.context ≡ false → Leaves fs cs is n x → Leaves fs (c ∷ cs) is n x
 leaves-passed fs c cs is n x other w = record {
@@ -118,3 +134,4 @@ leaves b n x h a (newer_frame {f = f} {fs = fs} {cs = cs} {newest = newest} {is 
 leaves b n x h a (live_context {c = c} {fs = fs} {cs = cs} {newest = newest} {is = is} {e = e} counted small s l) =
     leaves-passed fs c cs (context e newest ∷ is) n x (other-target n x a s) (leaves-context fs cs is e newest n x (leaves b n x h a l))
 leaves b n x h a (taken_context {fs = fs} {cs = cs} {outside = outside} {is = is} {e = e} l) = leaves-context fs cs is e outside n x (leaves b n x h a l)
+leaves b n x h a (laid_cells {fs = fs} {cs = cs} {is = is} {c = c} l) = leaves-cells fs cs is c n x (leaves b n x h a l)

@@ -2,8 +2,10 @@ pub mod Lays
 pub mod Standing
 pub mod NewestLemmas
 pub mod VariableLemmas
+pub mod SequenceLemmas
 pub mod JumpLemmas
 pub mod Alike
+pub mod CellLemmas
 pub mod MeetingLemmas
 pub mod InstructionLemmas
 pub mod RunSteps

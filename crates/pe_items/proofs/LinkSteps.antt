@@ -1,28 +1,30 @@
 -- A step of the machine of items keeps the links.
-use Rattle.std.proofs.Common.{ℕ, ◌≡◌, Bool, true, false, cond, List, Option, Some, None, refl, inl, inr, slice_get, nat_eq}
+use Rattle.std.proofs.Common.{ℕ, ◌+◌, ◌≡◌, Bool, true, false, cond, List, ◌∷◌, length, replicate, Option, Some, None, refl, inl, inr, arith, slice_get, nat_eq, nat_lt}
 use Rattle.std.specs.Prelude.{pos, negsuc}
 use Rattle.fy_base.specs.declared.data.Place.{Place}
 use Rattle.fy_base.specs.declared.data.Datum.{Datum}
 use Rattle.fy_base.specs.declared.data.Datum.TheVariants as datum_kind
 use Rattle.fy_base.specs.declared.data.BinOp.{BinOp}
 use Rattle.fy_base.specs.declared.data.BinOp.TheVariants.{And, Or}
+use Rattle.fy_base.specs.declared.data.FaultKind.{FaultKind}
+use Rattle.fy_base.specs.declared.data.FaultKind.TheVariants.{Range}
 use Rattle.fy_base.specs.declared.arithmetic.Applied.{Applied}
 use Rattle.fy_base.specs.declared.arithmetic.Applied.TheVariants.{Gives, Faults, NoSense}
 use Rattle.fy_base.specs.Outside.{Bytes}
 use Rattle.fy_base.specs.Arithmetic.{unary_result, binary_result, written_text}
-use Rattle.fy_phrase.specs.Contexts.{op_1, op_l, op_r, if_c, case_c, arg_c, pick_c, then_c, assign_c, store_c, while_c, body_c, loop_c, new_c, drop_c, put_c, esc_c}
-use Rattle.fy_phrase.specs.Copy.{byte_or_end}
+use Rattle.fy_phrase.specs.Contexts.{op_1, op_l, op_r, if_c, case_c, arg_c, pick_c, then_c, assign_c, store_c, while_c, body_c, loop_c, new_c, drop_c, put_c, esc_c, cells_c, fill_c, element_c}
+use Rattle.fy_phrase.specs.Copy.{Which, own, element, byte_or_end}
 use Rattle.pe_code.specs.declared.code.PeInsn.{PeInsn}
 use Rattle.pe_code.specs.declared.code.PeInsn.TheVariants as insn
 use Rattle.pe_code.specs.declared.code.PeItem.{PeItem}
 use Rattle.pe_code.specs.declared.code.PeCode.{PeCode}
 use Rattle.pe_code.specs.Code.{item_at, entry_of}
-use Rattle.pe_machine.specs.States.{Pointer, Thunk, source, datum, cell_of, jump_of, Focus, code_at, value, completed, PeContext}
-use Rattle.pe_machine.specs.Step.{is_assignment, parts_at}
-use Rattle.pe_items.specs.Items.{ItemBinding, to_thunk, to_cell, to_escape, Item, frame, context, address_on, FoundContext, context_at, FoundFrame, frame_from, handed_by, datum_at, escape_at, ItemState}
-use Rattle.pe_items.specs.Step.{ItemMove, goes, puts, takes, faults, sticks, focused, push, pushed, bound, answered, taken, newest_of, operated, left_meets, chosen, focused_if_some, indexed, written, datum_meets, completion_meets, bind_meets, field_meets, accept_meets, loaded, assigned, assignment_meets, cell_entered, left_by, jumped, at_entry, entered, with_variable, executed, item_executed, step_at, item_step}
-use Rattle.pe_items.specs.Links.{LeadsToFrame, LeadsToContext, IsThunkLinked, IsBindingLinked, IsContextLinked, AreLinked, IsFocusLinked, IsLinked}
-use Rattle.pe_items.proofs.LinkLemmas.{extends-newer, has-pushed, name-extends, foot-extends, content-extends, linked-with_cell, foot-with_cell, FoundLinked, found-linked, IsVariableLinked, variable-linked}
+use Rattle.pe_machine.specs.States.{Pointer, Thunk, source, datum, cell_of, jump_of, sequence_of, Sequence, Focus, code_at, value, completed, Wanted, PeContext}
+use Rattle.pe_machine.specs.Step.{is_assignment, parts_at, Asked, a_cell, a_length, no_part, asked_at}
+use Rattle.pe_items.specs.Items.{ItemBinding, to_thunk, to_cell, to_escape, Item, frame, context, sequence, address_on, FoundContext, context_at, FoundFrame, frame_from, handed_by, escape_at, sequence_at, value_at, ItemState}
+use Rattle.pe_items.specs.Step.{ItemMove, goes, puts, takes, faults, sticks, focused, push, pushed, bound, answered, taken, newest_of, operated, left_meets, chosen, focused_if_some, indexed, written, loaded, assigned, assignment_meets, cell_entered, element_picked, with_cells, counted, one_more, bound_filled, filled, datum_meets, completion_meets, bind_meets, field_meets, accept_meets, left_by, jumped, at_entry, entered_plain, index_entered, index_meets, length_meets, sequence_asked, entered, with_variable, executed, item_executed, step_at, item_step}
+use Rattle.pe_items.specs.Links.{LeadsToFrame, LeadsToContext, HasSequence, IsThunkLinked, IsBindingLinked, IsContextLinked, AreLinked, IsFocusLinked, IsLinked}
+use Rattle.pe_items.proofs.LinkLemmas.{extends-newer, extends-both, has-pushed, has-laid, name-extends, foot-extends, thunk-extends, content-extends, linked-with_cell, foot-with_cell, linked-with_element, foot-with_element, FoundLinked, found-linked, IsVariableLinked, variable-linked}
 
 -- a step leads to linked states
 abbrev pub IsMoveLinked : ItemMove → Type 0
@@ -84,6 +86,75 @@ taken-by meets s (Some c) f l found =
 taken-linked : (meets : PeContext → ItemState → ItemMove) (s : ItemState) → TakenLinked meets s → IsRooted s → IsMoveLinked (taken meets (newest_of s) s)
 taken-linked meets s f u = taken-by meets s (newest_of s) f u.items (λ c e. found-linked s.newest s.items c u.items e)
 
+-- ---- cells
+
+loaded-linked : (o : Option Datum) (s : ItemState) → IsRooted s → IsMoveLinked (loaded o s)
+loaded-linked (Some v) s u = focused-linked (value v) s tt u
+loaded-linked None s u = tt
+
+assigned-linked : (o : Option Datum) (which : Which) (x : ℕ) (v : Datum) (s : ItemState) → IsRooted s → IsMoveLinked (assigned o which x v s)
+assigned-linked (Some w) own x v s u = record { focus = tt; newest = foot-with_cell s.newest x v s.items u.newest_is; items = linked-with_cell x v s.items u.items }
+assigned-linked (Some w) (element i) x v s u =
+    record { focus = tt; newest = foot-with_element s.newest x i v s.items u.newest_is; items = linked-with_element x i v s.items u.items }
+assigned-linked None which x v s u = tt
+
+assignment-linked : (which : Which) (x : ℕ) (s : ItemState) → TakenLinked (assignment_meets which x) s
+assignment-linked which x s (store_c v) outside h u = assigned-linked (value_at which x s.items) which x v (record s { newest = outside }) u
+assignment-linked which x s c outside h u = tt
+
+cell-linked : (b : Bool) (which : Which) (x : ℕ) (s : ItemState) → IsRooted s → IsMoveLinked (cell_entered b which x s)
+cell-linked true which x s u = taken-linked (assignment_meets which x) s (assignment-linked which x s) u
+cell-linked false which x s u = loaded-linked (value_at which x s.items) s u
+
+if_faulted : (b : Bool) (m : ItemMove) (kind : FaultKind) (at : Place) → IsMoveLinked m → IsMoveLinked (cond b m (faults kind at))
+if_faulted true m kind at h = h
+if_faulted false m kind at h = tt
+
+element-linked : (v : Datum) (w : Wanted) (o : Option Sequence) (s : ItemState) → IsRooted s → IsMoveLinked (element_picked v w o s)
+element-linked (datum_kind.Int (pos i)) w (Some c) s u =
+    if_faulted (nat_lt i (length c.values)) (cell_entered w.is_written (element i) w.number s) Range c.place (cell-linked w.is_written (element i) w.number s u)
+element-linked (datum_kind.Int (negsuc i)) w (Some c) s u = tt
+element-linked v w (Some c) s u = tt
+element-linked v w None s u = tt
+
+-- ---- sequences that get their cells
+
+-- a context without its cells, and then with them
+laid-linked : (c : PeContext) (at : Place) (k : ℕ) (f : Focus) (s : ItemState) → IsContextLinked s.items c → IsFocusLinked (with_cells c at k s).items f → IsRooted s →
+    IsMoveLinked (focused f (with_cells c at k s))
+laid-linked c at k f s h g u =
+    let q : Sequence = record { place = at; values = replicate k (datum_kind.Int (pos 0)) } in
+    record {
+      focus = g;
+      newest = foot-extends (extends-newer (sequence q) (context c s.newest ∷ s.items)) (address_on s.items) (inr (has-pushed c s.newest s.items));
+      items = (tt, ((h, u.newest_is), u.items));
+    }
+
+counted-linked : (v : Datum) (d : ℕ) (body : Pointer) (at : Place) (s : ItemState) → LeadsToFrame s.items body.frame → IsRooted s → IsMoveLinked (counted v d body at s)
+counted-linked (datum_kind.Int (pos m)) d body at s k u = laid-linked (fill_c 0 m d body at) at 0 (value (datum_kind.Int (pos 0))) s k tt u
+counted-linked (datum_kind.Int (negsuc m)) d body at s k u = tt
+counted-linked v d body at s k u = tt
+
+filled-linked : (v : Datum) (m : ℕ) (more : ℕ → ItemMove) (all : ItemMove) → ((k : ℕ) → IsMoveLinked (more k)) → IsMoveLinked all → IsMoveLinked (filled v m more all)
+filled-linked (datum_kind.Int (pos k)) m more all h g = either (nat_lt k m) (more k) (cond (nat_eq k m) all sticks) (h k) (either (nat_eq k m) all sticks g tt)
+  where
+    either : (b : Bool) (m : ItemMove) (n : ItemMove) → IsMoveLinked m → IsMoveLinked n → IsMoveLinked (cond b m n)
+    either true m n h k = h
+    either false m n h k = k
+filled-linked v m more all h g = tt
+
+bound_filled-linked : (m d : ℕ) (body : Pointer) (at : Place) (s : ItemState) → LeadsToFrame s.items body.frame → IsRooted s → IsMoveLinked (bound_filled m d body at s)
+bound_filled-linked m d body at s k u =
+    let q : Sequence = record { place = at; values = replicate m (datum_kind.Int (pos 0)) } in
+    let under : List Item = context (drop_c 0) s.newest ∷ s.items in
+    let newer = extends-newer (sequence q) under in
+    bound-linked d (to_thunk (sequence_of (address_on s.items))) body.address body.frame (with_cells (drop_c 0) at m s) (has-laid q under (address_on s.items) (omega arith))
+    (name-extends (extends-both (extends-newer (context (drop_c 0) s.newest) s.items) newer) body.frame k)
+    (record {
+      newest_is = foot-extends newer (address_on s.items) (inr (has-pushed (drop_c 0) s.newest s.items));
+      items = (tt, ((tt, u.newest_is), u.items));
+    })
+
 -- ---- a datum
 
 operated-linked : (o : Applied) (at : Place) (s : ItemState) → IsRooted s → IsMoveLinked (operated o at s)
@@ -130,6 +201,11 @@ datum-linked code v (new_c d body) s h u =
     bound-linked d (to_cell v) body.address body.frame (push (drop_c 0) s) tt (name-extends (extends-newer (context (drop_c 0) s.newest) s.items) body.frame h) (push-rooted (drop_c 0) s tt u)
 datum-linked code v (assign_c p) s h u = pushed-linked (store_c v) p s tt h u
 datum-linked code v (put_c kind) s h u = written-linked (written_text kind v) s u
+datum-linked code v (cells_c d body at) s h u = counted-linked v d body at s h u
+datum-linked code v (fill_c n m d body at) s h u =
+    filled-linked v m (λ k. one_more k m d body at s) (bound_filled m d body at s)
+    (λ k. laid-linked (fill_c 0 m d body at) at (k + 1) (value (datum_kind.Int (pos (k + 1)))) s h tt u) (bound_filled-linked m d body at s h u)
+datum-linked code v (element_c w) s h u = element-linked v w (sequence_at w.number s.items) s u
 datum-linked code v c s h u = tt
 
 -- ---- a finished command, a procedure, a field and an acceptor
@@ -161,22 +237,6 @@ accept-linked d a o s k c outside h u = tt
 
 -- ---- a thunk is entered
 
-loaded-linked : (o : Option Datum) (s : ItemState) → IsRooted s → IsMoveLinked (loaded o s)
-loaded-linked (Some v) s u = focused-linked (value v) s tt u
-loaded-linked None s u = tt
-
-assigned-linked : (o : Option Datum) (x : ℕ) (v : Datum) (s : ItemState) → IsRooted s → IsMoveLinked (assigned o x v s)
-assigned-linked (Some w) x v s u = record { focus = tt; newest = foot-with_cell s.newest x v s.items u.newest_is; items = linked-with_cell x v s.items u.items }
-assigned-linked None x v s u = tt
-
-assignment-linked : (x : ℕ) (s : ItemState) → TakenLinked (assignment_meets x) s
-assignment-linked x s (store_c v) outside h u = assigned-linked (datum_at x s.items) x v (record s { newest = outside }) u
-assignment-linked x s c outside h u = tt
-
-cell-linked : (b : Bool) (x : ℕ) (s : ItemState) → IsRooted s → IsMoveLinked (cell_entered b x s)
-cell-linked true x s u = taken-linked (assignment_meets x) s (assignment-linked x s) u
-cell-linked false x s u = loaded-linked (datum_at x s.items) s u
-
 left_by-linked : (o : Option FoundContext) (s : ItemState) → ((c : FoundContext) → o ≡ Some c → FoundLinked c s.items) → IsMoveLinked (left_by o s)
 left_by-linked (Some c) s found = let h = found c refl in record { focus = tt; newest = h.outside; items = h.older }
 left_by-linked None s found = tt
@@ -189,11 +249,42 @@ entry-linked : (o r : Option ℕ) (s : ItemState) → LeadsToFrame s.items r →
 entry-linked (Some a) r s k u = focused-linked (code_at (record { address = a; frame = r })) s k u
 entry-linked None r s k u = tt
 
+plain-linked : (code : PeCode) (shape : ℕ) (t : Thunk) (s : ItemState) → IsThunkLinked s.items t → IsRooted s → IsMoveLinked (entered_plain code shape t s)
+plain-linked code shape (source node r) s h u = entry-linked (entry_of code node shape) r s h u
+plain-linked code shape (datum v) s h u = focused-linked (value v) s tt u
+plain-linked code shape (cell_of x) s h u = cell-linked (is_assignment code.assignment shape) own x s u
+plain-linked code shape (jump_of x) s h u = jumped-linked (escape_at x s.items) s u
+plain-linked code shape (sequence_of x) s h u = tt
+
+index_entered-linked : (code : PeCode) (o : Option ℕ) (w : Wanted) (t : Thunk) (s : ItemState) → HasSequence s.items w.number → IsThunkLinked s.items t → IsRooted s →
+    IsMoveLinked (index_entered code o w t s)
+index_entered-linked code (Some shape) w t s has h u =
+    plain-linked code shape t (push (element_c w) s) (thunk-extends (extends-newer (context (element_c w) s.newest) s.items) t h) (push-rooted (element_c w) s has u)
+index_entered-linked code None w t s has h u = tt
+
+index-linked : (code : PeCode) (w : Wanted) (s : ItemState) → HasSequence s.items w.number → TakenLinked (index_meets code w) s
+index-linked code w s has (arg_c t) outside h u = index_entered-linked code code.sequences.value w t (record s { newest = outside }) has h u
+index-linked code w s has c outside h u = tt
+
+length-linked : (n : ℕ) (s : ItemState) → TakenLinked (length_meets n) s
+length-linked n s (pick_c i) outside h u =
+    let v : Datum = datum_kind.Int (pos n) in
+    if_linked (nat_eq i 0) (focused (value v) (record s { newest = outside })) (focused-linked (value v) (record s { newest = outside }) tt u)
+length-linked n s e outside h u = tt
+
+asked-linked : (code : PeCode) (k : Asked) (x : ℕ) (o : Option Sequence) (s : ItemState) → HasSequence s.items x → IsRooted s → IsMoveLinked (sequence_asked code k x o s)
+asked-linked code (a_cell b) x (Some c) s has u =
+    taken-linked (index_meets code (record { is_written = b; number = x })) s (index-linked code (record { is_written = b; number = x }) s has) u
+asked-linked code a_length x (Some c) s has u = taken-linked (length_meets (length c.values)) s (length-linked (length c.values) s) u
+asked-linked code no_part x (Some c) s has u = tt
+asked-linked code k x None s has u = tt
+
 entered-linked : (code : PeCode) (shape : ℕ) (t : Thunk) (s : ItemState) → IsThunkLinked s.items t → IsRooted s → IsMoveLinked (entered code shape t s)
-entered-linked code shape (source node r) s h u = entry-linked (entry_of code node shape) r s h u
-entered-linked code shape (datum v) s h u = focused-linked (value v) s tt u
-entered-linked code shape (cell_of x) s h u = cell-linked (is_assignment code.assignment shape) x s u
-entered-linked code shape (jump_of x) s h u = jumped-linked (escape_at x s.items) s u
+entered-linked code shape (source node r) s h u = plain-linked code shape (source node r) s h u
+entered-linked code shape (datum v) s h u = plain-linked code shape (datum v) s h u
+entered-linked code shape (cell_of x) s h u = plain-linked code shape (cell_of x) s h u
+entered-linked code shape (jump_of x) s h u = plain-linked code shape (jump_of x) s h u
+entered-linked code shape (sequence_of x) s h u = asked-linked code (asked_at code.sequences shape) x (sequence_at x s.items) s h u
 
 with-variable : (is : List Item) (o : Option FoundFrame) (go : Thunk → ItemMove) → IsVariableLinked is o → ((t : Thunk) → IsThunkLinked is t → IsMoveLinked (go t)) →
     IsMoveLinked (with_variable o go)
@@ -233,6 +324,7 @@ module _ (code : PeCode) where
   executed-linked (insn.While y z) d at p s k u = pushed-linked (while_c p (record p { address = z })) (record p { address = y }) s (k, k) k u
   executed-linked (insn.Loop y) d at p s k u = pushed-linked (loop_c p) (record p { address = y }) s k k u
   executed-linked (insn.New y z) d at p s k u = pushed-linked (new_c d (record p { address = z })) (record p { address = y }) s k k u
+  executed-linked (insn.Cells y z) d at p s k u = pushed-linked (cells_c d (record p { address = z }) at) (record p { address = y }) s k k u
   executed-linked (insn.Escape y) d at p s k u =
       bound-linked d (to_escape (address_on s.items)) y p.frame (push (esc_c 0) s) (has-pushed (esc_c 0) s.newest s.items)
       (name-extends (extends-newer (context (esc_c 0) s.newest) s.items) p.frame k) (push-rooted (esc_c 0) s tt u)

@@ -1,5 +1,5 @@
 -- What meets the newest context: a datum and a finished command cut the stack, a procedure, a field and an acceptor take the context off.
-use Rattle.std.proofs.Common.{ℕ, true, false, List, Option, Some, None, nat_eq}
+use Rattle.std.proofs.Common.{ℕ, ◌+◌, ◌≡◌, true, false, List, ◌∷◌, length, replicate, Option, Some, None, refl, sym, subst, arith, nat_eq, nat_lt, eq-eqb, eqb-true}
 use Rattle.fy_base.specs.declared.data.Place.{Place}
 use Rattle.fy_base.specs.declared.data.Datum.{Datum}
 use Rattle.fy_base.specs.declared.data.Datum.TheVariants as datum_kind
@@ -10,19 +10,22 @@ use Rattle.fy_base.specs.declared.arithmetic.Applied.TheVariants.{Gives, Faults,
 use Rattle.fy_base.specs.Outside.{Bytes}
 use Rattle.fy_base.specs.Arithmetic.{unary_result, binary_result, written_text}
 use Rattle.std.specs.Prelude.{slice_get, pos, negsuc}
-use Rattle.fy_phrase.specs.Contexts.{op_r, store_c, body_c, drop_c}
+use Rattle.std.proofs.lemmas.Bool.{cond-true}
+use Rattle.std.proofs.lemmas.List.{length-replicate}
+use Rattle.fy_phrase.specs.Contexts.{op_r, store_c, body_c, drop_c, fill_c}
 use Rattle.pe_code.specs.declared.code.PeCode.{PeCode}
 use Rattle.pe_code.specs.Code.{item_at}
-use Rattle.pe_machine.specs.States.{datum, to_thunk, to_cell, code_at, value, completed, PeContext, PeState}
+use Rattle.pe_machine.specs.States.{datum, sequence_of, Sequence, to_thunk, to_cell, to_sequence, Frame, code_at, value, completed, PeContext, Held, PeState}
 use Rattle.pe_machine.specs.Step as machine
 use Rattle.pe_machine.specs.Step.{PeMove, parts_at}
 use Rattle.pe_items.specs.Items as items
-use Rattle.pe_items.specs.Items.{ItemState}
+use Rattle.pe_items.specs.Items.{Item, context, sequence, address_on, FoundContext, context_at, ItemState}
 use Rattle.pe_items.specs.Step as moves
 use Rattle.pe_items.specs.Step.{ItemMove}
-use Rattle.pe_items.proofs.Lays.{AreAt, a_datum, ContextStands, at_op_1, at_op_l, at_op_r, at_if, at_case, at_arg, at_pick, at_then, at_assign, at_store, at_while, at_body, at_loop, at_new, at_drop, at_put, at_escape, at_code, at_value, at_end, thunk_bound, cell_bound, UnderState}
-use Rattle.pe_items.proofs.Standing.{kept-context, names-kept, thunk-kept}
-use Rattle.pe_items.proofs.Alike.{Alike, both_put, both_fault, one_sticks, focused-alike, pushed-under, pushed-alike, bound-alike, if_alike, TakenAlike}
+use Rattle.pe_items.proofs.Lays.{AreAt, a_datum, ContextStands, at_op_1, at_op_l, at_op_r, at_if, at_case, at_arg, at_pick, at_then, at_assign, at_store, at_while, at_body, at_loop, at_new, at_cells, at_element, at_drop, at_put, at_escape, at_code, at_value, at_end, thunk_bound, cell_bound, sequence_bound, live_context, laid_cells, Under, UnderState, at_fill}
+use Rattle.pe_items.proofs.Standing.{kept-context, kept-cells, kept-both, names-kept, thunk-kept}
+use Rattle.pe_items.proofs.CellLemmas.{element-alike}
+use Rattle.pe_items.proofs.Alike.{Alike, both_go, both_put, both_fault, one_sticks, focused-alike, pushed-under, pushed-alike, bound-alike, if_alike, either-alike, TakenAlike}
 
 -- ---- a datum
 
@@ -61,6 +64,13 @@ written-alike : (o : Option Bytes) (s : PeState) (t : ItemState) → UnderState 
 written-alike (Some text) s t u = both_put (record { focus = at_end; under = u })
 written-alike None s t u = one_sticks
 
+-- so many cells are wanted
+counted-alike : (v : Datum) (d a : ℕ) (r x : Option ℕ) (at : Place) (s : PeState) (t : ItemState) → AreAt s.frames t.items r x → UnderState s t →
+    Alike (machine.counted v d (record { address = a; frame = r }) at s) (moves.counted v d (record { address = a; frame = x }) at t)
+counted-alike (datum_kind.Int (pos m)) d a r x at s t k u = both_go (at_fill {fs = s.frames} {cs = s.contexts} {k = 0} {base = s.load} {is = t.items} (omega arith) k u)
+counted-alike (datum_kind.Int (negsuc m)) d a r x at s t k u = both_fault
+counted-alike v d a r x at s t k u = one_sticks
+
 pub datum-alike : (code : PeCode) (v : Datum) (c e : PeContext) (s : PeState) (t : ItemState) → ContextStands s.frames t.items c e → UnderState s t →
     Alike (machine.datum_meets code v c s) (moves.datum_meets code v e t)
 datum-alike code v c e s t (at_op_1 {op = op} {at = at}) u = operated-alike (unary_result op v) at s t u
@@ -78,7 +88,61 @@ datum-alike code v c e s t (at_new {d = d} {a = a} {r = r} {x = x} k) u =
     (names-kept (kept-context s.frames t.items (drop_c 0) t.newest) r x k) (pushed-under (drop_c s.next) (drop_c 0) s t at_drop u)
 datum-alike code v c e s t (at_assign {a = a} {r = r} {x = x} k) u = pushed-alike (store_c v) (store_c v) a r x s t at_store k u
 datum-alike code v c e s t (at_put {kind = kind}) u = written-alike (written_text kind v) s t u
+datum-alike code v c e s t (at_cells {d = d} {a = a} {r = r} {x = x} {at = at} k) u = counted-alike v d a r x at s t k u
+datum-alike code v c e s t (at_element {b = b} {n = n} {x = x} a) u = element-alike v b n x s t a u
 datum-alike code v c e s t h u = one_sticks
+
+-- ---- a sequence that has k of its m cells
+
+module _ (fs : List Frame) (cs : List Held) (n k m d a base load next outside : ℕ) (at : Place) (r x : Option ℕ) (is : List Item) (paid : load ≡ base + 8 + k) (around : AreAt fs is r x)
+    (under : Under fs cs base next outside is) where
+  abbrev filling : PeState
+  filling = record {
+    focus = value (datum_kind.Int (pos k));
+    contexts = (record { base = base; frames = length fs; context = fill_c n m d (record { address = a; frame = r }) at }) ∷ cs;
+    frames = fs;
+    next = next;
+    load = load;
+  }
+
+  -- the items below its context
+  abbrev cut_back : ItemState
+  cut_back = record { focus = value (datum_kind.Int (pos k)); newest = outside; items = is }
+
+  more-alike : Alike (machine.one_more k filling) (moves.one_more k m d (record { address = a; frame = x }) at cut_back)
+  more-alike = both_go (at_fill {fs = fs} {cs = cs} {k = k + 1} {base = base} {is = is} (omega (arith, paid)) around under)
+
+  all-alike : k ≡ m →
+      Alike (machine.bound_filled m d (record { address = a; frame = r }) at (record { base = base; frames = length fs; context = fill_c n m d (record { address = a; frame = r }) at }) cs filling)
+      (moves.bound_filled m d (record { address = a; frame = x }) at cut_back)
+  all-alike last =
+      let cells : Sequence = record { place = at; values = replicate m (datum_kind.Int (pos 0)) } in
+      let body : Held = record { base = base; frames = length fs; context = drop_c next } in
+      let many = length-replicate m (datum_kind.Int (pos 0)) in
+      let small = under.load in
+      bound-alike d (to_sequence cells) (items.to_thunk (sequence_of (address_on is))) a r x (record filling { contexts = body ∷ cs }) (moves.with_cells (drop_c 0) at m cut_back)
+      (sequence_bound refl (omega arith))
+      (names-kept (kept-both (kept-context fs is (drop_c 0) outside) (kept-cells fs (context (drop_c 0) outside ∷ is) cells)) r x around)
+      (record { lays = laid_cells (live_context {c = body} refl small at_drop under.lays); load = omega (arith, paid, last, many, small); numbers = under.numbers })
+
+  pub filling-alike : (code : PeCode) →
+      Alike (machine.step_at code (value (datum_kind.Int (pos k))) filling)
+      (moves.step_at code (value (datum_kind.Int (pos k)))
+      (record {
+        focus = value (datum_kind.Int (pos k));
+        newest = address_on is;
+        items = sequence (record { place = at; values = replicate k (datum_kind.Int (pos 0)) }) ∷ context (fill_c 0 m d (record { address = a; frame = x }) at) outside ∷ is;
+      }))
+  filling-alike code =
+      let found : FoundContext = record { content = fill_c 0 m d (record { address = a; frame = x }) at; outside = outside; older = is } in
+      let t : ItemState = record {
+        focus = value (datum_kind.Int (pos k));
+        newest = address_on is;
+        items = sequence (record { place = at; values = replicate k (datum_kind.Int (pos 0)) }) ∷ context (fill_c 0 m d (record { address = a; frame = x }) at) outside ∷ is;
+      } in
+      subst (λ (o : Option FoundContext). Alike (machine.step_at code (value (datum_kind.Int (pos k))) filling) (moves.answered (moves.datum_meets code (datum_kind.Int (pos k))) o t))
+      (sym (cond-true (nat_eq (address_on is) (address_on is)) (Some found) (context_at (address_on is) is) (eq-eqb (address_on is) (address_on is) refl)))
+      (either-alike (nat_lt k m) _ _ _ _ (λ q. more-alike) (λ q. either-alike (nat_eq k m) _ _ _ _ (λ p. all-alike (eqb-true k m p)) (λ p. one_sticks)))
 
 -- ---- a finished command
 

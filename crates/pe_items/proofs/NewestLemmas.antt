@@ -2,12 +2,12 @@
 use Rattle.std.proofs.Common.{ℕ, ◌<◌, ◌≤◌, ◌≡◌, List, [], ◌∷◌, length, Option, Some, refl, sym, ◌∙◌, subst, arith, nat_eq, eq-eqb, ne_eqb}
 use Rattle.std.proofs.lemmas.Bool.{cond-true, cond-false}
 use Rattle.fy_phrase.specs.Contexts.{esc_c}
-use Rattle.pe_machine.specs.States.{Binding, Frame, PeContext, Held, oldest}
+use Rattle.pe_machine.specs.States.{Sequence, Binding, Frame, PeContext, Held, oldest}
 use Rattle.pe_machine.specs.Sound.{IsNumbered}
 use Rattle.pe_machine.proofs.Stacks.{oldest_all}
-use Rattle.pe_items.specs.Items.{ItemBinding, Item, frame, context, address_on, FoundContext, context_at}
-use Rattle.pe_items.proofs.Lays.{cost, AreAt, ContextStands, BindingStands, thunk_bound, cell_bound, escape_bound, Lays, nothing, newer_frame, live_context, taken_context}
-use Rattle.pe_items.proofs.Standing.{oldest-newer, Kept, kept-context, kept-frame, kept-both}
+use Rattle.pe_items.specs.Items.{ItemBinding, Item, frame, context, sequence, address_on, FoundContext, context_at}
+use Rattle.pe_items.proofs.Lays.{cost, AreAt, ContextStands, BindingStands, thunk_bound, cell_bound, escape_bound, sequence_bound, Lays, nothing, newer_frame, live_context, taken_context, laid_cells}
+use Rattle.pe_items.proofs.Standing.{oldest-newer, Kept, kept-context, kept-cells, kept-frame, kept-both}
 
 abbrev pub IsNoEscape : PeContext → Type 0
 IsNoEscape c = (n : ℕ) → c ≡ esc_c n → ⊥
@@ -35,6 +35,7 @@ binding-taken : {fs : List Frame} {is : List Item} {c : Held} {cs : List Held} {
 binding-taken outside other (thunk_bound t) = thunk_bound t
 binding-taken outside other cell_bound = cell_bound
 binding-taken {n = n} outside other (escape_bound e) = absurd (other n e)
+binding-taken outside other (sequence_bound e q) = sequence_bound e q
 
 newest-frame : (f : Frame) (fs : List Frame) (cs : List Held) (newest : ℕ) (is : List Item) (u : ItemBinding) (o : Option ℕ) → IsNumbered f.number fs →
     BindingStands fs is cs newest f.number f.binding u → AreAt fs is f.around o → IsNewest fs cs newest is → IsNewest (f ∷ fs) cs newest (frame f.depth u o ∷ is)
@@ -71,6 +72,21 @@ newest-taken fs (c ∷ cs) newest is e o n =
       taken = λ other. taken_context (n.taken other);
     }
 
+newest-cells : (fs : List Frame) (cs : List Held) (newest : ℕ) (is : List Item) (q : Sequence) → IsNewest fs cs newest is → IsNewest fs cs newest (sequence q ∷ is)
+newest-cells fs [] newest is q n = n
+newest-cells fs (c ∷ cs) newest is q n = record {
+  found = n.found;
+  is_found = n.is_found;
+  above_foot = n.above_foot;
+  below_top = (let l = n.below_top in omega arith);
+  small = n.small;
+  stands = n.stands;
+  lays = n.lays;
+  within = n.within;
+  kept = kept-both n.kept (kept-cells fs is q);
+  taken = λ other. laid_cells (n.taken other);
+}
+
 pub newest-of : {fs : List Frame} {cs : List Held} {newest : ℕ} {is : List Item} (b : ℕ) → IsNumbered b fs → Lays fs cs newest is → IsNewest fs cs newest is
 newest-of b h nothing = refl
 newest-of b h (newer_frame {f = f} {fs = fs} {cs = cs} {newest = newest} {is = is} {u = u} {x = x} s a l) =
@@ -91,3 +107,4 @@ newest-of b h (live_context {c = c} {fs = fs} {cs = cs} {newest = newest} {is = 
     }
 newest-of b h (taken_context {fs = fs} {cs = cs} {newest = newest} {outside = outside} {is = is} {e = e} l) =
     newest-taken fs cs newest is e outside (newest-of b h l)
+newest-of b h (laid_cells {fs = fs} {cs = cs} {newest = newest} {is = is} {c = q} l) = newest-cells fs cs newest is q (newest-of b h l)

@@ -1,6 +1,8 @@
 -- Runs of both machines, step by step.
-use Rattle.std.proofs.Common.{ℕ, zero, suc, ◌≡◌, List, [], ◌∷◌, ◌++◌, drop, slice_get, refl, sym, ap, ◌∙◌, subst, subst₂, arith, nat_eq, eq-eqb, ne_eqb}
+use Rattle.std.proofs.Common.{ℕ, zero, suc, ◌≡◌, ◌≤◌, pos, List, [], ◌∷◌, ◌++◌, drop, slice_get, refl, sym, ap, ◌∙◌, subst, subst₂, arith, nat_eq, eq-eqb, ne_eqb}
 use Rattle.std.proofs.lemmas.Bool.{cond-true, cond-false}
+use Rattle.std.proofs.lemmas.List.{length-replicate}
+use Rattle.fy_base.specs.declared.data.Datum.TheVariants as datum_kind
 use Rattle.fy_base.specs.Outside.{Bytes}
 use Rattle.pe_code.specs.declared.code.PeCode.{PeCode}
 use Rattle.pe_machine.specs.States.{Frame, Focus, Held, PeState}
@@ -13,10 +15,10 @@ use Rattle.pe_items.specs.Step.{ItemMove, item_step}
 use Rattle.pe_items.specs.Run as items
 use Rattle.pe_items.specs.Run.{ItemRun, items_after}
 use Rattle.pe_items.specs.Laws.{InStepAs, ItemsGoInStep}
-use Rattle.pe_items.proofs.Lays.{FocusStands, at_code, at_value, at_end, nothing, StateStands}
+use Rattle.pe_items.proofs.Lays.{cost, FocusStands, at_code, at_value, at_end, nothing, StateStands, Stands, at_rest, at_fill}
 use Rattle.pe_items.proofs.NewestLemmas.{IsNewest, newest-of}
 use Rattle.pe_items.proofs.Alike.{Alike, both_go, both_put, both_take, both_fault, one_sticks, one_loses}
-use Rattle.pe_items.proofs.InstructionLemmas.{step-alike}
+use Rattle.pe_items.proofs.InstructionLemmas.{both-step}
 use Rattle.pe_items.proofs.RunSteps.{items_zero, items_suc}
 
 -- ---- both runs
@@ -25,7 +27,7 @@ pub record Agree (r : PeRun) (i : ItemRun) : Type 0 where
   pub standing : i.standing ≡ r.standing
   pub input : i.input ≡ r.input
   pub output : i.output ≡ r.output
-  pub state : StateStands r.state i.state
+  pub state : Stands r.state i.state
 
 -- where the push-enter machine is stuck or gone nothing is said
 abbrev pub AgreeAs : Standing → PeRun → ItemRun → Type 0
@@ -49,12 +51,13 @@ standing-by fs (c ∷ cs) newest is f g at_end n = let l = n.above_foot in cond-
 standing-by fs cs newest is f g (at_code k) n = refl
 standing-by fs cs newest is f g at_value n = refl
 
-standing-alike : (s : PeState) (t : ItemState) → StateStands s t → items.standing_of t ≡ machine.standing_of s
-standing-alike s t w =
+standing-alike : (s : PeState) (t : ItemState) → Stands s t → items.standing_of t ≡ machine.standing_of s
+standing-alike s t (at_rest w) =
     standing-by s.frames s.contexts t.newest t.items s.focus t.focus w.focus (newest-of s.next w.under.numbers w.under.lays)
+standing-alike s t (at_fill paid around under) = refl
 
 -- both are at states that stand
-settled-at : (s : PeState) (t : ItemState) (input here output there : Bytes) → StateStands s t → here ≡ input → there ≡ output →
+settled-at : (s : PeState) (t : ItemState) (input here output there : Bytes) → Stands s t → here ≡ input → there ≡ output →
     AgreeAs (machine.standing_of s) (record { state = s; input = input; output = output; standing = machine.standing_of s })
     (record { state = t; input = here; output = there; standing = items.standing_of t })
 settled-at s t input here output there w e f =
@@ -66,10 +69,10 @@ settled-agree : (m : PeMove) (n : ItemMove) (r : PeRun) (i : ItemRun) → Alike 
     AgreeAs (machine.settled m r).standing (machine.settled m r) (items.settled n i)
 settled-agree m n r i (both_go {s = s} {t = t} w) a = settled-at s t r.input i.input r.output i.output w a.input a.output
 settled-agree m n r i (both_put {text = text} {s = s} {t = t} w) a =
-    settled-at s t r.input i.input (r.output ++ text) (i.output ++ text) w a.input (ap (λ (o : Bytes). o ++ text) a.output)
+    settled-at s t r.input i.input (r.output ++ text) (i.output ++ text) (at_rest w) a.input (ap (λ (o : Bytes). o ++ text) a.output)
 settled-agree m n r i (both_take {go = go} {to = to} w) a =
     settled-at (go (slice_get r.input 0)) (to (slice_get i.input 0)) (drop 1 r.input) (drop 1 i.input) r.output i.output
-    (subst (λ (b : Bytes). StateStands (go (slice_get r.input 0)) (to (slice_get b 0))) (sym a.input) (w (slice_get r.input 0))) (ap (λ (b : Bytes). drop 1 b) a.input) a.output
+    (at_rest (subst (λ (b : Bytes). StateStands (go (slice_get r.input 0)) (to (slice_get b 0))) (sym a.input) (w (slice_get r.input 0)))) (ap (λ (b : Bytes). drop 1 b) a.input) a.output
 settled-agree m n r i both_fault a = record { standing = refl; input = a.input; output = a.output; state = a.state }
 settled-agree m n r i one_sticks a = tt
 settled-agree m n r i one_loses a = tt
@@ -83,7 +86,7 @@ module _ (code : PeCode) where
       AgreeAs (machine.ticked code st r).standing (machine.ticked code st r) (items.tick code i)
   ticked-agree going r i e a =
       subst (λ (z : Standing). AgreeAs (machine.ticked code going r).standing (machine.ticked code going r) (items.ticked code z i)) (sym (a.standing ∙ e))
-      (settled-agree (pe_step code r.state) (item_step code i.state) r i (step-alike code r.state.focus i.state.focus r.state i.state a.state.focus a.state.under) a)
+      (settled-agree (pe_step code r.state) (item_step code i.state) r i (both-step code r.state i.state a.state) a)
   ticked-agree ended r i e a = stays ended r i (a.standing ∙ e) refl a
   ticked-agree (faulted kind at) r i e a = stays (faulted kind at) r i (a.standing ∙ e) refl a
   ticked-agree stuck r i e a = subst (λ (z : Standing). AgreeAs z r (items.tick code i)) (sym e) tt
@@ -104,13 +107,18 @@ start-agree input = record {
   standing = refl;
   input = refl;
   output = refl;
-  state = record { focus = at_code tt; under = record { lays = nothing; load = omega arith; numbers = tt } };
+  state = at_rest (record { focus = at_code tt; under = record { lays = nothing; load = omega arith; numbers = tt } });
 }
 
+-- the load pays for the items, and for those of a sequence without all its cells
+stands-paid : (s : PeState) (t : ItemState) → Stands s t → cost t.items ≤ s.load
+stands-paid s t (at_rest w) = w.under.load
+stands-paid s t (at_fill {k = k} paid around under) = let small = under.load in let many = length-replicate k (datum_kind.Int (pos 0)) in omega (arith, paid)
+
 in_step : (st : Standing) (r : PeRun) (i : ItemRun) → AgreeAs st r i → InStepAs st r i
-in_step going r i a = record { standing = a.standing; input = a.input; output = a.output; load = a.state.under.load }
-in_step ended r i a = record { standing = a.standing; input = a.input; output = a.output; load = a.state.under.load }
-in_step (faulted kind at) r i a = record { standing = a.standing; input = a.input; output = a.output; load = a.state.under.load }
+in_step going r i a = record { standing = a.standing; input = a.input; output = a.output; load = stands-paid r.state i.state a.state }
+in_step ended r i a = record { standing = a.standing; input = a.input; output = a.output; load = stands-paid r.state i.state a.state }
+in_step (faulted kind at) r i a = record { standing = a.standing; input = a.input; output = a.output; load = stands-paid r.state i.state a.state }
 in_step stuck r i a = tt
 in_step gone r i a = tt
 

@@ -2,11 +2,11 @@
 use Rattle.std.proofs.Common.{ℕ, zero, suc, ◌+◌, ◌<◌, ◌≤◌, ◌≡◌, true, List, [], ◌∷◌, length, Option, Some, None, ◌∙◌, inl, inr, arith, nat_eq, eq-eqb, ne_eqb}
 use Rattle.std.proofs.lemmas.Bool.{cond-true, cond-false, le-leb}
 use Rattle.pe_frame.specs.Frames.{frame_words}
-use Rattle.pe_machine.specs.States.{Thunk, Frame, PeContext, is_listed, oldest}
+use Rattle.pe_machine.specs.States.{Thunk, Sequence, Frame, PeContext, is_listed, oldest}
 use Rattle.pe_machine.specs.Sound.{IsNumbered}
 use Rattle.pe_machine.proofs.FrameLemmas.{listed_none}
-use Rattle.pe_items.specs.Items.{ItemBinding, Item, frame, context, address_on, FoundFrame}
-use Rattle.pe_items.proofs.Lays.{Sort, any_frame, escape_frame, IsAt, AreAt, ThunkStands, a_source, a_datum, a_cell, a_jump, VariableStands, no_variable, a_variable, ContextStands, at_op_1, at_op_l, at_op_r, at_if, at_case, at_arg, at_pick, at_then, at_assign, at_store, at_while, at_body, at_loop, at_new, at_drop, at_put, at_escape}
+use Rattle.pe_items.specs.Items.{ItemBinding, Item, frame, context, sequence, address_on, FoundFrame}
+use Rattle.pe_items.proofs.Lays.{Sort, any_frame, escape_frame, IsAt, AreAt, IsSequenceAt, ThunkStands, a_source, a_datum, a_cell, a_jump, a_sequence, VariableStands, no_variable, a_variable, ContextStands, at_op_1, at_op_l, at_op_r, at_if, at_case, at_arg, at_pick, at_then, at_assign, at_store, at_while, at_body, at_loop, at_new, at_cells, at_element, at_drop, at_put, at_escape}
 
 -- ---- words
 
@@ -19,6 +19,7 @@ frame-width (suc d) = (omega arith, omega arith)
 
 pub at-below : (k : Sort) (is : List Item) (fs : List Frame) (b n x : ℕ) → IsNumbered b fs → IsAt k fs is n x → n < b
 at-below k (context e o ∷ is) fs b n x h a = at-below k is fs b n x h a
+at-below k (sequence c ∷ is) fs b n x h a = at-below k is fs b n x h a
 at-below k [] [] b n x h a = absurd a
 at-below k [] (f ∷ fs) b n x h a = absurd a
 at-below k (frame d u o ∷ is) [] b n x h a = absurd a
@@ -27,6 +28,7 @@ at-below k (frame d u o ∷ is) (f ∷ fs) b n x h (inr a) = let l = h.0 in let 
 
 pub at-address : (k : Sort) (is : List Item) (fs : List Frame) (n x : ℕ) → IsAt k fs is n x → x < address_on is
 at-address k (context e o ∷ is) fs n x a = let l = at-address k is fs n x a in omega arith
+at-address k (sequence c ∷ is) fs n x a = let l = at-address k is fs n x a in omega arith
 at-address k [] [] n x a = absurd a
 at-address k [] (f ∷ fs) n x a = absurd a
 at-address k (frame d u o ∷ is) [] n x a = absurd a
@@ -35,6 +37,7 @@ at-address k (frame d u o ∷ is) (f ∷ fs) n x (inr a) = let l = a.1 in omega 
 
 pub at-listed : (k : Sort) (is : List Item) (fs : List Frame) (n x : ℕ) → IsAt k fs is n x → is_listed (Some n) fs ≡ true
 at-listed k (context e o ∷ is) fs n x a = at-listed k is fs n x a
+at-listed k (sequence c ∷ is) fs n x a = at-listed k is fs n x a
 at-listed k [] [] n x a = absurd a
 at-listed k [] (f ∷ fs) n x a = absurd a
 at-listed k (frame d u o ∷ is) [] n x a = absurd a
@@ -42,6 +45,15 @@ at-listed k (frame d u o ∷ is) (f ∷ fs) n x (inl a) = cond-true (nat_eq n f.
 at-listed k (frame d u o ∷ is) (f ∷ fs) n x (inr a) =
     let l = a.0 in
     cond-false (nat_eq n f.number) true (is_listed (Some n) fs) (ne_eqb n f.number (λ q. omega arith)) ∙ at-listed k is fs n x a.2
+
+pub sequence-below : (is : List Item) (fs : List Frame) (b n x : ℕ) → IsNumbered b fs → IsSequenceAt fs is n x → n < b
+sequence-below (context e o ∷ is) fs b n x h a = sequence-below is fs b n x h a
+sequence-below (sequence c ∷ is) fs b n x h a = sequence-below is fs b n x h a
+sequence-below [] [] b n x h a = absurd a
+sequence-below [] (f ∷ fs) b n x h a = absurd a
+sequence-below (frame d u o ∷ is) [] b n x h a = absurd a
+sequence-below (frame d u o ∷ is) (f ∷ fs) b n x h (inl a) = let l = h.0 in let e = a.0 in omega arith
+sequence-below (frame d u o ∷ is) (f ∷ fs) b n x h (inr a) = let l = h.0 in let m = a.0 in omega arith
 
 pub name-listed : (fs : List Frame) (is : List Item) (r x : Option ℕ) → AreAt fs is r x → is_listed r fs ≡ true
 name-listed fs is None None a = listed_none fs
@@ -59,16 +71,23 @@ oldest-newer n f fs le = cond-true _ (oldest n fs) (f ∷ fs) (le-leb n (length 
 -- what stands with the frames and the items stands with the others too
 pub record Kept (fs : List Frame) (is : List Item) (gs : List Frame) (js : List Item) : Type 0 where
   pub stands : (k : Sort) (n x : ℕ) → IsAt k fs is n x → IsAt k gs js n x
+  pub sequences : (n x : ℕ) → IsSequenceAt fs is n x → IsSequenceAt gs js n x
 
 pub kept-context : (fs : List Frame) (is : List Item) (e : PeContext) (o : ℕ) → Kept fs is fs (context e o ∷ is)
-kept-context fs is e o = record { stands = λ k n x a. a }
+kept-context fs is e o = record { stands = λ k n x a. a; sequences = λ n x a. a }
+
+pub kept-cells : (fs : List Frame) (is : List Item) (c : Sequence) → Kept fs is fs (sequence c ∷ is)
+kept-cells fs is c = record { stands = λ k n x a. a; sequences = λ n x a. a }
 
 pub kept-frame : (f : Frame) (d : ℕ) (u : ItemBinding) (o : Option ℕ) (fs : List Frame) (is : List Item) → IsNumbered f.number fs →
     Kept fs is (f ∷ fs) (frame d u o ∷ is)
-kept-frame f d u o fs is h = record { stands = λ k n x a. inr (at-below k is fs f.number n x h a, at-address k is fs n x a, a) }
+kept-frame f d u o fs is h = record {
+  stands = λ k n x a. inr (at-below k is fs f.number n x h a, at-address k is fs n x a, a);
+  sequences = λ n x a. inr (sequence-below is fs f.number n x h a, a);
+}
 
 pub kept-both : {fs gs hs : List Frame} {is js ks : List Item} → Kept fs is gs js → Kept gs js hs ks → Kept fs is hs ks
-kept-both w v = record { stands = λ k n x a. v.stands k n x (w.stands k n x a) }
+kept-both w v = record { stands = λ k n x a. v.stands k n x (w.stands k n x a); sequences = λ n x a. v.sequences n x (w.sequences n x a) }
 
 pub names-kept : {fs gs : List Frame} {is js : List Item} → Kept fs is gs js → (r x : Option ℕ) → AreAt fs is r x → AreAt gs js r x
 names-kept w None None a = tt
@@ -76,7 +95,13 @@ names-kept w (Some n) (Some x) a = w.stands any_frame n x a
 names-kept w None (Some x) a = absurd a
 names-kept w (Some n) None a = absurd a
 
--- below a context stand the same frames
+-- below cells and a context stand the same frames
+pub names-under : (fs : List Frame) (is : List Item) (c : Sequence) (r x : Option ℕ) → AreAt fs (sequence c ∷ is) r x → AreAt fs is r x
+names-under fs is c None None a = tt
+names-under fs is c (Some n) (Some x) a = a
+names-under fs is c None (Some x) a = absurd a
+names-under fs is c (Some n) None a = absurd a
+
 pub names-older : (fs : List Frame) (is : List Item) (e : PeContext) (o : ℕ) (r x : Option ℕ) → AreAt fs (context e o ∷ is) r x → AreAt fs is r x
 names-older fs is e o None None a = tt
 names-older fs is e o (Some n) (Some x) a = a
@@ -88,6 +113,7 @@ thunk-kept w (a_source {r = r} {x = x} a) = a_source (names-kept w r x a)
 thunk-kept w a_datum = a_datum
 thunk-kept w (a_cell {n = n} {x = x} a) = a_cell (w.stands any_frame n x a)
 thunk-kept w (a_jump {n = n} {x = x} a) = a_jump (w.stands escape_frame n x a)
+thunk-kept w (a_sequence {n = n} {x = x} a) = a_sequence (w.sequences n x a)
 
 pub variable-kept : {fs gs : List Frame} {is js : List Item} {o : Option Frame} {p : Option FoundFrame} → Kept fs is gs js → VariableStands fs is o p →
     VariableStands gs js o p
@@ -111,6 +137,8 @@ context-kept w b (at_while {r = r} {x = x} {q = q} {y = y} a c) = at_while (name
 context-kept w b (at_body {r = r} {x = x} a) = at_body (names-kept w r x a)
 context-kept w b (at_loop {r = r} {x = x} a) = at_loop (names-kept w r x a)
 context-kept w b (at_new {r = r} {x = x} a) = at_new (names-kept w r x a)
+context-kept w b (at_cells {r = r} {x = x} a) = at_cells (names-kept w r x a)
+context-kept w b (at_element {n = n} {x = x} a) = at_element (w.sequences n x a)
 context-kept w b at_drop = at_drop
 context-kept w b at_put = at_put
 context-kept w b (at_escape {n = n} h) = at_escape (b n h)

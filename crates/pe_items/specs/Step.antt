@@ -1,5 +1,6 @@
 -- The steps of the push-enter machine on items. An answer and a jump cut the items back to those below the context; a context that is taken stays among the items until such a cut.
-use Rattle.std.specs.Prelude.{ℕ, Bool, true, false, nat_eq, if◌then◌else◌, List, ◌∷◌, slice_get, Some, None, pos, negsuc}
+-- The cells of a sequence that is not complete stand on its context, which is written anew with each.
+use Rattle.std.specs.Prelude.{ℕ, ◌+◌, Bool, true, false, nat_eq, nat_lt, if◌then◌else◌, List, ◌∷◌, length, replicate, slice_get, Some, None, pos, negsuc}
 use Rattle.std.specs.declared.option.Option.{Option}
 use Rattle.fy_base.specs.declared.data.Place.{Place}
 use Rattle.fy_base.specs.declared.data.Datum.{Datum}
@@ -12,16 +13,16 @@ use Rattle.fy_base.specs.declared.arithmetic.Applied.{Applied}
 use Rattle.fy_base.specs.declared.arithmetic.Applied.TheVariants.{Gives, Faults, NoSense}
 use Rattle.fy_base.specs.Outside.{Bytes}
 use Rattle.fy_base.specs.Arithmetic.{unary_result, binary_result, written_text}
-use Rattle.fy_phrase.specs.Contexts.{op_1, op_l, op_r, if_c, case_c, arg_c, pick_c, then_c, assign_c, store_c, while_c, body_c, loop_c, new_c, drop_c, put_c, esc_c}
-use Rattle.fy_phrase.specs.Copy.{byte_or_end}
+use Rattle.fy_phrase.specs.Contexts.{op_1, op_l, op_r, if_c, case_c, arg_c, pick_c, then_c, assign_c, store_c, while_c, body_c, loop_c, new_c, drop_c, put_c, esc_c, cells_c, fill_c, element_c}
+use Rattle.fy_phrase.specs.Copy.{Which, own, element, byte_or_end}
 use Rattle.pe_code.specs.declared.code.PeInsn.{PeInsn}
 use Rattle.pe_code.specs.declared.code.PeInsn.TheVariants as insn
 use Rattle.pe_code.specs.declared.code.PeItem.{PeItem}
 use Rattle.pe_code.specs.declared.code.PeCode.{PeCode}
 use Rattle.pe_code.specs.Code.{item_at, entry_of}
-use Rattle.pe_machine.specs.States.{Pointer, Thunk, source, datum, cell_of, jump_of, Focus, code_at, value, completed, PeContext}
-use Rattle.pe_machine.specs.Step.{is_assignment, parts_at}
-use Rattle.pe_items.specs.Items.{ItemBinding, to_thunk, to_cell, to_escape, frame, context, address_on, FoundContext, context_at, FoundFrame, frame_from, handed_by, datum_at, with_cell, escape_at, ItemState}
+use Rattle.pe_machine.specs.States.{Pointer, Thunk, source, datum, cell_of, jump_of, sequence_of, Sequence, Focus, code_at, value, completed, Wanted, PeContext}
+use Rattle.pe_machine.specs.Step.{is_assignment, parts_at, Asked, a_cell, a_length, no_part, asked_at}
+use Rattle.pe_items.specs.Items.{ItemBinding, to_thunk, to_cell, to_escape, frame, context, sequence, address_on, FoundContext, context_at, FoundFrame, frame_from, handed_by, escape_at, sequence_at, value_at, with_value, ItemState}
 
 -- where a step leads, as the push-enter machine's does
 pub data ItemMove : Type 0 where
@@ -65,6 +66,30 @@ taken meets (Some c) s = meets c.content (record s { newest = c.outside })
 abbrev pub newest_of : ItemState → Option FoundContext
 newest_of s = context_at s.newest s.items
 
+-- ---- cells
+
+abbrev pub loaded : Option Datum → ItemState → ItemMove
+loaded (Some v) s = focused (value v) s
+loaded None s = sticks
+
+abbrev pub assigned : Option Datum → Which → ℕ → Datum → ItemState → ItemMove
+assigned (Some u) which x v s = focused completed (record s { items = with_value which x v s.items })
+assigned None which x v s = sticks
+
+abbrev pub assignment_meets : Which → ℕ → PeContext → ItemState → ItemMove
+assignment_meets which x (store_c v) s = assigned (value_at which x s.items) which x v s
+assignment_meets which x _ s = sticks
+
+abbrev pub cell_entered : Bool → Which → ℕ → ItemState → ItemMove
+cell_entered true which x s = taken (assignment_meets which x) (newest_of s) s
+cell_entered false which x s = loaded (value_at which x s.items) s
+
+abbrev pub element_picked : Datum → Wanted → Option Sequence → ItemState → ItemMove
+element_picked (datum_kind.Int (pos i)) w (Some c) s = if nat_lt i (length c.values) then cell_entered w.is_written (element i) w.number s else faults Range c.place
+element_picked (datum_kind.Int (negsuc i)) w (Some c) s = faults Range c.place
+element_picked _ w (Some c) s = sticks
+element_picked _ w None s = sticks
+
 -- ---- a datum meets a context
 
 abbrev pub operated : Applied → Place → ItemState → ItemMove
@@ -103,6 +128,26 @@ written None s = sticks
 abbrev pub stored : Datum → ℕ → Pointer → ItemState → ItemMove
 stored v d body s = bound d (to_cell v) body.address body.frame (push (drop_c 0) s)
 
+-- a sequence of k cells, each with 0, on its context; no item names it by a number
+abbrev pub with_cells : PeContext → Place → ℕ → ItemState → ItemState
+with_cells c at k s =
+    record s { newest = address_on s.items; items = sequence (record { place = at; values = replicate k (datum_kind.Int (pos 0)) }) ∷ context c s.newest ∷ s.items }
+
+abbrev pub counted : Datum → ℕ → Pointer → Place → ItemState → ItemMove
+counted (datum_kind.Int (pos m)) d body at s = focused (value (datum_kind.Int (pos 0))) (with_cells (fill_c 0 m d body at) at 0 s)
+counted (datum_kind.Int (negsuc m)) d body at s = faults Range at
+counted _ d body at s = sticks
+
+abbrev pub one_more : ℕ → ℕ → ℕ → Pointer → Place → ItemState → ItemMove
+one_more k m d body at s = focused (value (datum_kind.Int (pos (k + 1)))) (with_cells (fill_c 0 m d body at) at (k + 1) s)
+
+abbrev pub bound_filled : ℕ → ℕ → Pointer → Place → ItemState → ItemMove
+bound_filled m d body at s = bound d (to_thunk (sequence_of (address_on s.items))) body.address body.frame (with_cells (drop_c 0) at m s)
+
+abbrev pub filled : Datum → ℕ → (ℕ → ItemMove) → ItemMove → ItemMove
+filled (datum_kind.Int (pos k)) m more all = if nat_lt k m then more k else (if nat_eq k m then all else sticks)
+filled _ m more all = sticks
+
 abbrev pub datum_meets : PeCode → Datum → PeContext → ItemState → ItemMove
 datum_meets code v (op_1 op at) s = operated (unary_result op v) at s
 datum_meets code v (op_l op q at) s = left_meets op v q at s
@@ -113,6 +158,9 @@ datum_meets code v (while_c loop c) s = chosen v (pushed (body_c loop) c s) (foc
 datum_meets code v (new_c d body) s = stored v d body s
 datum_meets code v (assign_c p) s = pushed (store_c v) p s
 datum_meets code v (put_c kind) s = written (written_text kind v) s
+datum_meets code v (cells_c d body at) s = counted v d body at s
+datum_meets code v (fill_c n m d body at) s = filled v m (λ k. one_more k m d body at s) (bound_filled m d body at s)
+datum_meets code v (element_c w) s = element_picked v w (sequence_at w.number s.items) s
 datum_meets code v _ s = sticks
 
 -- ---- a finished command meets a context
@@ -141,22 +189,6 @@ accept_meets d body around _ s = sticks
 
 -- ---- a thunk is entered at a shape
 
-abbrev pub loaded : Option Datum → ItemState → ItemMove
-loaded (Some v) s = focused (value v) s
-loaded None s = sticks
-
-abbrev pub assigned : Option Datum → ℕ → Datum → ItemState → ItemMove
-assigned (Some u) x v s = focused completed (record s { items = with_cell x v s.items })
-assigned None x v s = sticks
-
-abbrev pub assignment_meets : ℕ → PeContext → ItemState → ItemMove
-assignment_meets x (store_c v) s = assigned (datum_at x s.items) x v s
-assignment_meets x _ s = sticks
-
-abbrev pub cell_entered : Bool → ℕ → ItemState → ItemMove
-cell_entered true x s = taken (assignment_meets x) (newest_of s) s
-cell_entered false x s = loaded (datum_at x s.items) s
-
 -- a jump cuts the items back to those that are older than its context
 abbrev pub left_by : Option FoundContext → ItemState → ItemMove
 left_by (Some c) s = goes (record s { focus = completed; newest = c.outside; items = c.older })
@@ -170,11 +202,35 @@ abbrev pub at_entry : Option ℕ → Option ℕ → ItemState → ItemMove
 at_entry (Some a) around s = focused (code_at (record { address = a; frame = around })) s
 at_entry None around s = sticks
 
+abbrev pub entered_plain : PeCode → ℕ → Thunk → ItemState → ItemMove
+entered_plain code shape (source node around) s = at_entry (entry_of code node shape) around s
+entered_plain code shape (datum v) s = focused (value v) s
+entered_plain code shape (cell_of x) s = cell_entered (is_assignment code.assignment shape) own x s
+entered_plain code shape (jump_of x) s = jumped (escape_at x s.items) s
+entered_plain code shape (sequence_of x) s = sticks
+
+-- an index is entered before the cell that it picks
+abbrev pub index_entered : PeCode → Option ℕ → Wanted → Thunk → ItemState → ItemMove
+index_entered code (Some shape) w t s = entered_plain code shape t (push (element_c w) s)
+index_entered code None w t s = sticks
+
+abbrev pub index_meets : PeCode → Wanted → PeContext → ItemState → ItemMove
+index_meets code w (arg_c t) s = index_entered code code.sequences.value w t s
+index_meets code w _ s = sticks
+
+abbrev pub length_meets : ℕ → PeContext → ItemState → ItemMove
+length_meets m (pick_c i) s = if nat_eq i 0 then focused (value (datum_kind.Int (pos m))) s else sticks
+length_meets m _ s = sticks
+
+abbrev pub sequence_asked : PeCode → Asked → ℕ → Option Sequence → ItemState → ItemMove
+sequence_asked code (a_cell is_written) x (Some c) s = taken (index_meets code (record { is_written = is_written; number = x })) (newest_of s) s
+sequence_asked code a_length x (Some c) s = taken (length_meets (length c.values)) (newest_of s) s
+sequence_asked code no_part x (Some c) s = sticks
+sequence_asked code asked x None s = sticks
+
 abbrev pub entered : PeCode → ℕ → Thunk → ItemState → ItemMove
-entered code shape (source node around) s = at_entry (entry_of code node shape) around s
-entered code shape (datum v) s = focused (value v) s
-entered code shape (cell_of x) s = cell_entered (is_assignment code.assignment shape) x s
-entered code shape (jump_of x) s = jumped (escape_at x s.items) s
+entered code shape (sequence_of x) s = sequence_asked code (asked_at code.sequences shape) x (sequence_at x s.items) s
+entered code shape t s = entered_plain code shape t s
 
 abbrev pub with_variable : Option FoundFrame → (Thunk → ItemMove) → ItemMove
 with_variable (Some f) go = go (handed_by f)
@@ -207,6 +263,7 @@ executed code (insn.Assign x y) d at here s = pushed (assign_c (record here { ad
 executed code (insn.While x y) d at here s = pushed (while_c here (record here { address = y })) (record here { address = x }) s
 executed code (insn.Loop x) d at here s = pushed (loop_c here) (record here { address = x }) s
 executed code (insn.New x y) d at here s = pushed (new_c d (record here { address = y })) (record here { address = x }) s
+executed code (insn.Cells x y) d at here s = pushed (cells_c d (record here { address = y }) at) (record here { address = x }) s
 executed code (insn.Escape y) d at here s = bound d (to_escape (address_on s.items)) y here.frame (push (esc_c 0) s)
 executed code (insn.Accept y) d at here s = taken (accept_meets d y here.frame) (newest_of s) s
 executed code (insn.Put kind x) d at here s = pushed (put_c kind) (record here { address = x }) s

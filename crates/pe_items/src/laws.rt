@@ -15,8 +15,8 @@ pub fn no_run_is_gone()
 {}
 
 /// After any number of steps of any code each frame and each context that the state, a frame or a
-/// context names stands among the items below, a cell's frame with a cell and an escape's with an
-/// escape; contexts also name the foot of the stack.
+/// context names stands among the items below, a cell's frame with a cell, an escape's with an
+/// escape and a sequence's context under its cells; contexts also name the foot of the stack.
 pub fn items_stay_linked()
     ensures { ItemsStayLinked }
 {}

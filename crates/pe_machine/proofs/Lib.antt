@@ -1,7 +1,9 @@
 pub mod Stacks
 pub mod FrameLemmas
+pub mod CellLemmas
 pub mod NameLemmas
 pub mod ContextLemmas
 pub mod PlanLemmas
+pub mod FillingLemmas
 pub mod RunLemmas
 pub mod Reached

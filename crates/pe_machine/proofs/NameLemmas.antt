@@ -5,9 +5,10 @@ use Rattle.std.specs.declared.option.Option.{Option}
 use Rattle.std.proofs.lemmas.List.{get_or-take, get_or_append_left, get_or_push, get_or-set_same, get_or-set_other, get_or_read, length-take, length-set, length_push}
 use Rattle.std.proofs.lemmas.List.Elements.{All-weaker, All-push, All-take, All-set}
 use Rattle.std.proofs.lemmas.Bool.{cases_lt, cases_eq, cases_order}
+use Rattle.fy_base.specs.declared.data.Datum.{Datum}
 use Rattle.pe_machine.specs.Sound.{IsNumbered}
 use Rattle.pe_machine.specs.Shown.{frames_onto}
-use Rattle.pe_machine.specs.Names.{Frames, IsPlacedName, IsPlacedLink, IsPlacedThunk, IsPlacedBinding, IsPlacedFrame, IsPlacedContext, IsPlacedFocus, IsPlacedChange, ArePlacedContexts, ArePlacedFrames}
+use Rattle.pe_machine.specs.Names.{Frames, IsPlacedName, IsPlacedLink, IsPlacedThunk, IsPlacedBinding, IsPlacedFrame, IsPlacedContext, IsPlacedPointer, IsPlacedFocus, IsPlacedChange, ArePlacedContexts, ArePlacedFrames}
 use Rattle.pe_machine.specs.declared.frames.FrameName.{FrameName}
 use Rattle.pe_machine.specs.declared.frames.Thunk.{Thunk}
 use Rattle.pe_machine.specs.declared.frames.Thunk.TheVariants as thunk
@@ -17,6 +18,7 @@ use Rattle.pe_machine.specs.declared.frames.Frame.{Frame}
 use Rattle.pe_machine.specs.declared.contexts.Context.{Context}
 use Rattle.pe_machine.specs.declared.contexts.Context.TheVariants as held
 use Rattle.pe_machine.specs.declared.contexts.Held.{Held}
+use Rattle.pe_machine.specs.declared.contexts.Pointer.{Pointer}
 use Rattle.pe_machine.specs.declared.contexts.Focus.{Focus}
 use Rattle.pe_machine.specs.declared.contexts.Focus.TheVariants as focus
 use Rattle.pe_machine.specs.declared.turns.Change.{Change}
@@ -35,11 +37,13 @@ module _ (a b : Frames) (keeps : (name : FrameName) → IsPlacedName a name → 
   kept_thunk (thunk.Literal v) is = tt
   kept_thunk (thunk.Cell name) is = keeps name is
   kept_thunk (thunk.Jump name) is = keeps name is
+  kept_thunk (thunk.Sequence name) is = keeps name is
 
   kept_binding : (x : Binding) → IsPlacedBinding a x → IsPlacedBinding b x
   kept_binding (binding.ToThunk t) is = kept_thunk t is
   kept_binding (binding.ToCell v) is = tt
   kept_binding binding.ToEscape is = tt
+  kept_binding (binding.ToSequence place count) is = tt
 
   kept_frame : (f : Frame) → IsPlacedFrame a f → IsPlacedFrame b f
   kept_frame f is = (kept_binding f.binding is.0, kept_link f.around is.1)
@@ -55,6 +59,8 @@ module _ (a b : Frames) (keeps : (name : FrameName) → IsPlacedName a name → 
   kept_context (held.Body loop) is = kept_link loop.frame is
   kept_context (held.Loop loop) is = kept_link loop.frame is
   kept_context (held.New d body) is = kept_link body.frame is
+  kept_context (held.Cells d body place) is = kept_link body.frame is
+  kept_context (held.Element is_written name) is = keeps name is
   kept_context _ is = tt
 
   kept_focus : (f : Focus) → IsPlacedFocus a f → IsPlacedFocus b f
@@ -65,10 +71,12 @@ module _ (a b : Frames) (keeps : (name : FrameName) → IsPlacedName a name → 
   kept_change : (c : Change) → IsPlacedChange a c → IsPlacedChange b c
   kept_change (change.Focus f) is = kept_focus f is
   kept_change (change.Push c p) is = (kept_context c is.0, kept_link p.frame is.1)
-  kept_change (change.Bind d x p) is = (kept_binding x is.0, kept_link p.frame is.1)
+  kept_change (change.PushValue c v) is = kept_context c is
+  kept_change (change.Bind d t p) is = (kept_thunk t is.0, kept_link p.frame is.1)
   kept_change (change.NewCell d v p) is = kept_link p.frame is
   kept_change (change.NewEscape d p) is = kept_link p.frame is
   kept_change (change.SetCell name v) is = keeps name is
+  kept_change (change.SetElement name i v) is = keeps name is
 
   kept_contexts : (contexts : List Held) → ArePlacedContexts a contexts → ArePlacedContexts b contexts
   kept_contexts contexts are = All-weaker (λ h. IsPlacedContext a h.context) (λ h. IsPlacedContext b h.context) (λ h. kept_context h.context) contexts are
@@ -136,13 +144,13 @@ kept_by_push x frames new name is =
     )
 
 -- the new frame's own name
-name_of_new : (x : Frame) (frames : Frames) (name : FrameName) → IsNumbered frames.next (frames_onto [] frames.items) → x.number ≡ frames.next → name.number ≡ frames.next → name.place ≡ length frames.items
+name_of_new : (cells : List Datum) (x : Frame) (frames : Frames) (name : FrameName) → IsNumbered frames.next (frames_onto cells [] frames.items) → x.number ≡ frames.next → name.number ≡ frames.next → name.place ≡ length frames.items
     → IsPlacedName (with_frame x frames) name
-name_of_new x frames name numbered new number place = (
+name_of_new cells x frames name numbered new number place = (
   omega arith,
   λ k d within same. elim (cases_lt k (length frames.items)) [
     | inl older ↦
-        let small = numbers_small frames.next k frames.items d numbered older in
+        let small = numbers_small cells frames.next k frames.items d numbered older in
         let again : (get_or frames.items k d).number ≡ name.number = ap (λ (f : Frame). f.number) (sym (get_or_append_left frames.items (x ∷ []) d k older)) ∙ same in
         absurd (omega arith)
     | inr newer ↦ omega (arith, length_push frames.items x)
@@ -167,9 +175,9 @@ module _ (x : Frame) (frames : Frames) (items : List Frame) (is : items ≡ fram
       subst P (sym is)
       (All-push Q frames.items x (kept_frames frames (one_more items frames) push_name frames.items are) (kept_frame frames (one_more items frames) push_name x placed))
 
-  pub push_new : (name : FrameName) → IsNumbered frames.next (frames_onto [] frames.items) → name.number ≡ frames.next → name.place ≡ length frames.items → IsPlacedName (one_more items frames) name
-  push_new name numbered number place =
-      let P : List Frame → Type 0 = λ xs. IsPlacedName (one_more xs frames) name in subst P (sym is) (name_of_new x frames name numbered new number place)
+  pub push_new : (cells : List Datum) (name : FrameName) → IsNumbered frames.next (frames_onto cells [] frames.items) → name.number ≡ frames.next → name.place ≡ length frames.items → IsPlacedName (one_more items frames) name
+  push_new cells name numbered number place =
+      let P : List Frame → Type 0 = λ xs. IsPlacedName (one_more xs frames) name in subst P (sym is) (name_of_new cells x frames name numbered new number place)
 
 -- ---- a frame is set, and keeps its number
 
@@ -205,11 +213,11 @@ module _ (place : ℕ) (x y : Frame) (frames : Frames) (inside : place < length 
 
 -- ---- names of frames that are there
 
-pub name_of_frame : (place : ℕ) (x : Frame) (frames : Frames) → IsNumbered frames.next (frames_onto [] frames.items) → place < length frames.items → x ≡ get_or frames.items place x
+pub name_of_frame : (cells : List Datum) (place : ℕ) (x : Frame) (frames : Frames) → IsNumbered frames.next (frames_onto cells [] frames.items) → place < length frames.items → x ≡ get_or frames.items place x
     → IsPlacedName frames (record { place = place; number = x.number })
-name_of_frame place x frames numbered inside read =
+name_of_frame cells place x frames numbered inside read =
     let is : (d : Frame) → x.number ≡ (get_or frames.items place d).number = λ d. ap (λ (f : Frame). f.number) (get_or_read frames.items place x inside read d) in
-    let small = numbers_small frames.next place frames.items x numbered inside in
+    let small = numbers_small cells frames.next place frames.items x numbered inside in
     let same_x = is x in (
       omega arith,
       λ k d within same. elim (cases_order k place) [
@@ -217,8 +225,8 @@ name_of_frame place x frames numbered inside read =
         | inr apart ↦
             let same_d = is d in
             elim apart [
-              | inl before ↦ let rises = numbers_rise frames.next k place frames.items d numbered before inside in absurd (omega arith)
-              | inr after ↦ let rises = numbers_rise frames.next place k frames.items d numbered after within in absurd (omega arith)
+              | inl before ↦ let rises = numbers_rise cells frames.next k place frames.items d numbered before inside in absurd (omega arith)
+              | inr after ↦ let rises = numbers_rise cells frames.next place k frames.items d numbered after within in absurd (omega arith)
             ]
       ],
     )
@@ -232,3 +240,8 @@ pub with_context : (frames : Frames) (contexts more : List Held) (h : Held) → 
 with_context frames contexts more h is are placed =
     let P : List Held → Type 0 = λ hs. ArePlacedContexts frames hs in
     subst P (sym is) (All-push (λ g. IsPlacedContext frames g.context) contexts h are placed)
+
+-- ---- the body of a sequence that gets its cells
+
+pub cut_pointer : (n : ℕ) (frames now : Frames) (p : Pointer) → now ≡ cut_to n frames → IsPlacedPointer frames p → IsPlacedPointer now p
+cut_pointer n frames now p is placed = let P : Frames → Type 0 = λ f. IsPlacedPointer f p in subst P (sym is) (kept_link frames (cut_to n frames) (kept_by_cut n frames) p.frame placed)

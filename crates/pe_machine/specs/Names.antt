@@ -1,5 +1,5 @@
 -- Names that lead to their frames without a search: where a frame in the array has a name's number, it stands at the name's place.
-use Rattle.std.specs.Prelude.{◌≡◌, ℕ, ◌<◌, List, length, slice_index_or, All, Some, None}
+use Rattle.std.specs.Prelude.{◌≡◌, ℕ, ◌<◌, List, length, slice_index_or, All, IfSome, Some, None}
 use Rattle.std.specs.Coded.{×_prop, Π_prop, →_prop, Unit-prop, le_prop, Coded-set, coded_ℕ}
 use Rattle.std.specs.declared.option.Option.{Option}
 use Rattle.pe_machine.specs.declared.frames.FrameName.{FrameName}
@@ -12,6 +12,7 @@ use Rattle.pe_machine.specs.declared.contexts.Pointer.{Pointer}
 use Rattle.pe_machine.specs.declared.contexts.Context.{Context}
 use Rattle.pe_machine.specs.declared.contexts.Context.TheVariants as held
 use Rattle.pe_machine.specs.declared.contexts.Held.{Held}
+use Rattle.pe_machine.specs.declared.contexts.Filling.{Filling}
 use Rattle.pe_machine.specs.declared.contexts.Focus.{Focus}
 use Rattle.pe_machine.specs.declared.contexts.Focus.TheVariants as focus
 use Rattle.pe_machine.specs.declared.turns.Change.{Change}
@@ -45,11 +46,13 @@ IsPlacedThunk frames (thunk.Source node frame) = IsPlacedLink frames frame
 IsPlacedThunk frames (thunk.Literal v) = Unit {0}
 IsPlacedThunk frames (thunk.Cell name) = IsPlacedName frames name
 IsPlacedThunk frames (thunk.Jump name) = IsPlacedName frames name
+IsPlacedThunk frames (thunk.Sequence name) = IsPlacedName frames name
 
 abbrev pub IsPlacedBinding : Frames → Binding → Type 0
 IsPlacedBinding frames (binding.ToThunk t) = IsPlacedThunk frames t
 IsPlacedBinding frames (binding.ToCell v) = Unit {0}
 IsPlacedBinding frames binding.ToEscape = Unit {0}
+IsPlacedBinding frames (binding.ToSequence place count) = Unit {0}
 
 abbrev pub IsPlacedFrame : Frames → Frame → Type 0
 IsPlacedFrame frames f = IsPlacedBinding frames f.binding × IsPlacedLink frames f.around
@@ -68,6 +71,8 @@ IsPlacedContext frames (held.While loop c) = IsPlacedPointer frames loop × IsPl
 IsPlacedContext frames (held.Body loop) = IsPlacedPointer frames loop
 IsPlacedContext frames (held.Loop loop) = IsPlacedPointer frames loop
 IsPlacedContext frames (held.New d body) = IsPlacedPointer frames body
+IsPlacedContext frames (held.Cells d body place) = IsPlacedPointer frames body
+IsPlacedContext frames (held.Element is_written name) = IsPlacedName frames name
 IsPlacedContext frames _ = Unit {0}
 
 abbrev pub IsPlacedFocus : Frames → Focus → Type 0
@@ -88,13 +93,16 @@ ArePlacedFrames frames = All (IsPlacedFrame frames) frames.items
 abbrev pub IsPlacedChange : Frames → Change → Type 0
 IsPlacedChange frames (change.Focus f) = IsPlacedFocus frames f
 IsPlacedChange frames (change.Push c p) = IsPlacedContext frames c × IsPlacedPointer frames p
-IsPlacedChange frames (change.Bind d b p) = IsPlacedBinding frames b × IsPlacedPointer frames p
+IsPlacedChange frames (change.PushValue c v) = IsPlacedContext frames c
+IsPlacedChange frames (change.Bind d t p) = IsPlacedThunk frames t × IsPlacedPointer frames p
 IsPlacedChange frames (change.NewCell d v p) = IsPlacedPointer frames p
 IsPlacedChange frames (change.NewEscape d p) = IsPlacedPointer frames p
 IsPlacedChange frames (change.SetCell name v) = IsPlacedName frames name
+IsPlacedChange frames (change.SetElement name i v) = IsPlacedName frames name
 
 abbrev pub IsPlacedTurn : Frames → Turn → Type 0
 IsPlacedTurn frames (turn.On c) = IsPlacedChange frames c
+IsPlacedTurn frames (turn.Fill count d body at) = IsPlacedPointer frames body
 IsPlacedTurn frames (turn.Read p) = IsPlacedPointer frames p
 IsPlacedTurn frames _ = Unit {0}
 
@@ -103,6 +111,7 @@ IsPlacedDemand frames (demand.Argument d p) = IsPlacedPointer frames p
 IsPlacedDemand frames (demand.Selection i p) = IsPlacedPointer frames p
 IsPlacedDemand frames (demand.Assigned d p) = IsPlacedPointer frames p
 IsPlacedDemand frames (demand.Cell name) = IsPlacedName frames name
+IsPlacedDemand frames (demand.Length count) = Unit {0}
 
 abbrev pub IsPlacedAct : Frames → Act → Type 0
 IsPlacedAct frames (act.Now t) = IsPlacedTurn frames t
@@ -125,11 +134,13 @@ thunk_prop frames (thunk.Source node frame) = link_prop frames frame
 thunk_prop frames (thunk.Literal v) = Unit-prop
 thunk_prop frames (thunk.Cell name) = name_prop frames name
 thunk_prop frames (thunk.Jump name) = name_prop frames name
+thunk_prop frames (thunk.Sequence name) = name_prop frames name
 
 pub binding_prop : (frames : Frames) (b : Binding) → IsProp (IsPlacedBinding frames b)
 binding_prop frames (binding.ToThunk t) = thunk_prop frames t
 binding_prop frames (binding.ToCell v) = Unit-prop
 binding_prop frames binding.ToEscape = Unit-prop
+binding_prop frames (binding.ToSequence place count) = Unit-prop
 
 pub frame_prop : (frames : Frames) (f : Frame) → IsProp (IsPlacedFrame frames f)
 frame_prop frames f = ×_prop (binding_prop frames f.binding) (link_prop frames f.around)
@@ -145,6 +156,8 @@ context_prop frames (held.While loop c) = ×_prop (link_prop frames loop.frame) 
 context_prop frames (held.Body loop) = link_prop frames loop.frame
 context_prop frames (held.Loop loop) = link_prop frames loop.frame
 context_prop frames (held.New d body) = link_prop frames body.frame
+context_prop frames (held.Cells d body place) = link_prop frames body.frame
+context_prop frames (held.Element is_written name) = name_prop frames name
 context_prop frames _ = Unit-prop
 
 pub focus_prop : (frames : Frames) (f : Focus) → IsProp (IsPlacedFocus frames f)
@@ -157,3 +170,7 @@ contexts_prop frames contexts = Π_prop (λ k. Π_prop (λ d. →_prop (context_
 
 pub frames_prop : (frames : Frames) → IsProp (ArePlacedFrames frames)
 frames_prop frames = Π_prop (λ k. Π_prop (λ d. →_prop (frame_prop frames (slice_index_or frames.items k d))))
+
+pub filling_prop : (frames : Frames) (o : Option Filling) → IsProp (IfSome o (λ f. IsPlacedPointer frames f.body))
+filling_prop frames None = Unit-prop
+filling_prop frames (Some f) = link_prop frames f.body.frame

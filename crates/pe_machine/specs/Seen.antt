@@ -12,6 +12,7 @@ use Rattle.pe_machine.specs.States as states
 use Rattle.pe_machine.specs.States.{Focus, code_at, value, completed}
 use Rattle.pe_machine.specs.Step.{PeMove, goes, puts, takes, faults, sticks, loses, push, pe_step}
 use Rattle.pe_machine.specs.Run.{going, ended, standing_of, load_after}
+use Rattle.pe_machine.specs.Shown.{with_filling}
 use Rattle.pe_machine.specs.Turns.{state_of}
 use Rattle.pe_machine.specs.declared.events.Phase.{Phase}
 use Rattle.pe_machine.specs.declared.events.Phase.TheVariants as phase
@@ -27,7 +28,11 @@ pub record Seen : Type 0 where
   pub limit : ℕ
 
 abbrev pub seen : PeState → Seen
-seen s = record { state = state_of s.core; steps = s.steps; phase = s.phase; limit = s.core.limit }
+seen s = record { state = with_filling s.filling (state_of s.core); steps = s.steps; phase = s.phase; limit = s.core.limit }
+
+-- the same where no sequence gets its cells
+abbrev pub still_seen : PeState → Seen
+still_seen s = record { state = state_of s.core; steps = s.steps; phase = s.phase; limit = s.core.limit }
 
 -- the address of the instruction in focus
 abbrev pub address_of : Focus → Option ℕ

@@ -1,9 +1,11 @@
 -- The machine's state that values of the program stand for.
-use Rattle.std.specs.Prelude.{ℕ, List, [], ◌∷◌, Some, None}
+use Rattle.std.specs.Prelude.{ℕ, ◌+◌, List, [], ◌∷◌, length, take, drop, replicate, Some, None, pos}
 use Rattle.std.specs.declared.option.Option.{Option}
-use Rattle.fy_phrase.specs.Contexts.{op_1, op_l, op_r, if_c, case_c, arg_c, pick_c, then_c, assign_c, store_c, while_c, body_c, loop_c, new_c, drop_c, put_c, esc_c}
+use Rattle.fy_base.specs.declared.data.Datum.{Datum}
+use Rattle.fy_base.specs.declared.data.Datum.TheVariants as datum_kind
+use Rattle.fy_phrase.specs.Contexts.{op_1, op_l, op_r, if_c, case_c, arg_c, pick_c, then_c, assign_c, store_c, while_c, body_c, loop_c, new_c, drop_c, put_c, esc_c, cells_c, fill_c, element_c}
 use Rattle.pe_machine.specs.States as states
-use Rattle.pe_machine.specs.States.{source, datum, cell_of, jump_of, to_thunk, to_cell, to_escape, code_at, value, completed, PeContext}
+use Rattle.pe_machine.specs.States.{source, datum, cell_of, jump_of, sequence_of, to_thunk, to_cell, to_escape, to_sequence, code_at, value, completed, PeContext}
 use Rattle.pe_machine.specs.declared.frames.FrameName.{FrameName}
 use Rattle.pe_machine.specs.declared.frames.Thunk.{Thunk}
 use Rattle.pe_machine.specs.declared.frames.Thunk.TheVariants as thunk
@@ -14,6 +16,7 @@ use Rattle.pe_machine.specs.declared.contexts.Pointer.{Pointer}
 use Rattle.pe_machine.specs.declared.contexts.Context.{Context}
 use Rattle.pe_machine.specs.declared.contexts.Context.TheVariants as held
 use Rattle.pe_machine.specs.declared.contexts.Held.{Held}
+use Rattle.pe_machine.specs.declared.contexts.Filling.{Filling}
 use Rattle.pe_machine.specs.declared.contexts.Focus.{Focus}
 use Rattle.pe_machine.specs.declared.contexts.Focus.TheVariants as focus
 
@@ -28,16 +31,25 @@ thunk_of (thunk.Source node frame) = source node (number_of frame)
 thunk_of (thunk.Literal v) = datum v
 thunk_of (thunk.Cell name) = cell_of name.number
 thunk_of (thunk.Jump name) = jump_of name.number
+thunk_of (thunk.Sequence name) = sequence_of name.number
 
--- what a frame binds
-abbrev pub binding_of : Binding → states.Binding
-binding_of (binding.ToThunk t) = to_thunk (thunk_of t)
-binding_of (binding.ToCell v) = to_cell v
-binding_of binding.ToEscape = to_escape
+-- what a frame binds, whose cells are the first of these
+abbrev pub binding_of : List Datum → Binding → states.Binding
+binding_of cells (binding.ToThunk t) = to_thunk (thunk_of t)
+binding_of cells (binding.ToCell v) = to_cell v
+binding_of cells binding.ToEscape = to_escape
+binding_of cells (binding.ToSequence place count) = to_sequence (record { place = place; values = take count cells })
 
--- a frame
-abbrev pub frame_of : Frame → states.Frame
-frame_of f = record { number = f.number; depth = f.depth; binding = binding_of f.binding; around = number_of f.around }
+-- what a new frame binds: each of its cells holds 0
+abbrev pub fresh_binding : Binding → states.Binding
+fresh_binding (binding.ToThunk t) = to_thunk (thunk_of t)
+fresh_binding (binding.ToCell v) = to_cell v
+fresh_binding binding.ToEscape = to_escape
+fresh_binding (binding.ToSequence place count) = to_sequence (record { place = place; values = replicate count (datum_kind.Int (pos 0)) })
+
+-- a frame, by the cells of all
+abbrev pub frame_of : List Datum → Frame → states.Frame
+frame_of cells f = record { number = f.number; depth = f.depth; binding = binding_of (drop f.cells cells) f.binding; around = number_of f.around }
 
 -- code at an address
 abbrev pub pointer_of : Pointer → states.Pointer
@@ -62,6 +74,8 @@ context_of (held.New d body) = new_c d (pointer_of body)
 context_of (held.Drop n) = drop_c n
 context_of (held.Put kind) = put_c kind
 context_of (held.Escape n) = esc_c n
+context_of (held.Cells d body place) = cells_c d (pointer_of body) place
+context_of (held.Element is_written name) = element_c (record { is_written = is_written; number = name.number })
 
 -- a context, with what was before it
 abbrev pub held_of : Held → states.Held
@@ -74,10 +88,22 @@ focus_of (focus.Value v) = value v
 focus_of focus.Completed = completed
 
 -- frames and contexts with the newest last, before others with the newest first
-abbrev pub frames_onto : List states.Frame → List Frame → List states.Frame
-frames_onto fs [] = fs
-frames_onto fs (x ∷ xs) = frames_onto (frame_of x ∷ fs) xs
+abbrev pub frames_onto : List Datum → List states.Frame → List Frame → List states.Frame
+frames_onto cells fs [] = fs
+frames_onto cells fs (x ∷ xs) = frames_onto cells (frame_of cells x ∷ fs) xs
 
 abbrev pub contexts_onto : List states.Held → List Held → List states.Held
 contexts_onto cs [] = cs
 contexts_onto cs (x ∷ xs) = contexts_onto (held_of x ∷ cs) xs
+
+-- a sequence that gets its cells, in front of what a state is otherwise: a context on which the focus tells how many are there
+abbrev pub filled_state : Filling → states.PeState → states.PeState
+filled_state f s = record s {
+  focus = value (datum_kind.Int (pos f.made));
+  contexts = (record { base = s.load; frames = length s.frames; context = fill_c s.next f.count f.depth (pointer_of f.body) f.place }) ∷ s.contexts;
+  load = f.made + (s.load + 8);
+}
+
+abbrev pub with_filling : Option Filling → states.PeState → states.PeState
+with_filling None s = s
+with_filling (Some f) s = filled_state f s

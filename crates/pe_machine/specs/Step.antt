@@ -1,6 +1,6 @@
 -- The push-enter machine: what code does, step by step. An argument or a definition is pushed or bound as a thunk, a node of the source with a frame, and entered where its variable is
 -- used, as in Krivine's machine ("A call-by-name lambda-calculus machine", 2007). The steps, the load and the places of faults are those of the copy rule.
-use Rattle.std.specs.Prelude.{ℕ, ◌+◌, Bool, true, false, nat_eq, if◌then◌else◌, List, [], ◌∷◌, length, slice_get, Some, None, pos, negsuc}
+use Rattle.std.specs.Prelude.{ℕ, ◌+◌, Bool, true, false, nat_eq, nat_lt, if◌then◌else◌, List, [], ◌∷◌, length, replicate, slice_get, Some, None, pos, negsuc}
 use Rattle.std.specs.declared.option.Option.{Option}
 use Rattle.fy_base.specs.declared.data.Place.{Place}
 use Rattle.fy_base.specs.declared.data.Datum.{Datum}
@@ -13,14 +13,15 @@ use Rattle.fy_base.specs.declared.arithmetic.Applied.{Applied}
 use Rattle.fy_base.specs.declared.arithmetic.Applied.TheVariants.{Gives, Faults, NoSense}
 use Rattle.fy_base.specs.Outside.{Bytes}
 use Rattle.fy_base.specs.Arithmetic.{unary_result, binary_result, written_text}
-use Rattle.fy_phrase.specs.Contexts.{op_1, op_l, op_r, if_c, case_c, arg_c, pick_c, then_c, assign_c, store_c, while_c, body_c, loop_c, new_c, drop_c, put_c, esc_c}
-use Rattle.fy_phrase.specs.Copy.{byte_or_end}
+use Rattle.fy_phrase.specs.Contexts.{op_1, op_l, op_r, if_c, case_c, arg_c, pick_c, then_c, assign_c, store_c, while_c, body_c, loop_c, new_c, drop_c, put_c, esc_c, cells_c, fill_c, element_c}
+use Rattle.fy_phrase.specs.Copy.{Which, own, element, byte_or_end}
 use Rattle.pe_code.specs.declared.code.PeInsn.{PeInsn}
 use Rattle.pe_code.specs.declared.code.PeInsn.TheVariants as insn
 use Rattle.pe_code.specs.declared.code.PeItem.{PeItem}
+use Rattle.pe_code.specs.declared.code.SequenceShapes.{SequenceShapes}
 use Rattle.pe_code.specs.declared.code.PeCode.{PeCode}
 use Rattle.pe_code.specs.Code.{item_at, entry_of, picked_from}
-use Rattle.pe_machine.specs.States.{Pointer, Thunk, source, datum, cell_of, jump_of, Binding, to_thunk, to_cell, to_escape, Frame, Focus, code_at, value, completed, PeContext, Held, PeState, oldest, is_listed, frame_outside, datum_of, with_cell, handed_on}
+use Rattle.pe_machine.specs.States.{Pointer, Thunk, source, datum, cell_of, jump_of, sequence_of, Sequence, Binding, to_thunk, to_cell, to_escape, to_sequence, Frame, Focus, code_at, value, completed, Wanted, PeContext, Held, PeState, oldest, is_listed, frame_outside, sequence_at, value_of, with_value, handed_on}
 
 -- where a step leads
 pub data PeMove : Type 0 where
@@ -71,6 +72,34 @@ abbrev pub taken : (PeContext → PeState → PeMove) → List Held → PeState 
 taken meets [] s = sticks
 taken meets (c ∷ cs) s = meets c.context (record s { contexts = cs })
 
+-- ---- cells
+
+-- a cell gives its datum
+abbrev pub loaded : Option Datum → PeState → PeMove
+loaded (Some v) s = focused (value v) s
+loaded None s = loses
+
+-- or takes a new one
+abbrev pub assigned : Option Datum → Which → ℕ → Datum → PeState → PeMove
+assigned (Some u) which n v s = focused completed (record s { frames = with_value which n v s.frames })
+assigned None which n v s = loses
+
+abbrev pub assignment_meets : Which → ℕ → PeContext → PeState → PeMove
+assignment_meets which n (store_c v) s = assigned (value_of which n s.frames) which n v s
+assignment_meets which n _ s = sticks
+
+-- a cell takes a datum where an assignment is asked for, and gives its own elsewhere
+abbrev pub cell_entered : Bool → Which → ℕ → PeState → PeMove
+cell_entered true which n s = taken (assignment_meets which n) s.contexts s
+cell_entered false which n s = loaded (value_of which n s.frames) s
+
+-- the cell that an index picks of a sequence, or the fault where there is none
+abbrev pub element_picked : Datum → Wanted → Option Sequence → PeState → PeMove
+element_picked (datum_kind.Int (pos i)) w (Some c) s = if nat_lt i (length c.values) then cell_entered w.is_written (element i) w.number s else faults Range c.place
+element_picked (datum_kind.Int (negsuc i)) w (Some c) s = faults Range c.place
+element_picked _ w (Some c) s = sticks
+element_picked _ w None s = loses
+
 -- ---- a datum meets a context
 
 -- the result of an operator, or its fault
@@ -119,6 +148,12 @@ written None s = sticks
 abbrev pub stored : Datum → ℕ → Pointer → PeState → PeMove
 stored v d body s = bound d (to_cell v) body.address body.frame (push (drop_c s.next) s)
 
+-- so many cells are wanted of a new sequence, which has none yet; or the fault of a negative number
+abbrev pub counted : Datum → ℕ → Pointer → Place → PeState → PeMove
+counted (datum_kind.Int (pos m)) d body at s = focused (value (datum_kind.Int (pos 0))) (push (fill_c s.next m d body at) s)
+counted (datum_kind.Int (negsuc m)) d body at s = faults Range at
+counted _ d body at s = sticks
+
 abbrev pub datum_meets : PeCode → Datum → PeContext → PeState → PeMove
 datum_meets code v (op_1 op at) s = operated (unary_result op v) at s
 datum_meets code v (op_l op q at) s = left_meets op v q at s
@@ -129,7 +164,33 @@ datum_meets code v (while_c loop c) s = chosen v (pushed (body_c loop) c s) (foc
 datum_meets code v (new_c d body) s = stored v d body s
 datum_meets code v (assign_c p) s = pushed (store_c v) p s
 datum_meets code v (put_c kind) s = written (written_text kind v) s
+datum_meets code v (cells_c d body at) s = counted v d body at s
+datum_meets code v (element_c w) s = element_picked v w (sequence_at w.number s.frames) s
 datum_meets code v _ s = sticks
+
+-- a sequence that has k cells gains one, which adds 1 to the load; no frame holds it yet
+abbrev pub one_more : ℕ → PeState → PeMove
+one_more k s = goes (record s { focus = value (datum_kind.Int (pos (k + 1))); load = s.load + 1 })
+
+-- a frame holds all m cells, each with 0, as long as the body runs, and their context becomes that of the body
+abbrev pub bound_filled : ℕ → ℕ → Pointer → Place → Held → List Held → PeState → PeMove
+bound_filled m d body at c cs s =
+    bound d (to_sequence (record { place = at; values = replicate m (datum_kind.Int (pos 0)) })) body.address body.frame
+    (record s { contexts = (record c { context = drop_c s.next }) ∷ cs })
+
+-- of m cells so many are there: one more is made, or all are there
+abbrev pub filled : Datum → ℕ → (ℕ → PeMove) → PeMove → PeMove
+filled (datum_kind.Int (pos k)) m more all = if nat_lt k m then more k else (if nat_eq k m then all else sticks)
+filled _ m more all = sticks
+
+-- a datum answers each context but that of a sequence, which stays until its cells are there, and then keeps its base as that of the body
+abbrev pub datum_under : PeCode → Datum → PeContext → Held → List Held → PeState → PeMove
+datum_under code v (fill_c n m d body at) c cs s = filled v m (λ k. one_more k s) (bound_filled m d body at c cs s)
+datum_under code v e c cs s = answered (datum_meets code v) (c ∷ cs) s
+
+abbrev pub datum_focused : PeCode → Datum → List Held → PeState → PeMove
+datum_focused code v [] s = sticks
+datum_focused code v (c ∷ cs) s = datum_under code v c.context c cs s
 
 -- ---- a finished command meets a context
 
@@ -157,25 +218,6 @@ accept_meets d body around _ s = sticks
 
 -- ---- a thunk is entered at a shape
 
--- a cell gives its datum
-abbrev pub loaded : Option Datum → PeState → PeMove
-loaded (Some v) s = focused (value v) s
-loaded None s = loses
-
--- or takes a new one
-abbrev pub assigned : Option Datum → ℕ → Datum → PeState → PeMove
-assigned (Some u) n v s = focused completed (record s { frames = with_cell n v s.frames })
-assigned None n v s = loses
-
-abbrev pub assignment_meets : ℕ → PeContext → PeState → PeMove
-assignment_meets n (store_c v) s = assigned (datum_of n s.frames) n v s
-assignment_meets n _ s = sticks
-
--- a cell takes a datum at the shape that asks for an assignment, and gives its own at every other
-abbrev pub cell_entered : Bool → ℕ → PeState → PeMove
-cell_entered true n s = taken (assignment_meets n) s.contexts s
-cell_entered false n s = loaded (datum_of n s.frames) s
-
 -- whether a context is that of jump n
 abbrev pub is_target : ℕ → PeContext → Bool
 is_target n (esc_c m) = nat_eq m n
@@ -198,16 +240,52 @@ abbrev pub if_listed : Bool → PeMove → PeMove
 if_listed true m = m
 if_listed false m = loses
 
--- whether the shape is the one that asks for an assignment
+-- whether a shape is the one that is meant, such as the one that asks for an assignment
 abbrev pub is_assignment : Option ℕ → ℕ → Bool
 is_assignment None shape = false
 is_assignment (Some n) shape = nat_eq n shape
 
+-- a thunk that isn't a sequence; a cell is written at the shape that asks for an assignment, and read at every other
+abbrev pub entered_plain : PeCode → ℕ → Thunk → PeState → PeMove
+entered_plain code shape (source node frame) s = if_listed (is_listed frame s.frames) (at_entry (entry_of code node shape) frame s)
+entered_plain code shape (datum v) s = focused (value v) s
+entered_plain code shape (cell_of n) s = cell_entered (is_assignment code.assignment shape) own n s
+entered_plain code shape (jump_of n) s = if_listed (is_listed (Some n) s.frames) (jumped n s.contexts s)
+entered_plain code shape (sequence_of n) s = sticks
+
+-- an index is entered at the shape of a value, before the cell that it picks
+abbrev pub index_entered : PeCode → Option ℕ → Wanted → Thunk → PeState → PeMove
+index_entered code (Some shape) w t s = entered_plain code shape t (push (element_c w) s)
+index_entered code None w t s = sticks
+
+abbrev pub index_meets : PeCode → Wanted → PeContext → PeState → PeMove
+index_meets code w (arg_c t) s = index_entered code code.sequences.value w t s
+index_meets code w _ s = sticks
+
+-- the length of a sequence, the field `len`, whose name has the number 0
+abbrev pub length_meets : ℕ → PeContext → PeState → PeMove
+length_meets m (pick_c i) s = if nat_eq i 0 then focused (value (datum_kind.Int (pos m))) s else sticks
+length_meets m _ s = sticks
+
+-- what a shape asks of a sequence: a cell to be written or to be read, its length, or nothing that it has
+pub data Asked : Type 0 where
+  a_cell : (is_written : Bool) → Asked
+  a_length : Asked
+  no_part : Asked
+
+abbrev pub asked_at : SequenceShapes → ℕ → Asked
+asked_at shapes shape =
+    if is_assignment shapes.element shape then a_cell false else (if is_assignment shapes.assigned_element shape then a_cell true else (if is_assignment shapes.row_length shape then a_length else no_part))
+
+abbrev pub sequence_asked : PeCode → Asked → ℕ → Option Sequence → PeState → PeMove
+sequence_asked code (a_cell is_written) n (Some c) s = taken (index_meets code (record { is_written = is_written; number = n })) s.contexts s
+sequence_asked code a_length n (Some c) s = taken (length_meets (length c.values)) s.contexts s
+sequence_asked code no_part n (Some c) s = sticks
+sequence_asked code asked n None s = loses
+
 abbrev pub entered : PeCode → ℕ → Thunk → PeState → PeMove
-entered code shape (source node frame) s = if_listed (is_listed frame s.frames) (at_entry (entry_of code node shape) frame s)
-entered code shape (datum v) s = focused (value v) s
-entered code shape (cell_of n) s = cell_entered (is_assignment code.assignment shape) n s
-entered code shape (jump_of n) s = if_listed (is_listed (Some n) s.frames) (jumped n s.contexts s)
+entered code shape (sequence_of n) s = sequence_asked code (asked_at code.sequences shape) n (sequence_at n s.frames) s
+entered code shape t s = entered_plain code shape t s
 
 -- what the variable that is bound in the frame hands on
 abbrev pub with_variable : Option Frame → (Thunk → PeMove) → PeMove
@@ -242,6 +320,7 @@ executed code (insn.Assign x y) d at here s = pushed (assign_c (record here { ad
 executed code (insn.While x y) d at here s = pushed (while_c here (record here { address = y })) (record here { address = x }) s
 executed code (insn.Loop x) d at here s = pushed (loop_c here) (record here { address = x }) s
 executed code (insn.New x y) d at here s = pushed (new_c d (record here { address = y })) (record here { address = x }) s
+executed code (insn.Cells x y) d at here s = pushed (cells_c d (record here { address = y }) at) (record here { address = x }) s
 executed code (insn.Escape y) d at here s = bound d to_escape y here.frame (push (esc_c s.next) s)
 executed code (insn.Accept y) d at here s = taken (accept_meets d y here.frame) s.contexts s
 executed code (insn.Put kind x) d at here s = pushed (put_c kind) (record here { address = x }) s
@@ -254,7 +333,7 @@ item_executed code None here s = sticks
 
 abbrev pub step_at : PeCode → Focus → PeState → PeMove
 step_at code (code_at here) s = item_executed code (item_at code here.address) here s
-step_at code (value v) s = answered (datum_meets code v) s.contexts s
+step_at code (value v) s = datum_focused code v s.contexts s
 step_at code completed s = answered completion_meets s.contexts s
 
 abbrev pub pe_step : PeCode → PeState → PeMove

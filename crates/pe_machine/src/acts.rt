@@ -13,7 +13,7 @@ use crate::answers::{complete, give_value, item_at, push};
 use crate::contexts::{Context, Focus, Pointer};
 use crate::core_state::Core;
 use crate::demands::enter;
-use crate::frames::{Binding, Thunk};
+use crate::frames::Thunk;
 use crate::lookup::variable;
 use crate::plans::{answer, ask, finish, stay};
 use crate::turns::{Act, Change, Demand, Plan, Turn};
@@ -44,7 +44,7 @@ fn bind(depth: u32, thunk: Thunk, body: Pointer) -> Act
     ensures moves { (code : PeCode) (s : PeState) → act_move code result s ≡ bound depth (to_thunk (thunk_of thunk)) body.address (number_of body.frame) s }
     ensures placed { (frames : Frames) → IsPlacedThunk frames thunk → IsPlacedPointer frames body → IsPlacedAct frames result }
 {
-    Act::Now(Turn::On(Change::Bind(depth, Binding::ToThunk(thunk), body)))
+    Act::Now(Turn::On(Change::Bind(depth, thunk, body)))
 }
 
 // What an instruction does that stands under so many binders at a place.
@@ -75,6 +75,7 @@ fn act_of(insn: &PeInsn, depth: u32, at: Place, here: Pointer) -> Act
         PeInsn::While(x, y) => go_in(Context::While(here, beside(here, *y)), here, *x),
         PeInsn::Loop(x) => go_in(Context::Loop(here), here, *x),
         PeInsn::New(x, y) => go_in(Context::New(depth, beside(here, *y)), here, *x),
+        PeInsn::Cells(x, y) => go_in(Context::Cells(depth, beside(here, *y), at), here, *x),
         PeInsn::Escape(y) => Act::Now(Turn::On(Change::NewEscape(depth, beside(here, *y)))),
         PeInsn::Accept(y) => Act::Ask(Demand::Assigned(depth, beside(here, *y))),
         PeInsn::Put(kind, x) => go_in(Context::Put(*kind), here, *x),
@@ -86,7 +87,7 @@ fn act_of(insn: &PeInsn, depth: u32, at: Place, here: Pointer) -> Act
 fn plan_of(code: &PeCode, act: Act, core: &Core) -> Plan
     requires { IsPlacedAct (frames_of core.now) act }
     ensures moves { plan_move result (state_of core.now) ≡ act_move code.now act (state_of core.now) }
-    ensures fair { IsFair core.now.limit result.kept }
+    ensures fair { IsFair core.now.limit (state_of core.now) result.kept }
     ensures placed { IsPlacedTurn (frames_of core.now) result.turn }
 {
     match act {
@@ -100,10 +101,7 @@ fn plan_of(code: &PeCode, act: Act, core: &Core) -> Plan
             None => stay(core, Turn::Gone),
         },
         Act::Let(depth, k, body) => match variable(core, k, body.frame) {
-            Some(thunk) => {
-                let binding = Binding::ToThunk(thunk);
-                stay(core, Turn::On(Change::Bind(depth, binding, body)))
-            }
+            Some(thunk) => stay(core, Turn::On(Change::Bind(depth, thunk, body))),
             None => stay(core, Turn::Gone),
         },
         Act::Ask(demand) => ask(demand, core),
@@ -114,7 +112,7 @@ fn plan_of(code: &PeCode, act: Act, core: &Core) -> Plan
 fn execute(code: &PeCode, here: Pointer, core: &Core) -> Plan
     requires { IsPlacedPointer (frames_of core.now) here }
     ensures moves { plan_move result (state_of core.now) ≡ item_executed code.now (item_at code.now here.address) (pointer_of here) (state_of core.now) }
-    ensures fair { IsFair core.now.limit result.kept }
+    ensures fair { IsFair core.now.limit (state_of core.now) result.kept }
     ensures placed { IsPlacedTurn (frames_of core.now) result.turn }
 {
     match item_at(code, here.address) {
@@ -126,7 +124,7 @@ fn execute(code: &PeCode, here: Pointer, core: &Core) -> Plan
 /// What the next step comes to.
 pub fn plan_step(code: &PeCode, core: &Core) -> Plan
     ensures moves { plan_move result (state_of core.now) ≡ pe_step code.now (state_of core.now) }
-    ensures fair { IsFair core.now.limit result.kept }
+    ensures fair { IsFair core.now.limit (state_of core.now) result.kept }
     ensures placed { IsPlacedTurn (frames_of core.now) result.turn }
 {
     match core.focus {

@@ -1,13 +1,15 @@
 //! A datum, or a finished command, meets a context.
 
-ghost use Rattle.std.specs.Prelude.{◌≡◌, slice_get};
+ghost use Rattle.std.specs.Prelude.{◌≡◌, ◌≢◌, Bool, slice_get};
 ghost use Rattle.std.specs.Option.{option_copied};
 ghost use Rattle.pe_code.specs.Code.{item_at};
 ghost use Rattle.pe_machine.specs.States.{PeState, value, completed, code_at};
-ghost use Rattle.pe_machine.specs.Step.{chosen, completion_meets, datum_meets, focused, focused_if_some, indexed, left_meets, operated, parts_at, pushed};
+ghost use Rattle.pe_machine.specs.Step.{chosen, completion_meets, counted, datum_meets, focused, focused_if_some, indexed, left_meets, operated, parts_at, pushed};
 ghost use Rattle.pe_machine.specs.Shown.{context_of, number_of, pointer_of};
 ghost use Rattle.pe_machine.specs.Names.{Frames, IsPlacedContext, IsPlacedPointer, IsPlacedTurn};
 ghost use Rattle.pe_machine.specs.Turns.{turn_move};
+ghost use Rattle.pe_machine.specs.declared.contexts.Context.{Context};
+ghost use Rattle.pe_machine.specs.declared.frames.FrameName.{FrameName};
 
 use crate::contexts::{Context, Focus, Pointer};
 use crate::turns::{Change, Turn};
@@ -134,8 +136,26 @@ fn pick(code: &PeCode, v: Datum, parts: Pointer, at: Place) -> Turn
     }
 }
 
-/// What a datum does at a context.
+// A new sequence of so many cells.
+fn count(v: Datum, depth: u32, body: Pointer, at: Place) -> Turn
+    ensures moves { (s : PeState) → turn_move result s ≡ counted v depth (pointer_of body) at s }
+    ensures placed { (frames : Frames) → IsPlacedPointer frames body → IsPlacedTurn frames result }
+{
+    match v {
+        Datum::Int(n) => match u64::try_from(n) {
+            Ok(count) => Turn::Fill(count, depth, body, at),
+            Err(_) => Turn::Fault {
+                kind: FaultKind::Range,
+                place: at,
+            },
+        },
+        _ => Turn::Stuck,
+    }
+}
+
+/// What a datum does at a context, other than that of an index.
 pub fn meet_datum(code: &PeCode, v: Datum, context: Context) -> Turn
+    requires { (is_written : Bool) (name : FrameName) → context ≢ Context.Element is_written name }
     ensures moves { (s : PeState) → turn_move result s ≡ datum_meets code.now v (context_of context) s }
     ensures placed { (frames : Frames) → IsPlacedContext frames context → IsPlacedTurn frames result }
 {
@@ -149,6 +169,7 @@ pub fn meet_datum(code: &PeCode, v: Datum, context: Context) -> Turn
         Context::New(depth, body) => Turn::On(Change::NewCell(depth, v, body)),
         Context::Assign(p) => push(Context::Store(v), p),
         Context::Put(kind) => Turn::Put(kind, v),
+        Context::Cells(depth, body, at) => count(v, depth, body, at),
         _ => Turn::Stuck,
     }
 }

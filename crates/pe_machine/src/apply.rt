@@ -1,10 +1,13 @@
 //! Plans are carried out.
 
-ghost use Rattle.std.specs.Prelude.{◌≡◌, ◌+◌, ◌^◌, ◌<◌, ◌≤◌, take};
-ghost use Rattle.pe_machine.specs.States.{PeState, with_datum, with_cell};
+ghost use Rattle.std.specs.Prelude.{◌≡◌, ◌+◌, ◌^◌, ◌<◌, ◌≤◌, ◌++◌, List, length, pos, replicate, take, vec_len, vec_capacity};
+ghost use Rattle.fy_base.specs.declared.data.Datum.{Datum};
+ghost use Rattle.fy_phrase.specs.Copy.{element};
+ghost use Rattle.pe_machine.specs.States.{PeState, with_datum, with_cell, with_value};
 ghost use Rattle.pe_machine.specs.Run.{load_after};
 ghost use Rattle.pe_machine.specs.Step.{bind, bound, focus_on, goes, push};
-ghost use Rattle.pe_machine.specs.Shown.{binding_of, context_of, focus_of, number_of};
+ghost use Rattle.pe_machine.specs.Sound.{AreLaid, count_in};
+ghost use Rattle.pe_machine.specs.Shown.{binding_of, context_of, focus_of, fresh_binding, number_of};
 ghost use Rattle.pe_machine.specs.Names.{Frames, IsPlacedBinding, IsPlacedChange, IsPlacedContext, IsPlacedFocus, IsPlacedLink, IsPlacedName};
 ghost use Rattle.pe_machine.specs.Turns.{IsFair, change_move, frames_of, kept_of, state_of};
 
@@ -26,18 +29,31 @@ pub fn set_focus(core: &mut Core, focus: Focus)
     core.focus = focus;
 }
 
+// How many cells the oldest frames have.
+fn cells_before(core: &Core, frames: usize) -> usize
+    ensures laid { AreLaid 0 (take frames core.now.frames.items) result }
+    ensures within { result ≤ length core.now.cells.items }
+{
+    match core.frames.as_slice().get(frames) {
+        Some(frame) => frame.cells as usize,
+        None => core.cells.len(),
+    }
+}
+
 /// Cuts the stacks back.
 #[tactic(auto, using(crate::proofs::Stacks::stacks))]
 pub fn cut(core: &mut Core, kept: Kept)
-    requires { IsFair core.old.limit kept }
+    requires { IsFair core.old.limit (state_of core.old) kept }
     ensures state { state_of core.new ≡ kept_of kept (state_of core.old) }
     ensures frames { frames_of core.new ≡ record (frames_of core.old) { items = take kept.frames core.old.frames.items } }
     ensures limit { core.new.limit ≡ core.old.limit }
     ensures next { core.new.next ≡ core.old.next }
     ensures load { core.new.load ≡ kept.load }
 {
+    let cells = cells_before(core, kept.frames);
     core.contexts.truncate(kept.contexts);
     core.frames.truncate(kept.frames);
+    core.cells.truncate(cells);
     core.load = kept.load;
 }
 
@@ -64,14 +80,39 @@ pub fn push_context(core: &mut Core, context: Context)
     core.load += 8;
 }
 
-// Makes a frame, which fits the limit, and names it.
+// How many cells are made with a frame.
+fn count_in(binding: Binding) -> u32
+    ensures { result ≡ count_in binding }
+{
+    match binding {
+        Binding::ToSequence(_, count) => count,
+        _ => 0,
+    }
+}
+
+// Adds so many cells, each with 0, for which there is room.
+fn add_cells(cells: &mut Vec<Datum>, count: u32)
+    requires { vec_len cells.old + count ≤ vec_capacity cells.old }
+    ensures items { cells.new.items ≡ cells.old.items ++ replicate count (Datum.Int (pos 0)) }
+    ensures len { vec_len cells.new ≡ vec_len cells.old + count }
+    ensures room { vec_capacity cells.old ≤ vec_capacity cells.new }
+{
+    for k in 0..count {
+        match cells.push(Datum::Int(0)) {
+            Ok(()) => {}
+            Err(_) => unreachable!(),
+        }
+    }
+}
+
+// Makes a frame, with the cells of its sequence, which fits the limit, and names it.
 #[tactic(auto, using(crate::proofs::Stacks::stacks))]
 fn push_frame(core: &mut Core, depth: u32, binding: Binding, around: Option<FrameName>) -> FrameName
-    requires load { core.old.load + (8 + depth) ≤ core.old.limit }
+    requires load { (count_in binding + core.old.load) + (8 + depth) ≤ core.old.limit }
     requires next { core.old.next + 1 < 2 ^ 64 }
     requires binding { IsPlacedBinding (frames_of core.old) binding }
     requires around { IsPlacedLink (frames_of core.old) around }
-    ensures state { state_of core.new ≡ bind depth (binding_of binding) (number_of around) (state_of core.old) }
+    ensures state { state_of core.new ≡ bind depth (fresh_binding binding) (number_of around) (record (state_of core.old) { load = count_in binding + core.old.load }) }
     ensures number { result.number ≡ core.old.next }
     ensures placed { IsPlacedName (frames_of core.new) result }
     ensures limit { core.new.limit ≡ core.old.limit }
@@ -86,23 +127,26 @@ fn push_frame(core: &mut Core, depth: u32, binding: Binding, around: Option<Fram
         depth,
         binding,
         around,
+        cells: core.cells.len() as u32,
     };
+    let count = count_in(binding);
+    add_cells(&mut core.cells, count);
     match core.frames.push(frame) {
         Ok(()) => {}
         Err(_) => unreachable!(),
     }
     core.next += 1;
-    core.load += 8 + u64::from(depth);
+    core.load += u64::from(count) + 8 + u64::from(depth);
     name
 }
 
-// Makes a frame, and goes on with the body in it.
-fn enter_body(core: &mut Core, depth: u32, binding: Binding, body: Pointer)
-    requires load { core.old.load + (8 + depth) ≤ core.old.limit }
+/// Makes a frame, with the cells of its sequence, and goes on with the body in it.
+pub fn enter_body(core: &mut Core, depth: u32, binding: Binding, body: Pointer)
+    requires load { (count_in binding + core.old.load) + (8 + depth) ≤ core.old.limit }
     requires next { core.old.next + 1 < 2 ^ 64 }
     requires binding { IsPlacedBinding (frames_of core.old) binding }
     requires around { IsPlacedLink (frames_of core.old) body.frame }
-    ensures state { bound depth (binding_of binding) body.address (number_of body.frame) (state_of core.old) ≡ goes (state_of core.new) }
+    ensures state { bound depth (fresh_binding binding) body.address (number_of body.frame) (record (state_of core.old) { load = count_in binding + core.old.load }) ≡ goes (state_of core.new) }
     ensures limit { core.new.limit ≡ core.old.limit }
     ensures next { core.new.next ≡ core.old.next + 1 }
 {
@@ -116,7 +160,8 @@ fn enter_body(core: &mut Core, depth: u32, binding: Binding, body: Pointer)
 
 // A cell holds another datum.
 fn with_datum(binding: Binding, v: Datum) -> Binding
-    ensures binding { binding_of result ≡ with_datum v (binding_of binding) }
+    ensures binding { (cells : List Datum) → binding_of cells result ≡ with_datum v (binding_of cells binding) }
+    ensures count { count_in result ≡ count_in binding }
     ensures placed { (frames : Frames) → IsPlacedBinding frames binding → IsPlacedBinding frames result }
 {
     match binding {
@@ -139,7 +184,24 @@ fn set_cell(core: &mut Core, name: FrameName, v: Datum)
             depth: frame.depth,
             binding: with_datum(frame.binding, v),
             around: frame.around,
+            cells: frame.cells,
         };
+    }
+}
+
+// The cell of an index in the sequence of a frame takes a datum, if it is there.
+fn set_element(core: &mut Core, name: FrameName, i: u32, v: Datum)
+    requires { IsPlacedName (frames_of core.old) name }
+    ensures state { state_of core.new ≡ record (state_of core.old) { frames = with_value (element i) name.number v (state_of core.old).frames } }
+    ensures limit { core.new.limit ≡ core.old.limit }
+    ensures next { core.new.next ≡ core.old.next }
+{
+    if let Some(place) = place_of(core, core.frames.len(), name) {
+        let frame = core.frames[place];
+        if i < count_in(frame.binding) {
+            let at = (frame.cells + i) as usize;
+            core.cells[at] = v;
+        }
     }
 }
 
@@ -151,10 +213,12 @@ pub fn cost_of(change: Change) -> u64
     match change {
         Change::Focus(_) => 0,
         Change::Push(..) => 8,
+        Change::PushValue(..) => 8,
         Change::Bind(depth, ..) => 8 + u64::from(depth),
         Change::NewCell(depth, ..) => 16 + u64::from(depth),
         Change::NewEscape(depth, _) => 16 + u64::from(depth),
         Change::SetCell(..) => 0,
+        Change::SetElement(..) => 0,
     }
 }
 
@@ -173,7 +237,13 @@ pub fn make(core: &mut Core, change: Change)
             push_context(core, context);
             set_focus(core, Focus::Code(p));
         }
-        Change::Bind(depth, binding, body) => enter_body(core, depth, binding, body),
+        Change::PushValue(context, v) => {
+            push_context(core, context);
+            set_focus(core, Focus::Value(v));
+        }
+        Change::Bind(depth, thunk, body) => {
+            enter_body(core, depth, Binding::ToThunk(thunk), body);
+        }
         Change::NewCell(depth, v, body) => {
             let number = core.next;
             push_context(core, Context::Drop(number));
@@ -186,6 +256,10 @@ pub fn make(core: &mut Core, change: Change)
         }
         Change::SetCell(name, v) => {
             set_cell(core, name, v);
+            set_focus(core, Focus::Completed);
+        }
+        Change::SetElement(name, i, v) => {
+            set_element(core, name, i, v);
             set_focus(core, Focus::Completed);
         }
     }

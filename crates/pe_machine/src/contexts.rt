@@ -31,6 +31,10 @@ pub enum Context {
     Drop(u64),
     Put(PutKind),
     Escape(u64),
+    /// How many cells a new sequence of the depth is to have, before its body.
+    Cells(u32, Pointer, Place),
+    /// The index of a cell of the sequence in a frame, which is to be written, or else read.
+    Element(bool, FrameName),
 }
 
 /// A context, with the load and the number of frames before it was pushed.
@@ -39,6 +43,17 @@ pub struct Held {
     pub base: u64,
     pub frames: u32,
     pub context: Context,
+}
+
+/// A sequence that gets its cells, in front of all contexts: how many it has and how many it is to have, the depth of its binder, its body, and the place of
+/// its `Cells`.
+#[derive(Clone, Copy, Debug)]
+pub struct Filling {
+    pub made: u64,
+    pub count: u64,
+    pub depth: u32,
+    pub body: Pointer,
+    pub place: Place,
 }
 
 /// What a step looks at.

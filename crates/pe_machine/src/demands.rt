@@ -2,6 +2,7 @@
 
 ghost use Rattle.std.specs.Prelude.{◌≡◌, Some};
 ghost use Rattle.pe_code.specs.Code.{entry_of};
+ghost use Rattle.fy_phrase.specs.Copy.{own};
 ghost use Rattle.pe_machine.specs.States.{PeState, datum_of, is_listed};
 ghost use Rattle.pe_machine.specs.Step.{assigned, at_entry, cell_entered, entered, if_listed, is_assignment, jumped, loaded};
 ghost use Rattle.pe_machine.specs.Shown.{context_of, number_of, thunk_of};
@@ -11,17 +12,22 @@ ghost use Rattle.pe_machine.specs.Turns.{IsFair, demand_move, frames_of, plan_mo
 use crate::answers::{give_value, go_to};
 use crate::contexts::{Context, Pointer};
 use crate::core_state::Core;
-use crate::frames::{Binding, FrameName, Thunk};
+use crate::frames::{FrameName, Thunk};
 use crate::lookup::{datum_in, is_there};
 use crate::plans::{ask, jump, stay};
+use crate::sequences::enter_sequence;
 use crate::turns::{Change, Demand, Plan, Turn};
 use fy_base::Datum;
+use fy_types::Name;
 use pe_code::PeCode;
+
+// The number of the name `len`.
+const LENGTH: Name = 0;
 
 // A cell takes a datum.
 fn assign(name: FrameName, v: Datum, core: &Core) -> Turn
     requires { IsPlacedName (frames_of core.now) name }
-    ensures moves { (s : PeState) → s.frames ≡ (state_of core.now).frames → turn_move result s ≡ assigned (datum_of name.number s.frames) name.number v s }
+    ensures moves { (s : PeState) → s.frames ≡ (state_of core.now).frames → turn_move result s ≡ assigned (datum_of name.number s.frames) own name.number v s }
     ensures placed { IsPlacedTurn (frames_of core.now) result }
 {
     match datum_in(core, name) {
@@ -39,16 +45,22 @@ pub fn meet_demand(demand: Demand, context: Context, core: &Core) -> Turn
 {
     match (demand, context) {
         (Demand::Argument(depth, body), Context::Arg(thunk)) => {
-            Turn::On(Change::Bind(depth, Binding::ToThunk(thunk), body))
+            Turn::On(Change::Bind(depth, thunk, body))
         }
         (Demand::Selection(i, p), Context::Pick(j)) => {
             if i == j { go_to(p) } else { Turn::Stuck }
         }
         (Demand::Assigned(depth, body), Context::Store(v)) => {
-            let thunk = Thunk::Literal(v);
-            Turn::On(Change::Bind(depth, Binding::ToThunk(thunk), body))
+            Turn::On(Change::Bind(depth, Thunk::Literal(v), body))
         }
         (Demand::Cell(name), Context::Store(v)) => assign(name, v, core),
+        (Demand::Length(count), Context::Pick(i)) => {
+            if i == LENGTH {
+                give_value(Datum::Int(i64::from(count)))
+            } else {
+                Turn::Stuck
+            }
+        }
         _ => Turn::Stuck,
     }
 }
@@ -80,11 +92,11 @@ fn load_cell(name: FrameName, core: &Core) -> Turn
     }
 }
 
-// Whether the shape is the one that asks for an assignment.
-fn is_assignment(code: &PeCode, shape: u32) -> bool
-    ensures { result ≡ is_assignment code.now.assignment shape }
+/// Whether the shape is the one that is meant.
+pub fn is_assignment(meant: Option<u32>, shape: u32) -> bool
+    ensures { result ≡ is_assignment meant shape }
 {
-    match code.assignment {
+    match meant {
         Some(number) => number == shape,
         None => false,
     }
@@ -93,21 +105,21 @@ fn is_assignment(code: &PeCode, shape: u32) -> bool
 // A cell takes a datum at the shape that asks for an assignment, and gives its own at every other.
 fn enter_cell(code: &PeCode, shape: u32, name: FrameName, core: &Core) -> Plan
     requires { IsPlacedName (frames_of core.now) name }
-    ensures moves { plan_move result (state_of core.now) ≡ cell_entered (is_assignment code.now.assignment shape) name.number (state_of core.now) }
-    ensures fair { IsFair core.now.limit result.kept }
+    ensures moves { plan_move result (state_of core.now) ≡ cell_entered (is_assignment code.now.assignment shape) own name.number (state_of core.now) }
+    ensures fair { IsFair core.now.limit (state_of core.now) result.kept }
     ensures placed { IsPlacedTurn (frames_of core.now) result.turn }
 {
-    if is_assignment(code, shape) {
+    if is_assignment(code.assignment, shape) {
         return ask(Demand::Cell(name), core);
     }
     stay(core, load_cell(name, core))
 }
 
-// A jump to an escape that is still there.
-fn enter_jump(name: FrameName, core: &Core) -> Plan
+/// A jump to an escape that is still there.
+pub fn enter_jump(name: FrameName, core: &Core) -> Plan
     requires { IsPlacedName (frames_of core.now) name }
     ensures moves { plan_move result (state_of core.now) ≡ if_listed (is_listed (Some name.number) (state_of core.now).frames) (jumped name.number (state_of core.now).contexts (state_of core.now)) }
-    ensures fair { IsFair core.now.limit result.kept }
+    ensures fair { IsFair core.now.limit (state_of core.now) result.kept }
     ensures placed { IsPlacedTurn (frames_of core.now) result.turn }
 {
     if is_there(core, Some(name)) {
@@ -120,7 +132,7 @@ fn enter_jump(name: FrameName, core: &Core) -> Plan
 pub fn enter(code: &PeCode, shape: u32, thunk: Thunk, core: &Core) -> Plan
     requires { IsPlacedThunk (frames_of core.now) thunk }
     ensures moves { plan_move result (state_of core.now) ≡ entered code.now shape (thunk_of thunk) (state_of core.now) }
-    ensures fair { IsFair core.now.limit result.kept }
+    ensures fair { IsFair core.now.limit (state_of core.now) result.kept }
     ensures placed { IsPlacedTurn (frames_of core.now) result.turn }
 {
     match thunk {
@@ -128,5 +140,6 @@ pub fn enter(code: &PeCode, shape: u32, thunk: Thunk, core: &Core) -> Plan
         Thunk::Literal(v) => stay(core, give_value(v)),
         Thunk::Cell(name) => enter_cell(code, shape, name, core),
         Thunk::Jump(name) => enter_jump(name, core),
+        Thunk::Sequence(name) => enter_sequence(code, shape, name, core),
     }
 }

@@ -1,6 +1,6 @@
 //! Frames, and what they bind.
 
-use fy_base::Datum;
+use fy_base::{Datum, Place};
 
 /// A frame by its place in the array and its number.
 #[derive(Clone, Copy, PartialEq, Eq, Debug)]
@@ -19,6 +19,8 @@ pub enum Thunk {
     Cell(FrameName),
     /// The escape that the frame holds.
     Jump(FrameName),
+    /// The sequence of cells that the frame holds.
+    Sequence(FrameName),
 }
 
 /// What a frame binds its variable to.
@@ -27,13 +29,16 @@ pub enum Binding {
     ToThunk(Thunk),
     ToCell(Datum),
     ToEscape,
+    /// So many cells, which begin where those of the older frames end, and the place of their `Cells`.
+    ToSequence(Place, u32),
 }
 
-/// A binding, with the depth of its binder and the frame around it.
+/// A binding, with the depth of its binder, the frame around it, and how many cells the older frames have.
 #[derive(Clone, Copy, Debug)]
 pub struct Frame {
     pub number: u64,
     pub depth: u32,
     pub binding: Binding,
     pub around: Option<FrameName>,
+    pub cells: u32,
 }

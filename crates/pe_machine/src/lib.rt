@@ -14,6 +14,7 @@ mod lookup;
 mod machine;
 mod plans;
 mod run;
+mod sequences;
 mod turns;
 
 pub use events::PeEvent;

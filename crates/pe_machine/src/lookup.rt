@@ -1,8 +1,9 @@
 //! Frames by their names.
 
-ghost use Rattle.std.specs.Prelude.{◌≡◌, ◌<◌, ◌≤◌, ◌^◌, IfSome, length};
+ghost use Rattle.std.specs.Prelude.{◌≡◌, ◌+◌, ◌<◌, ◌≤◌, ◌^◌, List, IfSome, MatchOption, None, Some, drop, length, take};
+ghost use Rattle.fy_base.specs.declared.data.Datum.{Datum};
 ghost use Rattle.std.specs.Option.{option_map};
-ghost use Rattle.pe_machine.specs.States.{datum_of, frame_outside, is_listed};
+ghost use Rattle.pe_machine.specs.States.{datum_of, frame_outside, is_listed, oldest, sequence_at};
 ghost use Rattle.pe_machine.specs.Shown.{frame_of, number_of, thunk_of};
 ghost use Rattle.pe_machine.specs.Names.{Frames, IsPlacedBinding, IsPlacedLink, IsPlacedName, IsPlacedThunk};
 ghost use Rattle.pe_machine.specs.Places.{IsOutside, IsPlace, handed_by};
@@ -10,7 +11,7 @@ ghost use Rattle.pe_machine.specs.Turns.{frames_of, state_of};
 
 use crate::core_state::Core;
 use crate::frames::{Binding, Frame, FrameName, Thunk};
-use fy_base::Datum;
+use fy_base::{Datum, Place};
 
 /// The place of the frame that is named among the oldest `end` frames. A frame that is there stands at the
 /// place of its name, so no other is looked at.
@@ -29,7 +30,7 @@ pub fn place_of(core: &Core, end: usize, name: FrameName) -> Option<usize>
 // The place of the frame so many links outside the one that is named, if one is.
 fn place_outside(core: &Core, links: u32, frame: Option<FrameName>) -> Option<usize>
     requires { IsPlacedLink (frames_of core.now) frame }
-    ensures { IsOutside core.now.frames.items links frame result }
+    ensures { IsOutside core.now.cells.items core.now.frames.items links frame result }
 {
     let mut end = core.frames.len();
     let mut name = frame?;
@@ -45,7 +46,7 @@ fn place_outside(core: &Core, links: u32, frame: Option<FrameName>) -> Option<us
 // What a variable of the frame at a place hands on.
 fn handed_on(place: usize, frame: Frame) -> Thunk
     requires { place < 2 ^ 32 }
-    ensures thunk { thunk_of result ≡ handed_by (frame_of frame) }
+    ensures thunk { (cells : List Datum) → thunk_of result ≡ handed_by (frame_of cells frame) }
     ensures placed { (frames : Frames) → IsPlacedBinding frames frame.binding → IsPlacedName frames (record { place = place; number = frame.number }) → IsPlacedThunk frames result }
 {
     let name = FrameName {
@@ -56,6 +57,7 @@ fn handed_on(place: usize, frame: Frame) -> Thunk
         Binding::ToThunk(thunk) => thunk,
         Binding::ToCell(_) => Thunk::Cell(name),
         Binding::ToEscape => Thunk::Jump(name),
+        Binding::ToSequence(..) => Thunk::Sequence(name),
     }
 }
 
@@ -89,6 +91,35 @@ pub fn datum_in(core: &Core, name: FrameName) -> Option<Datum>
     let place = place_of(core, core.frames.len(), name)?;
     match core.frames[place].binding {
         Binding::ToCell(v) => Some(v),
+        _ => None,
+    }
+}
+
+/// Where the cells of a sequence are: from which on, so many of them, and the place of their `Cells`.
+#[derive(Clone, Copy, Debug)]
+pub struct Extent {
+    pub start: u32,
+    pub count: u32,
+    pub place: Place,
+}
+
+/// The cells of the sequence of the frame that is named, which is among the oldest `end` frames. `None` is that the
+/// frame isn't there, or holds no sequence.
+pub fn extent_of(core: &Core, end: usize, name: FrameName) -> Option<Extent>
+    requires end { end ≤ length core.now.frames.items }
+    requires placed { IsPlacedName (frames_of core.now) name }
+    ensures extent { MatchOption result (sequence_at name.number (oldest end (state_of core.now).frames) ≡ None)
+        (λ x. sequence_at name.number (oldest end (state_of core.now).frames) ≡ Some (record { place = x.place; values = take x.count (drop x.start core.now.cells.items) })) }
+    ensures inside { IfSome result (λ x. x.start + x.count ≤ length core.now.cells.items) }
+{
+    let place = place_of(core, end, name)?;
+    let frame = core.frames[place];
+    match frame.binding {
+        Binding::ToSequence(at, count) => Some(Extent {
+            start: frame.cells,
+            count,
+            place: at,
+        }),
         _ => None,
     }
 }

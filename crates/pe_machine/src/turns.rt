@@ -1,7 +1,7 @@
 //! What a step comes to, before it is made.
 
 use crate::contexts::{Context, Focus, Pointer};
-use crate::frames::{Binding, FrameName};
+use crate::frames::{FrameName, Thunk};
 use fy_base::{Datum, FaultKind, Place, PutKind};
 use fy_types::Name;
 
@@ -20,20 +20,26 @@ pub enum Change {
     Focus(Focus),
     /// A context is pushed, and on with code.
     Push(Context, Pointer),
-    /// A frame of the depth is made, and on with the body in it. The body is given in the frame around.
-    Bind(u32, Binding, Pointer),
+    /// A context is pushed, and on with a datum.
+    PushValue(Context, Datum),
+    /// A frame of the depth is made for the thunk, and on with the body in it. The body is given in the frame around.
+    Bind(u32, Thunk, Pointer),
     /// The same for a new cell, which is dropped at the end of the body.
     NewCell(u32, Datum, Pointer),
     /// The same for a new escape, to which the body can jump.
     NewEscape(u32, Pointer),
     /// A cell takes a datum.
     SetCell(FrameName, Datum),
+    /// The cell of an index in the sequence of a frame takes a datum.
+    SetElement(FrameName, u32, Datum),
 }
 
 /// What a step comes to.
 #[derive(Clone, Copy, Debug)]
 pub enum Turn {
     On(Change),
+    /// A new sequence is to get so many cells, for a body of the depth; the place is that of its `Cells`.
+    Fill(u64, u32, Pointer, Place),
     /// The text of a datum is put, where it has one of the kind; else no step is defined.
     Put(PutKind, Datum),
     /// The next byte of input is wanted, for the acceptor.
@@ -63,6 +69,8 @@ pub enum Demand {
     Assigned(u32, Pointer),
     /// An assigned datum, for the cell of a frame.
     Cell(FrameName),
+    /// The selection of `len`, from a sequence of so many cells.
+    Length(u32),
 }
 
 /// What an instruction does.

@@ -17,7 +17,7 @@ use Rattle.fy_derive.specs.Shapes.{a_value, erase}
 use Rattle.fy_derive.specs.ShapeTables.{shape_at, HasPairOf}
 use Rattle.fy_derive.proofs.Asking.{for_end, asked_by, value_asked, assignment_asked, run_asked}
 use Rattle.pe_code.specs.Code.{entry_of}
-use Rattle.pe_machine.specs.States.{Thunk, source, datum, cell_of, jump_of, Binding, to_thunk, to_cell, to_escape, Frame, completed, PeContext, Held, PeState, oldest, datum_of}
+use Rattle.pe_machine.specs.States.{Thunk, source, datum, cell_of, jump_of, sequence_of, Binding, to_thunk, to_cell, to_escape, to_sequence, Frame, completed, PeContext, Held, PeState, oldest, datum_of}
 use Rattle.pe_machine.specs.Step.{PeMove, goes, taken, loaded, assigned, assignment_meets, cell_entered, is_target, jumped, at_entry, if_listed, is_assignment, entered}
 use Rattle.pe_right.specs.ReadsBack.{cells_in}
 use Rattle.pe_right.proofs.FrameLemmas.{Below, Below-oldest, Below-with_cell, oldest-oldest, length-oldest, IsCell, HasFrame-listed, HasFrame-escape, IsEscape, an_escape, marks_in, IsMarked, cells-with_cell, cell-found}
@@ -34,6 +34,7 @@ holds-cell : (X : DataTy) (b : Binding) → HoldsDatum X b → IsCell b
 holds-cell X (to_thunk t) h = h
 holds-cell X (to_cell v) h = tt
 holds-cell X to_escape h = h
+holds-cell X (to_sequence c) h = h
 
 -- a context that doesn't assign makes a cell give its datum
 not_assigned : (x : CopyContext) (n : ℕ) (at : Place) (xs : List (Pushed CopyContext)) (c : CopyState) → for_end a_value ≡ asked_by x →
@@ -69,7 +70,7 @@ module _ (g : Compiled) where
   assigns : (X : DataTy) (n : ℕ) (at : Place) (P Q : PlainPath) (k : PeContext) (x : CopyContext) (count : ℕ) (cs : List Held) (xs : List (Pushed CopyContext)) (s : PeState) (c : CopyState) →
       copy_step c ≡ copy.cell_meets own n at x xs c → P ≡ end (acceptor_atom X) → HasCell X n s.frames → count ≤ length s.frames →
       marks_in s.frames ≡ marked k (marks_in (oldest count s.frames)) → ContextTakes g (oldest count s.frames) k x P Q → ContextsTake g (oldest count s.frames) cs xs Q →
-      c.store ≡ cells_in s.frames → Below s.next s.frames → c.next ≡ s.next → c.load ≡ s.load → MovesIn g (extra g) 2 1 c (assignment_meets n k (record s { contexts = cs }))
+      c.store ≡ cells_in s.frames → Below s.next s.frames → c.next ≡ s.next → c.load ≡ s.load → MovesIn g (extra g) 2 1 c (assignment_meets own n k (record s { contexts = cs }))
   assigns X n at P Q k x count cs xs s c step e h le m (acceptor {v = v} D f) t st lo nx ld =
       let same : D ≡ X = acceptor_atom-same D X (end-same refl e) in
       let typed : datum_atom v ≡ data_atom X = f ∙ ap (λ (Y : DataTy). data_atom Y) same in
@@ -77,7 +78,7 @@ module _ (g : Compiled) where
       let to : copy_step c ≡ copy.goes (record c { focus = skip at; contexts = xs; store = with_value own n v c.store }) =
       step ∙ ap (λ (cells : List Row). copy.assigned (value_of own n cells) own n v at (record c { contexts = xs })) st
       ∙ ap (λ (o : Option Datum). copy.assigned o own n v at (record c { contexts = xs })) y.3 in
-      subst (λ (o : Option Datum). MovesIn g (extra g) 2 1 c (assigned o n v (record s { contexts = cs }))) (sym y.2)
+      subst (λ (o : Option Datum). MovesIn g (extra g) 2 1 c (assigned o own n v (record s { contexts = cs }))) (sym y.2)
       (one_move g to (omega arith) (
         end atoms.Comm,
         (at, refl, refl),
@@ -93,7 +94,7 @@ module _ (g : Compiled) where
 
   writes-under : (X : DataTy) (n : ℕ) (at : Place) (P : PlainPath) (cs : List Held) (xs : List (Pushed CopyContext)) (s : PeState) (c : CopyState) →
       copy_step c ≡ copy.cell_under own n at xs c → P ≡ end (acceptor_atom X) → HasCell X n s.frames → ContextsTake g s.frames cs xs P →
-      c.store ≡ cells_in s.frames → Below s.next s.frames → c.next ≡ s.next → c.load ≡ s.load → MovesIn g (extra g) 2 1 c (taken (assignment_meets n) cs s)
+      c.store ≡ cells_in s.frames → Below s.next s.frames → c.next ≡ s.next → c.load ≡ s.load → MovesIn g (extra g) 2 1 c (taken (assignment_meets own n) cs s)
   writes-under X n at P [] [] s c step e h t st lo nx ld = let f = sym (assignment_asked X e) ∙ run_asked t.0 in absurd cc
   writes-under X n at P (k ∷ cs) (x ∷ xs) s c step e h t st lo nx ld =
       assigns X n at P t.3.0 k.context x.context k.frames cs xs s c step e h t.1 t.2 t.3.1 t.3.2 st lo nx ld
@@ -102,12 +103,12 @@ module _ (g : Compiled) where
 
   -- a cell is written where an assignment is asked for, and read elsewhere
   cell-followed : (X : DataTy) (m n : ℕ) (at : Place) (P : PlainPath) (s : PeState) (c : CopyState) → shape_at g.table n ≡ Some (erase P) → c.focus ≡ mark (marks.Cell m) at →
-      HasCell X m s.frames → (P ≡ end (data_atom X)) ⊎ (P ≡ end (acceptor_atom X)) → Behind g s c P → MovesIn g (extra g) 2 1 c (cell_entered (is_assignment g.code.assignment n) m s)
+      HasCell X m s.frames → (P ≡ end (data_atom X)) ⊎ (P ≡ end (acceptor_atom X)) → Behind g s c P → MovesIn g (extra g) 2 1 c (cell_entered (is_assignment g.code.assignment n) own m s)
   cell-followed X m n at P s c sh f h (inl e) b =
-      subst (λ (a : Bool). MovesIn g (extra g) 2 1 c (cell_entered a m s)) (sym (value-asked g n (sh ∙ ap (λ (R : PlainPath). Some (erase R)) e ∙ ap Some (data-erase X))))
+      subst (λ (a : Bool). MovesIn g (extra g) 2 1 c (cell_entered a own m s)) (sym (value-asked g n (sh ∙ ap (λ (R : PlainPath). Some (erase R)) e ∙ ap Some (data-erase X))))
       (cell-reads X m at P s c f e h b)
   cell-followed X m n at P s c sh f h (inr e) b =
-      subst (λ (a : Bool). MovesIn g (extra g) 2 1 c (cell_entered a m s)) (sym (assignment-asked g n (sh ∙ ap (λ (R : PlainPath). Some (erase R)) e ∙ ap Some (acceptor-erase X))))
+      subst (λ (a : Bool). MovesIn g (extra g) 2 1 c (cell_entered a own m s)) (sym (assignment-asked g n (sh ∙ ap (λ (R : PlainPath). Some (erase R)) e ∙ ap Some (acceptor-erase X))))
       (writes-under X m at P s.contexts c.contexts s c (focus-step c (mark (marks.Cell m) at) f) e h b.0 b.1 b.2 b.3 b.4)
 
   -- ---- jumps
@@ -185,3 +186,4 @@ module _ (g : Compiled) where
       subst (λ (y : Bool). MovesIn g (extra g) 2 1 c (if_listed y (jumped m s.contexts s))) (sym (HasFrame-listed (λ b. IsEscape b) m s.frames th.2))
       (jump-moves m th.0 s c (f ∙ th.1)
       (jump-followed m th.0 s.frames P s.contexts c.contexts s c (λ k le. refl) (HasFrame-escape m s.frames th.2) b.0 b.1 b.2 b.3))
+  entered-followed (sequence_of m) q D n P s c sh some th f b = absurd th

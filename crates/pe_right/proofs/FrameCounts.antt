@@ -1,5 +1,5 @@
 -- No step takes the number of frames that were made back.
-use Rattle.std.proofs.Common.{ℕ, ◌≤◌, pos, negsuc, Bool, true, false, cond, nat_eq, List, [], ◌∷◌, Option, Some, None, slice_get, arith}
+use Rattle.std.proofs.Common.{ℕ, ◌≤◌, pos, negsuc, Bool, true, false, cond, nat_eq, nat_lt, List, [], ◌∷◌, length, Option, Some, None, slice_get, arith}
 use Rattle.fy_base.specs.declared.data.Place.{Place}
 use Rattle.fy_base.specs.declared.data.Datum.{Datum}
 use Rattle.fy_base.specs.declared.data.Datum.TheVariants as datum_kind
@@ -9,14 +9,16 @@ use Rattle.fy_base.specs.declared.arithmetic.Applied.{Applied}
 use Rattle.fy_base.specs.declared.arithmetic.Applied.TheVariants.{Gives, Faults, NoSense}
 use Rattle.fy_base.specs.Arithmetic.{unary_result, binary_result, written_text}
 use Rattle.fy_base.specs.Outside.{Bytes}
-use Rattle.fy_phrase.specs.Contexts.{op_1, op_l, op_r, if_c, case_c, arg_c, pick_c, then_c, assign_c, store_c, while_c, body_c, loop_c, new_c, drop_c, put_c, esc_c}
+use Rattle.fy_phrase.specs.Contexts.{op_1, op_l, op_r, if_c, case_c, arg_c, pick_c, then_c, assign_c, store_c, while_c, body_c, loop_c, new_c, drop_c, put_c, esc_c, cells_c, fill_c, element_c}
+use Rattle.fy_phrase.specs.Copy.{Which, own, element}
+use Rattle.fy_base.specs.declared.data.FaultKind.TheVariants.{Range}
 use Rattle.pe_code.specs.declared.code.PeInsn.{PeInsn}
 use Rattle.pe_code.specs.declared.code.PeInsn.TheVariants as insn
 use Rattle.pe_code.specs.declared.code.PeItem.{PeItem}
 use Rattle.pe_code.specs.declared.code.PeCode.{PeCode}
 use Rattle.pe_code.specs.Code.{item_at, entry_of}
-use Rattle.pe_machine.specs.States.{Pointer, Thunk, source, datum, cell_of, jump_of, to_thunk, Frame, Focus, code_at, value, completed, PeContext, Held, PeState, oldest, is_listed, frame_outside, datum_of, handed_on}
-use Rattle.pe_machine.specs.Step.{PeMove, goes, puts, takes, faults, sticks, loses, focused, pushed, bound, answered, taken, operated, left_meets, chosen, parts_at, focused_if_some, indexed, written, datum_meets, completion_meets, bind_meets, field_meets, accept_meets, loaded, assigned, assignment_meets, cell_entered, is_target, jumped, at_entry, if_listed, is_assignment, entered, with_variable, executed, item_executed, step_at, pe_step}
+use Rattle.pe_machine.specs.States.{Pointer, Thunk, source, datum, cell_of, jump_of, sequence_of, to_thunk, Frame, Focus, code_at, value, completed, PeContext, Wanted, Sequence, Held, PeState, oldest, is_listed, frame_outside, sequence_at, value_of, handed_on}
+use Rattle.pe_machine.specs.Step.{PeMove, goes, puts, takes, faults, sticks, loses, focused, pushed, bound, answered, taken, operated, left_meets, chosen, parts_at, focused_if_some, indexed, written, element_picked, counted, datum_meets, one_more, bound_filled, filled, datum_under, datum_focused, completion_meets, bind_meets, field_meets, accept_meets, loaded, assigned, assignment_meets, cell_entered, is_target, jumped, at_entry, if_listed, is_assignment, push, entered_plain, index_entered, index_meets, length_meets, Asked, a_cell, a_length, no_part, asked_at, sequence_asked, entered, with_variable, executed, item_executed, step_at, pe_step}
 
 -- the state that the move leads to has made at least n frames
 abbrev pub HasMade : ℕ → PeMove → Type 0
@@ -75,6 +77,34 @@ made-written : (o : Option Bytes) (s : PeState) → HasMade s.next (written o s)
 made-written (Some text) s = omega arith
 made-written None s = tt
 
+made-loaded : (o : Option Datum) (s : PeState) → HasMade s.next (loaded o s)
+made-loaded (Some v) s = omega arith
+made-loaded None s = tt
+
+made-assigned : (o : Option Datum) (which : Which) (n : ℕ) (v : Datum) (s : PeState) → HasMade s.next (assigned o which n v s)
+made-assigned (Some u) which n v s = omega arith
+made-assigned None which n v s = tt
+
+made-assignment : (which : Which) (n : ℕ) (c : PeContext) (s : PeState) → HasMade s.next (assignment_meets which n c s)
+made-assignment which n (store_c v) s = made-assigned (value_of which n s.frames) which n v s
+made-assignment which n c s = tt
+
+made-cell : (b : Bool) (which : Which) (n : ℕ) (s : PeState) → HasMade s.next (cell_entered b which n s)
+made-cell true which n s = made-taken (assignment_meets which n) (made-assignment which n) s.contexts s
+made-cell false which n s = made-loaded (value_of which n s.frames) s
+
+made-picked : (v : Datum) (w : Wanted) (o : Option Sequence) (s : PeState) → HasMade s.next (element_picked v w o s)
+made-picked (datum_kind.Int (pos i)) w (Some c) s =
+    made-if s.next (nat_lt i (length c.values)) (cell_entered w.is_written (element i) w.number s) (faults Range c.place) (made-cell w.is_written (element i) w.number s) tt
+made-picked (datum_kind.Int (negsuc i)) w (Some c) s = tt
+made-picked v w (Some c) s = tt
+made-picked v w None s = tt
+
+made-counted : (v : Datum) (d : ℕ) (body : Pointer) (at : Place) (s : PeState) → HasMade s.next (counted v d body at s)
+made-counted (datum_kind.Int (pos m)) d body at s = omega arith
+made-counted (datum_kind.Int (negsuc m)) d body at s = tt
+made-counted v d body at s = tt
+
 made-datum : (code : PeCode) (v : Datum) (c : PeContext) (s : PeState) → HasMade s.next (datum_meets code v c s)
 made-datum code v (op_1 op at) s = made-operated (unary_result op v) at s
 made-datum code v (op_l op q at) s = made-left op v q at s
@@ -85,7 +115,23 @@ made-datum code v (while_c loop c) s = made-chosen s.next v (pushed (body_c loop
 made-datum code v (new_c d body) s = omega arith
 made-datum code v (assign_c p) s = omega arith
 made-datum code v (put_c kind) s = made-written (written_text kind v) s
+made-datum code v (cells_c d body at) s = made-counted v d body at s
+made-datum code v (element_c w) s = made-picked v w (sequence_at w.number s.frames) s
 made-datum code v c s = tt
+
+made-filled : (v : Datum) (m d : ℕ) (body : Pointer) (at : Place) (c : Held) (cs : List Held) (s : PeState) → HasMade s.next (filled v m (λ k. one_more k s) (bound_filled m d body at c cs s))
+made-filled (datum_kind.Int (pos k)) m d body at c cs s =
+    made-if s.next (nat_lt k m) (one_more k s) (cond (nat_eq k m) (bound_filled m d body at c cs s) sticks) (omega arith)
+    (made-if s.next (nat_eq k m) (bound_filled m d body at c cs s) sticks (omega arith) tt)
+made-filled v m d body at c cs s = tt
+
+made-under : (code : PeCode) (v : Datum) (e : PeContext) (c : Held) (cs : List Held) (s : PeState) → HasMade s.next (datum_under code v e c cs s)
+made-under code v (fill_c n m d body at) c cs s = made-filled v m d body at c cs s
+made-under code v e c cs s = made-answered (datum_meets code v) (made-datum code v) (c ∷ cs) s
+
+made-focused : (code : PeCode) (v : Datum) (cs : List Held) (s : PeState) → HasMade s.next (datum_focused code v cs s)
+made-focused code v [] s = tt
+made-focused code v (c ∷ cs) s = made-under code v c.context c cs s
 
 made-completion : (c : PeContext) (s : PeState) → HasMade s.next (completion_meets c s)
 made-completion (then_c q) s = omega arith
@@ -111,22 +157,6 @@ made-accept d y r c s = tt
 
 -- ---- a thunk is entered
 
-made-loaded : (o : Option Datum) (s : PeState) → HasMade s.next (loaded o s)
-made-loaded (Some v) s = omega arith
-made-loaded None s = tt
-
-made-assigned : (o : Option Datum) (n : ℕ) (v : Datum) (s : PeState) → HasMade s.next (assigned o n v s)
-made-assigned (Some u) n v s = omega arith
-made-assigned None n v s = tt
-
-made-assignment : (n : ℕ) (c : PeContext) (s : PeState) → HasMade s.next (assignment_meets n c s)
-made-assignment n (store_c v) s = made-assigned (datum_of n s.frames) n v s
-made-assignment n c s = tt
-
-made-cell : (b : Bool) (n : ℕ) (s : PeState) → HasMade s.next (cell_entered b n s)
-made-cell true n s = made-taken (assignment_meets n) (made-assignment n) s.contexts s
-made-cell false n s = made-loaded (datum_of n s.frames) s
-
 made-jumped : (n : ℕ) (cs : List Held) (s : PeState) → HasMade s.next (jumped n cs s)
 made-jumped n [] s = tt
 made-jumped n (c ∷ cs) s =
@@ -140,11 +170,38 @@ made-if_listed : (n : ℕ) (b : Bool) (m : PeMove) → HasMade n m → HasMade n
 made-if_listed n true m h = h
 made-if_listed n false m h = tt
 
+made-plain : (code : PeCode) (n : ℕ) (t : Thunk) (s : PeState) → HasMade s.next (entered_plain code n t s)
+made-plain code n (source k r) s = made-if_listed s.next (is_listed r s.frames) (at_entry (entry_of code k n) r s) (made-at_entry (entry_of code k n) r s)
+made-plain code n (datum v) s = omega arith
+made-plain code n (cell_of m) s = made-cell (is_assignment code.assignment n) own m s
+made-plain code n (jump_of m) s = made-if_listed s.next (is_listed (Some m) s.frames) (jumped m s.contexts s) (made-jumped m s.contexts s)
+made-plain code n (sequence_of m) s = tt
+
+made-index : (code : PeCode) (o : Option ℕ) (w : Wanted) (t : Thunk) (s : PeState) → HasMade s.next (index_entered code o w t s)
+made-index code (Some n) w t s = made-plain code n t (push (element_c w) s)
+made-index code None w t s = tt
+
+made-index_meets : (code : PeCode) (w : Wanted) (c : PeContext) (s : PeState) → HasMade s.next (index_meets code w c s)
+made-index_meets code w (arg_c t) s = made-index code code.sequences.value w t s
+made-index_meets code w c s = tt
+
+made-length : (m : ℕ) (c : PeContext) (s : PeState) → HasMade s.next (length_meets m c s)
+made-length m (pick_c i) s = made-if s.next (nat_eq i 0) (focused (value (datum_kind.Int (pos m))) s) sticks (omega arith) tt
+made-length m c s = tt
+
+made-asked : (code : PeCode) (k : Asked) (n : ℕ) (o : Option Sequence) (s : PeState) → HasMade s.next (sequence_asked code k n o s)
+made-asked code (a_cell b) n (Some c) s =
+    made-taken (index_meets code (record { is_written = b; number = n })) (made-index_meets code (record { is_written = b; number = n })) s.contexts s
+made-asked code a_length n (Some c) s = made-taken (length_meets (length c.values)) (made-length (length c.values)) s.contexts s
+made-asked code no_part n (Some c) s = tt
+made-asked code k n None s = tt
+
 made-entered : (code : PeCode) (n : ℕ) (t : Thunk) (s : PeState) → HasMade s.next (entered code n t s)
-made-entered code n (source k r) s = made-if_listed s.next (is_listed r s.frames) (at_entry (entry_of code k n) r s) (made-at_entry (entry_of code k n) r s)
-made-entered code n (datum v) s = omega arith
-made-entered code n (cell_of m) s = made-cell (is_assignment code.assignment n) m s
-made-entered code n (jump_of m) s = made-if_listed s.next (is_listed (Some m) s.frames) (jumped m s.contexts s) (made-jumped m s.contexts s)
+made-entered code n (source k r) s = made-plain code n (source k r) s
+made-entered code n (datum v) s = made-plain code n (datum v) s
+made-entered code n (cell_of m) s = made-plain code n (cell_of m) s
+made-entered code n (jump_of m) s = made-plain code n (jump_of m) s
+made-entered code n (sequence_of m) s = made-asked code (asked_at code.sequences n) m (sequence_at m s.frames) s
 
 made-variable : (n : ℕ) (o : Option Frame) (go : Thunk → PeMove) → ((t : Thunk) → HasMade n (go t)) → HasMade n (with_variable o go)
 made-variable n None go h = tt
@@ -170,7 +227,7 @@ made-item code None here s = tt
 
 made-at : (code : PeCode) (f : Focus) (s : PeState) → HasMade s.next (step_at code f s)
 made-at code (code_at here) s = made-item code (item_at code here.address) here s
-made-at code (value v) s = made-answered (datum_meets code v) (made-datum code v) s.contexts s
+made-at code (value v) s = made-focused code v s.contexts s
 made-at code completed s = made-answered completion_meets made-completion s.contexts s
 
 pub made-step : (code : PeCode) (s : PeState) → HasMade s.next (pe_step code s)

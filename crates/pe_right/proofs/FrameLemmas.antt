@@ -3,7 +3,7 @@ use Rattle.std.proofs.Common.{ℕ, suc, ◌<◌, ◌≤◌, ◌≡◌, ◌≢◌
 use Rattle.std.proofs.lemmas.Bool.{cases_eq, cases_lt, lt-leb}
 use Rattle.fy_base.specs.declared.data.Datum.{Datum}
 use Rattle.fy_phrase.specs.Copy.{Row, single, own, content_of, value_in, value_of, with_value, without_row}
-use Rattle.pe_machine.specs.States.{Binding, to_thunk, to_cell, to_escape, Frame, is_named, oldest, is_listed, from_frame, frame_outside, datum_in, datum_of, with_datum, with_cell}
+use Rattle.pe_machine.specs.States.{Binding, to_thunk, to_cell, to_escape, to_sequence, Frame, is_named, oldest, is_listed, from_frame, frame_outside, datum_in, datum_of, with_datum, with_cell}
 use Rattle.pe_right.specs.ReadsBack.{with_cell_of, cells_in}
 
 -- the frame with v in its cell, if it holds one
@@ -132,11 +132,13 @@ abbrev pub IsCell : Binding → Type 0
 IsCell (to_thunk t) = ⊥
 IsCell (to_cell v) = Unit {0}
 IsCell to_escape = ⊥
+IsCell (to_sequence c) = ⊥
 
 abbrev pub IsEscape : Binding → Type 0
 IsEscape (to_thunk t) = ⊥
 IsEscape (to_cell v) = ⊥
 IsEscape to_escape = Unit {0}
+IsEscape (to_sequence c) = ⊥
 
 -- frame n is in the list, and its binding is as F says
 abbrev pub HasFrame : (Binding → Type 0) → ℕ → List Frame → Type 0
@@ -177,6 +179,7 @@ abbrev pub with_mark_of : ℕ → Binding → List Mark → List Mark
 with_mark_of n (to_thunk t) ms = ms
 with_mark_of n (to_cell v) ms = a_cell n ∷ ms
 with_mark_of n to_escape ms = an_escape n ∷ ms
+with_mark_of n (to_sequence c) ms = ms
 
 -- the frames that hold one, the newest first
 abbrev pub marks_in : List Frame → List Mark
@@ -187,6 +190,7 @@ marks-one_more : (m : ℕ) (b : Binding) (ms : List Mark) → length ms ≤ leng
 marks-one_more m (to_thunk t) ms = omega arith
 marks-one_more m (to_cell v) ms = omega arith
 marks-one_more m to_escape ms = omega arith
+marks-one_more m (to_sequence c) ms = omega arith
 
 -- a cut leaves no more marks
 pub marks-oldest : (n : ℕ) (fs : List Frame) → length (marks_in (oldest n fs)) ≤ length (marks_in fs)
@@ -200,6 +204,7 @@ unmarked : (m : ℕ) (b : Binding) (ms ks : List Mark) (cs ds : List Row) → le
 unmarked m (to_thunk t) ms ks cs ds le e f = f e
 unmarked m (to_cell v) ms ks cs ds le e f = absurd (omega arith)
 unmarked m to_escape ms ks cs ds le e f = absurd (omega arith)
+unmarked m (to_sequence q) ms ks cs ds le e f = f e
 
 -- a cut that leaves all marks leaves all cells
 pub cells-kept : (n : ℕ) (fs : List Frame) → length (marks_in fs) ≡ length (marks_in (oldest n fs)) → cells_in fs ≡ cells_in (oldest n fs)
@@ -217,6 +222,7 @@ one_escape_less : (m : ℕ) (b : Binding) (i : ℕ) (ms ks : List Mark) (cs ds :
 one_escape_less m (to_thunk t) i ms ks cs ds e f g = g e
 one_escape_less m (to_cell v) i ms ks cs ds e f g = absurd cc
 one_escape_less m to_escape i ms ks cs ds e f g = let same : ms ≡ ks = cc in f (ap length same)
+one_escape_less m (to_sequence q) i ms ks cs ds e f g = g e
 
 one_cell_less : (m : ℕ) (b : Binding) (i : ℕ) (ms ks : List Mark) (cs ds : List Row) → with_mark_of m b ms ≡ a_cell i ∷ ks →
     (length ms ≡ length ks → cs ≡ ds) → (ms ≡ a_cell i ∷ ks → without_row i cs ≡ ds) → without_row i (with_cell_of m b cs) ≡ ds
@@ -226,6 +232,7 @@ one_cell_less m (to_cell v) i ms ks cs ds e f g =
     let number : m ≡ i = cc in
     rw (eq-eqb m i number) (f (ap length same))
 one_cell_less m to_escape i ms ks cs ds e f g = absurd cc
+one_cell_less m (to_sequence q) i ms ks cs ds e f g = g e
 
 -- a list isn't longer than itself
 not_longer : (m : Mark) (ms : List Mark) → ms ≡ m ∷ ms → ⊥
@@ -266,16 +273,19 @@ marked-more : (k : Mark) (m : ℕ) (b : Binding) (ms : List Mark) → IsMarked k
 marked-more k m (to_thunk t) ms s = s
 marked-more k m (to_cell v) ms s = inr s
 marked-more k m to_escape ms s = inr s
+marked-more k m (to_sequence c) ms s = s
 
 escape-marked : (m : ℕ) (b : Binding) (ms : List Mark) → IsEscape b → IsMarked (an_escape m) (with_mark_of m b ms)
 escape-marked m (to_thunk t) ms is = absurd is
 escape-marked m (to_cell v) ms is = absurd is
 escape-marked m to_escape ms is = inl refl
+escape-marked m (to_sequence c) ms is = absurd is
 
 cell-marked : (m : ℕ) (b : Binding) (ms : List Mark) → IsCell b → IsMarked (a_cell m) (with_mark_of m b ms)
 cell-marked m (to_thunk t) ms is = absurd is
 cell-marked m (to_cell v) ms is = inl refl
 cell-marked m to_escape ms is = absurd is
+cell-marked m (to_sequence c) ms is = absurd is
 
 -- a frame that holds an escape, or a cell, is among the marks
 pub HasFrame-escape : (n : ℕ) (fs : List Frame) → HasFrame IsEscape n fs → IsMarked (an_escape n) (marks_in fs)
@@ -366,6 +376,7 @@ with_datum-marks : (m : ℕ) (v : Datum) (b : Binding) (ms : List Mark) → with
 with_datum-marks m v (to_thunk t) ms = refl
 with_datum-marks m v (to_cell u) ms = refl
 with_datum-marks m v to_escape ms = refl
+with_datum-marks m v (to_sequence c) ms = refl
 
 pub marks-with_cell : (n : ℕ) (v : Datum) (fs : List Frame) → marks_in (with_cell n v fs) ≡ marks_in fs
 marks-with_cell n v [] = refl
@@ -380,6 +391,7 @@ cells-written : (m n : ℕ) (v : Datum) (b : Binding) (cs : List Row) → n ≡ 
 cells-written m n v (to_thunk t) cs is e = e
 cells-written m n v (to_cell u) cs is e = rw (eq-eqb m n (sym is)) (ap (λ (k : ℕ). cell_with k v ∷ cs) is)
 cells-written m n v to_escape cs is e = e
+cells-written m n v (to_sequence q) cs is e = e
 
 cells-apart : (m n : ℕ) (v : Datum) (b : Binding) (cs ds : List Row) → n ≢ m → with_value own n v cs ≡ ds →
     with_value own n v (with_cell_of m b cs) ≡ with_cell_of m b ds
@@ -387,6 +399,7 @@ cells-apart m n v (to_thunk t) cs ds apart e = e
 cells-apart m n v (to_cell u) cs ds apart e =
     rw (ne_eqb m n (λ q. apart (sym q))) (ap (λ (xs : List Row). cell_with m u ∷ xs) e)
 cells-apart m n v to_escape cs ds apart e = e
+cells-apart m n v (to_sequence q) cs ds apart e = e
 
 -- where no frame has the number, the store has no such cell
 pub with_value-none : (n : ℕ) (v : Datum) (fs : List Frame) → Below n fs → with_value own n v (cells_in fs) ≡ cells_in fs
@@ -444,22 +457,26 @@ pub IsCell-with_datum : (v : Datum) (b : Binding) → IsCell b → IsCell (with_
 IsCell-with_datum v (to_thunk t) is = is
 IsCell-with_datum v (to_cell u) is = is
 IsCell-with_datum v to_escape is = is
+IsCell-with_datum v (to_sequence c) is = is
 
 pub IsEscape-with_datum : (v : Datum) (b : Binding) → IsEscape b → IsEscape (with_datum v b)
 IsEscape-with_datum v (to_thunk t) is = is
 IsEscape-with_datum v (to_cell u) is = is
 IsEscape-with_datum v to_escape is = is
+IsEscape-with_datum v (to_sequence c) is = is
 
 -- the datum in a binding, which is a cell
 cell_datum : (b : Binding) → IsCell b → (v : Datum) × (b ≡ to_cell v)
 cell_datum (to_thunk t) is = absurd is
 cell_datum (to_cell v) is = (v, refl)
 cell_datum to_escape is = absurd is
+cell_datum (to_sequence c) is = absurd is
 
 value_of-apart : (n m : ℕ) (b : Binding) (cs : List Row) → n ≢ m → value_of own n (with_cell_of m b cs) ≡ value_of own n cs
 value_of-apart n m (to_thunk t) cs apart = refl
 value_of-apart n m (to_cell v) cs apart = ap (λ (t : Bool). value_in own (cond t (Some (single v)) (content_of n cs))) (ne_eqb m n (λ q. apart (sym q)))
 value_of-apart n m to_escape cs apart = refl
+value_of-apart n m (to_sequence q) cs apart = refl
 
 value_of-here : (n m : ℕ) (b : Binding) (v : Datum) (cs : List Row) → n ≡ m → b ≡ to_cell v → value_of own n (with_cell_of m b cs) ≡ Some v
 value_of-here n m b v cs is e =

@@ -10,7 +10,7 @@ use Rattle.fy_phrase.specs.Contexts.{CopyContext}
 use Rattle.fy_derive.specs.Atoms.{data_atom, cell_type, datum_atom}
 use Rattle.fy_derive.proofs.PathTyping.{paths_at}
 use Rattle.pe_code.specs.Code.{picked_from}
-use Rattle.pe_machine.specs.States.{Pointer, Thunk, source, datum, cell_of, jump_of, Binding, to_thunk, to_cell, to_escape, Frame, PeContext, oldest, is_named, is_listed, from_frame, frame_outside, with_datum, with_cell, handed_on}
+use Rattle.pe_machine.specs.States.{Pointer, Thunk, source, datum, cell_of, jump_of, sequence_of, Binding, to_thunk, to_cell, to_escape, to_sequence, Frame, PeContext, oldest, is_named, is_listed, from_frame, frame_outside, with_datum, with_cell, handed_on}
 use Rattle.pe_right.specs.Closing.{phrase_at}
 use Rattle.pe_right.proofs.ConstantLemmas.{constant-value, value-shut}
 use Rattle.pe_right.proofs.ClosingLemmas.{Shut, AllShut, shut-closed_by}
@@ -60,11 +60,13 @@ module _ (g : Compiled) where
   thunk-extends x (datum v) q D h = h
   thunk-extends x (cell_of n) q D h = (h.0, h.1, h.2, x.cell h.1 n h.3, h.4)
   thunk-extends x (jump_of n) q D h = (h.0, h.1, x.escape n h.2, h.3)
+  thunk-extends x (sequence_of n) q D h = absurd h
 
   binding-extends : {fs gs : List Frame} → Extends fs gs → (n : ℕ) (b : Binding) (q : Tree) (D : PlainPaths) → BindingAnswers g fs n b q D → BindingAnswers g gs n b q D
   binding-extends x n (to_thunk t) q D h = thunk-extends x t q D h
   binding-extends x n (to_cell v) q D h = h
   binding-extends x n to_escape q D h = h
+  binding-extends x n (to_sequence c) q D h = absurd h
 
   pub code-extends : {fs gs : List Frame} → Extends fs gs → (c : Pointer) (q : Tree) (P : PlainPath) → CodeAnswers g fs c q P → CodeAnswers g gs c q P
   code-extends x c q P h = (h.0, h.1, h.2, h.3, h.4, h.5, h.6, x.env c.frame h.2 h.3 h.7, h.8)
@@ -104,11 +106,13 @@ module _ (g : Compiled) where
   written-binding x E v n (to_thunk t) q D is e h = absurd is
   written-binding x E v n (to_cell u) q D is e h = (h.0, h.1, h.2, e ∙ sym is ∙ h.3, h.4)
   written-binding x E v n to_escape q D is e h = absurd is
+  written-binding x E v n (to_sequence c) q D is e h = absurd is
 
   written-holds : (E X : DataTy) (v : Datum) (b : Binding) → HoldsDatum E b → datum_atom v ≡ data_atom E → HoldsDatum X b → HoldsDatum X (with_datum v b)
   written-holds E X v (to_thunk t) is e h = h
   written-holds E X v (to_cell u) is e h = e ∙ sym is ∙ h
   written-holds E X v to_escape is e h = h
+  written-holds E X v (to_sequence c) is e h = h
 
   -- the newest frame holds the cell
   written-here : (E : DataTy) (v : Datum) (f : Frame) (fs : List Frame) → HoldsDatum E f.binding → datum_atom v ≡ data_atom E →
@@ -160,12 +164,14 @@ module _ (g : Compiled) where
   thunk-shut fs ih (datum v) q D h = value-shut q v (constant-value q v h.0)
   thunk-shut fs ih (cell_of n) q D h = subst Shut (sym h.2) (λ n r. refl)
   thunk-shut fs ih (jump_of n) q D h = subst Shut (sym h.1) (λ n r. refl)
+  thunk-shut fs ih (sequence_of n) q D h = absurd h
 
   binding-shut : (fs : List Frame) → ((r : Option ℕ) (qs : List Tree) (G : List PlainPaths) → FramesAnswer g fs r qs G → AllShut qs) →
       (n : ℕ) (b : Binding) (q : Tree) (D : PlainPaths) → BindingAnswers g fs n b q D → Shut q
   binding-shut fs ih n (to_thunk t) q D h = thunk-shut fs ih t q D h
   binding-shut fs ih n (to_cell v) q D h = subst Shut (sym h.2) (λ n r. refl)
   binding-shut fs ih n to_escape q D h = subst Shut (sym h.1) (λ n r. refl)
+  binding-shut fs ih n (to_sequence c) q D h = absurd h
 
   pub env-shut : (fs : List Frame) (r : Option ℕ) (qs : List Tree) (G : List PlainPaths) → FramesAnswer g fs r qs G → AllShut qs
   env-shut [] r qs G e = subst AllShut (sym e.1) tt
@@ -186,6 +192,7 @@ module _ (g : Compiled) where
   handed f fs (to_thunk t) q D e h r = thunk-extends (extends-newer f fs h) t q D r
   handed f fs (to_cell v) q D e h r = (r.0, r.1, r.2, inl (refl, subst (HoldsDatum r.1) (sym e) r.3), r.4)
   handed f fs to_escape q D e h r = (r.0, r.1, inl (refl, subst (λ (x : Binding). IsEscape x) (sym e) tt), r.2)
+  handed f fs (to_sequence c) q D e h r = absurd r
 
   -- the frame of variable j, and what it hands on
   abbrev pub Found : List Frame → ℕ → Option ℕ → List Tree → List PlainPaths → Place → Type 0
@@ -224,3 +231,4 @@ module _ (g : Compiled) where
   thunk-above fs (datum v) q D E up h = (h.0, h.1, (λ P some. h.2 P (up P some)), h.3)
   thunk-above fs (cell_of n) q D E up h = (h.0, h.1, h.2, h.3, λ P some. h.4 P (up P some))
   thunk-above fs (jump_of n) q D E up h = (h.0, h.1, h.2, λ P some. h.3 P (up P some))
+  thunk-above fs (sequence_of n) q D E up h = absurd h

@@ -1,5 +1,5 @@
 -- One step of code that hands constants as data, and the steps of the code that hands thunks which it stands for.
-use Rattle.std.proofs.Common.{ℕ, zero, suc, ◌+◌, ◌≤◌, ◌≡◌, Bool, true, false, cond, leb, List, [], ◌∷◌, length, Option, Some, None, slice_get, refl, sym, ap, ap₂, ◌∙◌, subst₂, inl, inr, arith}
+use Rattle.std.proofs.Common.{ℕ, zero, suc, ◌+◌, ◌≤◌, ◌≡◌, Bool, true, false, cond, leb, List, [], ◌∷◌, length, Option, Some, None, slice_get, refl, sym, ap, ap₂, ◌∙◌, subst, subst₂, inl, inr, arith}
 use Rattle.std.proofs.lemmas.Bool.{leb-true}
 use Rattle.fy_base.specs.declared.data.Place.{Place}
 use Rattle.fy_base.specs.declared.data.Datum.{Datum}
@@ -17,8 +17,8 @@ use Rattle.pe_code.specs.declared.code.PeInsn.TheVariants as insn
 use Rattle.pe_code.specs.declared.code.PeItem.{PeItem}
 use Rattle.pe_code.specs.declared.code.PeCode.{PeCode}
 use Rattle.pe_code.specs.Code.{item_at, address_in, entry_of, picked_from}
-use Rattle.pe_machine.specs.States.{Pointer, Thunk, source, datum, cell_of, jump_of, to_thunk, to_escape, Frame, Focus, code_at, value, completed, PeState, is_listed, frame_outside, handed_on}
-use Rattle.pe_machine.specs.Step.{PeMove, goes, takes, sticks, loses, pushed, bound, bind_meets, field_meets, accept_meets, parts_at, at_entry, if_listed, entered, with_variable, executed, item_executed, step_at, pe_step}
+use Rattle.pe_machine.specs.States.{Pointer, Thunk, source, datum, cell_of, jump_of, sequence_of, to_thunk, to_escape, Frame, Focus, code_at, value, completed, PeState, is_listed, frame_outside, handed_on}
+use Rattle.pe_machine.specs.Step.{PeMove, goes, takes, sticks, loses, pushed, bound, bind_meets, field_meets, accept_meets, parts_at, at_entry, if_listed, entered_plain, entered, with_variable, executed, item_executed, step_at, pe_step}
 use Rattle.pe_right.specs.Constants.{value_of, constant}
 use Rattle.pe_right.specs.Direct.{IsConstantAt, IsHanded, passed, bound as let_bound, same, IsDirectOf}
 use Rattle.pe_right.specs.Right.{IsNodeUnder, in_first, in_later, itself, Enters, IsInsnOf, of_var, of_lit, of_unary, of_binary, of_cond, of_case, of_lam, of_app, of_app_variable, of_app_datum, of_field, of_sel, of_let, of_let_variable, of_let_datum, of_rec, of_skip, of_seq, of_assign, of_while, of_forever, of_new, of_escape, of_accept, of_put, of_read, IsItemOf}
@@ -183,7 +183,10 @@ module _ (g : Compiled) (made : PeCode) (direct : IsDirectOf g.phrase g.code mad
 
       by : (o : Option Datum) → constant node ≡ o → (x : Option ℕ) → entry_of g.code k n ≡ x →
           Hands (entered made n (swap cv (source k r)) (swap_state cv s)) (entered g.code n (source k r) s)
-      by None e x f = locked (entered-swap cv made g.code entries-same direct.assignment n (source k r) s (sym (plain-thunk k r (known-is stands ∙ e))))
+      by None e x f =
+          let plain = plain-thunk k r (known-is stands ∙ e) in
+          subst (λ (u : Thunk). Hands (entered made n u (swap_state cv s)) (entered g.code n (source k r) s)) plain
+          (locked (ap (λ (u : Thunk). entered_plain made n u (swap_state cv s)) plain ∙ entered-swap cv made g.code entries-same direct.assignment n (source k r) s (sym plain)))
       by (Some v) e None f = stopped (into None f)
       by (Some v) e (Some a) f =
           let y = code-evaluated g node v d k a t (constant-value node v e) stands (n, sh, f) r s in
@@ -196,6 +199,7 @@ module _ (g : Compiled) (made : PeCode) (direct : IsDirectOf g.phrase g.code mad
   thunk-hands (datum v) q D n t s h sh = locked (entered-swap cv made g.code entries-same direct.assignment n (datum v) s refl)
   thunk-hands (cell_of m) q D n t s h sh = locked (entered-swap cv made g.code entries-same direct.assignment n (cell_of m) s refl)
   thunk-hands (jump_of m) q D n t s h sh = locked (entered-swap cv made g.code entries-same direct.assignment n (jump_of m) s refl)
+  thunk-hands (sequence_of m) q D n t s h sh = absurd h
 
   variable-hands : (j n : ℕ) (o : Place) (t : PlainShape) (d : ℕ) (at : Place) (here : Pointer) (s : PeState) (qs : List Tree) (G : List PlainPaths) → shape_at g.table n ≡ Some t →
       Below s.next s.frames → FramesAnswer g s.frames here.frame qs G → IsClosedUnder (length G) (var j o) →

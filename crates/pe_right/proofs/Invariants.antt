@@ -23,7 +23,7 @@ use Rattle.fy_derive.proofs.PathTyping.{IsRun}
 use Rattle.pe_code.specs.declared.code.PeItem.{PeItem}
 use Rattle.pe_code.specs.declared.code.PeCode.{PeCode}
 use Rattle.pe_code.specs.Code.{item_at, picked_from}
-use Rattle.pe_machine.specs.States.{Pointer, Thunk, source, datum, cell_of, jump_of, Binding, to_thunk, to_cell, to_escape, Frame, Focus, code_at, value, completed, PeContext, Held, PeState, oldest, is_named}
+use Rattle.pe_machine.specs.States.{Pointer, Thunk, source, datum, cell_of, jump_of, sequence_of, Binding, to_thunk, to_cell, to_escape, to_sequence, Frame, Focus, code_at, value, completed, PeContext, Held, PeState, oldest, is_named}
 use Rattle.pe_right.specs.Closing.{closed_by}
 use Rattle.pe_right.specs.Constants.{constant}
 use Rattle.pe_right.specs.Right.{IsNodeUnder, is_variable, Enters, IsCodeOf}
@@ -54,6 +54,7 @@ abbrev pub HoldsDatum : DataTy → Binding → Type 0
 HoldsDatum X (to_thunk t) = ⊥
 HoldsDatum X (to_cell v) = datum_atom v ≡ data_atom X
 HoldsDatum X to_escape = ⊥
+HoldsDatum X (to_sequence c) = ⊥
 
 abbrev pub HasCell : DataTy → ℕ → List Frame → Type 0
 HasCell X n fs = HasFrame (λ b. HoldsDatum X b) n fs
@@ -113,12 +114,14 @@ module _ (g : Compiled) where
   ThunkAnswersIn E fs (cell_of n) q D =
       (at : Place) × (X : DataTy) × (q ≡ mark (marks.Cell n) at) × HasCell X n fs × Above D (λ P. HasBelow (paths (cell_type X)) P)
   ThunkAnswersIn E fs (jump_of n) q D = (at : Place) × (q ≡ mark (marks.Jump n) at) × HasEscape n fs × Above D (λ P. IsRun P)
+  ThunkAnswersIn E fs (sequence_of n) q D = ⊥
 
   abbrev pub BindingAnswersIn : (Option ℕ → List Tree → List PlainPaths → Type 0) → List Frame → ℕ → Binding → Tree → PlainPaths → Type 0
   BindingAnswersIn E fs n (to_thunk t) q D = ThunkAnswersIn E fs t q D
   BindingAnswersIn E fs n (to_cell v) q D =
       (at : Place) × (X : DataTy) × (q ≡ mark (marks.Cell n) at) × (datum_atom v ≡ data_atom X) × Above D (λ P. HasBelow (paths (cell_type X)) P)
   BindingAnswersIn E fs n to_escape q D = (at : Place) × (q ≡ mark (marks.Jump n) at) × Above D (λ P. IsRun P)
+  BindingAnswersIn E fs n (to_sequence c) q D = ⊥
 
   -- the frame that is named, and those around it, stand for the phrases qs with the paths G
   abbrev pub FramesAnswer : List Frame → Option ℕ → List Tree → List PlainPaths → Type 0

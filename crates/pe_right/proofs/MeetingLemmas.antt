@@ -27,7 +27,7 @@ use Rattle.fy_derive.proofs.Asking.{datum_asked, command_asked, run_asked}
 use Rattle.fy_derive.proofs.OperatorTypes.{ResultIs, unary-typed, binary-typed}
 use Rattle.pe_code.specs.declared.code.PeItem.{PeItem}
 use Rattle.pe_machine.specs.States.{Pointer, to_cell, Frame, code_at, value, completed, PeContext, Held, PeState, oldest}
-use Rattle.pe_machine.specs.Step.{PeMove, focused, pushed, operated, left_meets, chosen, parts_at, focused_if_some, indexed, written, stored, datum_meets, completion_meets, answered}
+use Rattle.pe_machine.specs.Step.{PeMove, focused, pushed, operated, left_meets, chosen, parts_at, focused_if_some, indexed, written, stored, datum_meets, datum_under, datum_focused, completion_meets, answered}
 use Rattle.pe_right.specs.Closing.{closed_by}
 use Rattle.pe_right.specs.ReadsBack.{cells_in}
 use Rattle.pe_right.proofs.ClosingLemmas.{closed_with-more}
@@ -201,13 +201,27 @@ module _ (g : Compiled) where
   datum-answers v at fs [] (x ∷ xs) c P t = absurd t
   datum-answers v at fs (k ∷ cs) [] c P t = absurd t
 
+  -- nor is one of the machine
+  code-under : (v : Datum) (e : Held) (cs : List Held) (s : PeState) {fs : List Frame} {k : PeContext} {x : CopyContext} {P Q : PlainPath} →
+      ContextTakes g fs k x P Q → datum_under g.code v k e cs s ≡ answered (datum_meets g.code v) (e ∷ cs) s
+  code-under v e cs s escape_body = refl
+  code-under v e cs s h = refl
+
+  code-answers : (v : Datum) (fs : List Frame) (cs : List Held) (xs : List (Pushed CopyContext)) (s : PeState) (P : PlainPath) →
+      ContextsTake g fs cs xs P → datum_focused g.code v cs s ≡ answered (datum_meets g.code v) cs s
+  code-answers v fs [] [] s P t = refl
+  code-answers v fs (k ∷ cs) (x ∷ xs) s P t = code-under v k cs s t.3.1
+  code-answers v fs [] (x ∷ xs) s P t = absurd t
+  code-answers v fs (k ∷ cs) [] s P t = absurd t
+
   -- a datum in focus
   pub value-followed : (v : Datum) (at : Place) (s : PeState) (c : CopyState) (P : PlainPath) → c.focus ≡ lit v at → P ≡ end (datum_atom v) → Behind g s c P →
-      IsFollowed g 0 1 c (answered (datum_meets g.code v) s.contexts s)
+      IsFollowed g 0 1 c (datum_focused g.code v s.contexts s)
   value-followed v at s c P e i b =
-      answered-followed (copy.datum_meets v at) (datum_meets g.code v) P s.contexts c.contexts s c c
+      subst (λ (m : PeMove). IsFollowed g 0 1 c m) (sym (code-answers v s.frames s.contexts c.contexts s P b.0))
+      (answered-followed (copy.datum_meets v at) (datum_meets g.code v) P s.contexts c.contexts s c c
       (focus-step c (lit v at) e ∙ datum-answers v at s.frames s.contexts c.contexts c P b.0)
-      (λ none is. let f = sym (datum_asked v i) ∙ run_asked is in cc) b.0 b.1 b.2 b.3 (λ k x Q u w d f h t st lo nx ld. datum-followed v at k x P Q u w d f i h t st lo nx ld)
+      (λ none is. let f = sym (datum_asked v i) ∙ run_asked is in cc) b.0 b.1 b.2 b.3 (λ k x Q u w d f h t st lo nx ld. datum-followed v at k x P Q u w d f i h t st lo nx ld))
 
   -- a finished command in focus, where a context is left
   pub finished-followed : (at : Place) (s : PeState) (c : CopyState) (P : PlainPath) → c.focus ≡ skip at → P ≡ end atoms.Comm → (s.contexts ≡ [] → ⊥) → Behind g s c P →

@@ -6,7 +6,7 @@ use Rattle.fy_phrase.specs.Contexts.{CopyContext, Pushed}
 use Rattle.fy_phrase.specs.Copy.{CopyState}
 use Rattle.fy_derive.specs.Atoms.{cell_type}
 use Rattle.pe_code.specs.Code.{picked_from}
-use Rattle.pe_machine.specs.States.{Pointer, Thunk, source, datum, cell_of, jump_of, Binding, to_thunk, to_cell, to_escape, Frame, Focus, code_at, value, completed, PeContext, Held, PeState, oldest}
+use Rattle.pe_machine.specs.States.{Pointer, Thunk, source, datum, cell_of, jump_of, sequence_of, Binding, to_thunk, to_cell, to_escape, to_sequence, Frame, Focus, code_at, value, completed, PeContext, Held, PeState, oldest}
 use Rattle.pe_right.specs.ReadsBack.{ThunkStands, BindingStands, FramesStand, CodeStandsUnder, CodeStands, EachStands, ContextStands, ContextsStand, FocusStands, ReadsBack}
 use Rattle.pe_right.proofs.Invariants.{Compiled, FramesAnswer, ThunkAnswers, BindingAnswers, CodeAnswers, BodyAnswers, EachCodeAnswers, ContextTakes, unary_operand, left_operand, right_operand, condition, index, procedure, selected, first_command, assigned_value, acceptor, loop_test, loop_body, endless_body, first_value, cell_body, put_datum, escape_body, ContextsTake, FocusAnswers, Simulates}
 use Rattle.pe_right.proofs.NodeLemmas.{under-at}
@@ -22,12 +22,14 @@ module _ (g : Compiled) where
   thunk-reads fs ih (datum v) q D h = h.3
   thunk-reads fs ih (cell_of n) q D h = (h.0, h.2)
   thunk-reads fs ih (jump_of n) q D h = (h.0, h.1)
+  thunk-reads fs ih (sequence_of n) q D h = absurd h
 
   binding-reads : (fs : List Frame) → ((r : Option ℕ) (qs : List Tree) (G : List PlainPaths) → FramesAnswer g fs r qs G → Frames fs r qs) →
       (n : ℕ) (b : Binding) (q : Tree) (D : PlainPaths) → BindingAnswers g fs n b q D → BindingStands g.handed g.phrase g.code (FramesStand g.handed g.phrase g.code fs) n b q
   binding-reads fs ih n (to_thunk t) q D h = thunk-reads fs ih t q D h
   binding-reads fs ih n (to_cell v) q D h = (h.0, h.2)
   binding-reads fs ih n to_escape q D h = (h.0, h.1)
+  binding-reads fs ih n (to_sequence c) q D h = absurd h
 
   env-reads : (fs : List Frame) (r : Option ℕ) (qs : List Tree) (G : List PlainPaths) → FramesAnswer g fs r qs G → Frames fs r qs
   env-reads [] r qs G e = (e.0, e.1)

@@ -44,4 +44,5 @@ pub record IsDirectOf (p : Tree) (code made : PeCode) : Type 0 where
   pub entries : made.entries ≡ code.entries
   pub shapes : made.shapes ≡ code.shapes
   pub assignment : made.assignment ≡ code.assignment
+  pub sequences : made.sequences ≡ code.sequences
   pub thunks : made.thunks ≡ code.thunks

@@ -11,7 +11,7 @@ use Rattle.fy_derive.specs.Shapes.{IsNodeAt}
 use Rattle.pe_code.specs.declared.code.PeItem.{PeItem}
 use Rattle.pe_code.specs.declared.code.PeCode.{PeCode}
 use Rattle.pe_code.specs.Code.{item_at, entry_of, picked_from}
-use Rattle.pe_machine.specs.States.{Pointer, Thunk, source, datum, cell_of, jump_of, Binding, to_thunk, to_cell, to_escape, Frame, Focus, code_at, value, completed, PeContext, Held, PeState, oldest, is_named}
+use Rattle.pe_machine.specs.States.{Pointer, Thunk, source, datum, cell_of, jump_of, sequence_of, Binding, to_thunk, to_cell, to_escape, to_sequence, Frame, Focus, code_at, value, completed, PeContext, Held, PeState, oldest, is_named}
 use Rattle.pe_right.specs.Closing.{closed_by}
 
 -- `handed` tells for which arguments and definitions the code has a datum
@@ -22,11 +22,13 @@ module _ (handed : Tree → Option Datum) (p : Tree) (code : PeCode) where
   ThunkStands E (datum v) q = ((at : Place) × (q ≡ lit v at)) ⊎ (handed q ≡ Some v)
   ThunkStands E (cell_of n) q = (at : Place) × (q ≡ mark (marks.Cell n) at)
   ThunkStands E (jump_of n) q = (at : Place) × (q ≡ mark (marks.Jump n) at)
+  ThunkStands E (sequence_of n) q = ⊥
 
   abbrev pub BindingStands : (Option ℕ → List Tree → Type 0) → ℕ → Binding → Tree → Type 0
   BindingStands E n (to_thunk t) q = ThunkStands E t q
   BindingStands E n (to_cell v) q = (at : Place) × (q ≡ mark (marks.Cell n) at)
   BindingStands E n to_escape q = (at : Place) × (q ≡ mark (marks.Jump n) at)
+  BindingStands E n (to_sequence c) q = ⊥
 
   -- the frame that is named, and those around it, stand for these phrases, the innermost first; each thunk names an older frame
   abbrev pub FramesStand : List Frame → Option ℕ → List Tree → Type 0
@@ -93,6 +95,7 @@ abbrev pub with_cell_of : ℕ → Binding → List Row → List Row
 with_cell_of n (to_thunk t) cs = cs
 with_cell_of n (to_cell v) cs = (record { number = n; content = single v }) ∷ cs
 with_cell_of n to_escape cs = cs
+with_cell_of n (to_sequence c) cs = cs
 
 -- the cells that the frames hold
 abbrev pub cells_in : List Frame → List Row

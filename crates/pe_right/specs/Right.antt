@@ -17,7 +17,7 @@ use Rattle.pe_code.specs.declared.code.PeInsn.{PeInsn}
 use Rattle.pe_code.specs.declared.code.PeInsn.TheVariants as insn
 use Rattle.pe_code.specs.declared.code.PeItem.{PeItem}
 use Rattle.pe_code.specs.declared.code.PeCode.{PeCode}
-use Rattle.pe_code.specs.Code.{item_at, entry_of}
+use Rattle.pe_code.specs.Code.{item_at, entry_of, no_sequences}
 
 -- ---- nodes of a phrase, with the number of binders around them
 
@@ -192,4 +192,5 @@ pub record IsCodeOf (handed : Tree → Option Datum) (p : Tree) (table : ShapeTa
   pub right : (d k a : ℕ) (q : Tree) (s : PlainShape) → IsNodeUnder 0 0 p d k q → Enters table code k s a → IsRightAt handed table code d k q s a
   pub shapes : code.shapes ≡ length table.shapes
   pub assignment : (n : ℕ) → (code.assignment ≡ Some n) ↔ (shape_at table n ≡ Some (at_end an_assignment))
+  pub sequences : code.sequences ≡ no_sequences
   pub thunks : code.thunks ≡ thunk_nodes 0 p

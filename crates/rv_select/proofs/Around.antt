@@ -1,14 +1,14 @@
 -- Frames around one another, among the items.
-use Rattle.std.proofs.Common.{◌≡◌, ℕ, zero, suc, ◌+◌, ◌<◌, ◌≤◌, Bool, true, false, cond, List, [], ◌∷◌, Some, None, refl, sym, ap, ◌∙◌, arith}
+use Rattle.std.proofs.Common.{◌≡◌, ℕ, zero, suc, ◌+◌, ◌<◌, ◌≤◌, Bool, true, false, cond, List, [], ◌∷◌, length, Some, None, refl, sym, ap, ◌∙◌, arith}
 use Rattle.std.proofs.lemmas.Bool.{cond-true, cond-false, cond_both, eqb-true, eqb-false, eq-eqb, ne_eqb}
 use Rattle.std.proofs.lemmas.Option.{same_Some}
 use Rattle.std.specs.Prelude.{nat_eq}
 use Rattle.std.specs.declared.option.Option.{Option}
 use Rattle.fy_base.specs.declared.data.Datum.{Datum}
 use Rattle.pe_frame.specs.Frames.{frame_words}
-use Rattle.pe_machine.specs.States.{is_named, source, datum, cell_of, jump_of, Thunk}
+use Rattle.pe_machine.specs.States.{is_named, source, datum, cell_of, jump_of, sequence_of, Thunk}
 use Rattle.pe_code.specs.declared.code.PeCode.{PeCode}
-use Rattle.pe_items.specs.Items.{ItemBinding, to_thunk, to_cell, to_escape, Item, frame, context, words, address_on, from_frame, frame_from, handed_on, with_datum, with_cell, datum_in, datum_at}
+use Rattle.pe_items.specs.Items.{ItemBinding, to_thunk, to_cell, to_escape, Item, frame, context, sequence, words, address_on, from_frame, frame_from, handed_on, with_datum, with_cell, datum_in, datum_at}
 use Rattle.rv_select.specs.Layout.{frames_from, address_found, IsGoodThunk, IsGoodBinding}
 
 -- a choice by whether two numbers are the same
@@ -30,6 +30,7 @@ pub frames_none : (is : List Item) → frames_from is None ≡ Some 0
 frames_none [] = refl
 frames_none (frame d b a ∷ is) = refl
 frames_none (context c o ∷ is) = refl
+frames_none (sequence c ∷ is) = refl
 
 pub frames_here : (d : ℕ) (b : ItemBinding) (around : Option ℕ) (is : List Item) → frames_from (frame d b around ∷ is) (Some (address_on is)) ≡ Some (suc d)
 frames_here d b around is = cond-true (nat_eq (address_on is) (address_on is)) (Some (suc d)) (frames_from is (Some (address_on is))) (eq-eqb (address_on is) (address_on is) refl)
@@ -38,6 +39,7 @@ frames_here d b around is = cond-true (nat_eq (address_on is) (address_on is)) (
 pub frames_below : (is : List Item) (x d : ℕ) → frames_from is (Some x) ≡ Some d → x < address_on is
 frames_below [] x d h = absurd (cc)
 frames_below (context c o ∷ is) x d h = let below = frames_below is x d h in omega arith
+frames_below (sequence c ∷ is) x d h = let below = frames_below is x d h in omega arith
 frames_below (frame n b around ∷ is) x d h =
     by_eq (λ o. o ≡ Some d → x < address_on (frame n b around ∷ is)) x (address_on is) (Some (suc n)) (frames_from is (Some x))
     (λ same k. let room = frame_room n in omega arith)
@@ -48,6 +50,7 @@ frames_below (frame n b around ∷ is) x d h =
 pub frames_more : (i : Item) (is : List Item) (f : Option ℕ) (d : ℕ) → frames_from is f ≡ Some d → frames_from (i ∷ is) f ≡ Some d
 frames_more i is None d h = frames_none (i ∷ is) ∙ sym (frames_none is) ∙ h
 frames_more (context c o) is (Some x) d h = h
+frames_more (sequence c) is (Some x) d h = h
 frames_more (frame n b around) is (Some x) d h =
     let below = frames_below is x d h in
     cond-false (nat_eq x (address_on is)) (Some (suc n)) (frames_from is (Some x)) (ne_eqb x (address_on is) (λ same. omega arith)) ∙ h
@@ -59,6 +62,7 @@ thunk_deeper code p q h (source n f) g = (g.0, g.1, h f g.0 g.2)
 thunk_deeper code p q h (datum v) g = g
 thunk_deeper code p q h (cell_of x) g = tt
 thunk_deeper code p q h (jump_of x) g = tt
+thunk_deeper code p q h (sequence_of x) g = absurd g
 
 -- what a frame hands on
 pub handed_good : (code : PeCode) (depths : Option ℕ → Option ℕ) (x : ℕ) (b : ItemBinding) → IsGoodBinding code depths b → IsGoodThunk code depths (handed_on x b)
@@ -82,12 +86,14 @@ from_else d b around is k x other =
 pub from_none : (is : List Item) (k : ℕ) → frame_from is k None ≡ None
 from_none [] k = refl
 from_none (context c o ∷ is) k = from_none is k
+from_none (sequence c ∷ is) k = from_none is k
 from_none (frame d b around ∷ is) k = from_none is k
 
 -- the first is the frame itself
 pub from_itself : (is : List Item) (x y : ℕ) → address_found (frame_from is 0 (Some x)) ≡ Some y → y ≡ x
 from_itself [] x y h = absurd (cc)
 from_itself (context c o ∷ is) x y h = from_itself is x y h
+from_itself (sequence c ∷ is) x y h = from_itself is x y h
 from_itself (frame d b around ∷ is) x y h =
     by_eq (λ o. address_found o ≡ Some y → y ≡ x) x (address_on is) (Some (record { address = address_on is; binding = b })) (frame_from is 0 (Some x))
     (λ same k. let e = same_Some (address_on is) y k in omega arith)
@@ -99,6 +105,7 @@ from_itself (frame d b around ∷ is) x y h =
 pub words_with : (x : ℕ) (v : Datum) (is : List Item) → words (with_cell x v is) ≡ words is
 words_with x v [] = refl
 words_with x v (context c o ∷ is) = ap (λ n. n + 4) (words_with x v is)
+words_with x v (sequence c ∷ is) = ap (λ n. n + length c.values) (words_with x v is)
 words_with x v (frame d b around ∷ is) =
     by_eq (λ (o : List Item). words o ≡ words (frame d b around ∷ is)) x (address_on is) (frame d (with_datum v b) around ∷ is) (frame d b around ∷ with_cell x v is)
     (λ same. refl)
@@ -111,6 +118,7 @@ pub frames_with : (x : ℕ) (v : Datum) (is : List Item) (f : Option ℕ) → fr
 frames_with x v is None = frames_none (with_cell x v is) ∙ sym (frames_none is)
 frames_with x v [] (Some y) = refl
 frames_with x v (context c o ∷ is) (Some y) = frames_with x v is (Some y)
+frames_with x v (sequence c ∷ is) (Some y) = frames_with x v is (Some y)
 frames_with x v (frame d b around ∷ is) (Some y) =
     by_eq (λ (o : List Item). frames_from o (Some y) ≡ frames_from (frame d b around ∷ is) (Some y)) x (address_on is) (frame d (with_datum v b) around ∷ is) (frame d b around ∷ with_cell x v is)
     (λ same. refl)
@@ -121,6 +129,7 @@ frames_with x v (frame d b around ∷ is) (Some y) =
 pub found_with : (x : ℕ) (v : Datum) (is : List Item) (k : ℕ) (f : Option ℕ) → address_found (frame_from (with_cell x v is) k f) ≡ address_found (frame_from is k f)
 found_with x v [] k f = refl
 found_with x v (context c o ∷ is) k f = found_with x v is k f
+found_with x v (sequence c ∷ is) k f = found_with x v is k f
 found_with x v (frame d b around ∷ is) k f =
     by_eq (λ (o : List Item). address_found (frame_from o k f) ≡ address_found (frame_from (frame d b around ∷ is) k f)) x (address_on is) (frame d (with_datum v b) around ∷ is) (frame d b around ∷ with_cell x v is)
     (λ same. changed (is_named f (address_on is)) k)
@@ -146,6 +155,7 @@ found_with x v (frame d b around ∷ is) k f =
 pub cell_below : (x : ℕ) (u : Datum) (is : List Item) → datum_at x is ≡ Some u → x + 3 ≤ address_on is
 cell_below x u [] h = absurd (cc)
 cell_below x u (context c o ∷ is) h = let below = cell_below x u is h in omega arith
+cell_below x u (sequence c ∷ is) h = let below = cell_below x u is h in omega arith
 cell_below x u (frame d b around ∷ is) h =
     by_eq (λ o. o ≡ Some u → x + 3 ≤ address_on (frame d b around ∷ is)) x (address_on is) (datum_in b) (datum_at x is)
     (λ same k. let room = frame_room d in omega arith)

@@ -177,6 +177,7 @@ module _ (code : PeCode) (a : ℕ) where
     insn_words (insn.LetData v y) h = let few = set_most (word_of v) in let body = own_bind y h in omega arith
     insn_words (insn.Knot n y) h = let column = set_most (column_word (column_of code n)) in let body = own_bind y h in omega arith
     insn_words insn.Done h = omega arith
+    insn_words (insn.Cells x y) h = omega arith
     insn_words (insn.Seq x y) h = let main = own_push h in omega arith
     insn_words (insn.Assign x y) h = let main = own_push h in omega arith
     insn_words (insn.While x y) h = let main = own_push h in let next = own_set h in omega arith

@@ -8,11 +8,12 @@ use Rattle.std.specs.Prelude.{slice_get, slice_index, nat_eq, ◌==◌, ◌&&◌
 use Rattle.std.specs.declared.option.Option.{Option}
 use Rattle.fy_base.specs.declared.data.Datum.{Datum as DatumType}
 use Rattle.fy_phrase.specs.Contexts.{store_c}
+use Rattle.fy_phrase.specs.Copy.{own}
 use Rattle.pe_code.specs.declared.code.Entry.{Entry}
 use Rattle.pe_code.specs.declared.code.PeCode.{PeCode}
 use Rattle.pe_code.specs.Code.{address_in, entry_of}
 use Rattle.pe_code.specs.Valid.{LeadsTo}
-use Rattle.pe_machine.specs.States.{Thunk, source, datum, cell_of, jump_of, value, PeContext}
+use Rattle.pe_machine.specs.States.{Thunk, source, datum, cell_of, jump_of, sequence_of, value, PeContext}
 use Rattle.pe_machine.specs.Step.{is_assignment}
 use Rattle.pe_items.specs.Items.{Item, address_on, FoundContext, context_at, FoundFrame, frame_from, handed_by, datum_at, with_cell, escape_at, ItemState}
 use Rattle.pe_items.specs.Step.{ItemMove, sticks, focused, loaded, assigned, assignment_meets, cell_entered, left_by, jumped, at_entry, entered, taken, newest_of, with_variable}
@@ -119,7 +120,7 @@ module _ (code : PeCode) (w : Code) (sel : IsSelected code w) where
 
       -- or written
       cell_written : (v : DatumType) (outside : ℕ) (older : List Item) → StandsAt code e.words s.items s.newest (record { content = store_c v; outside = outside; older = older }) → (o : Option DatumType) → datum_at x s.items ≡ o
-          → Reach w (Q (assigned o x v (record s { newest = outside }))) 60 (record { rest = block w write_label; held = e })
+          → Reach w (Q (assigned o own x v (record s { newest = outside }))) 60 (record { rest = block w write_label; held = e })
       cell_written v outside older at None is = nothing 60 (record { rest = block w write_label; held = e }) (omega arith)
       cell_written v outside older at (Some u) is =
           let c = cell_is code e.words s.items x u is h.memory.laid in
@@ -128,7 +129,7 @@ module _ (code : PeCode) (w : Code) (sel : IsSelected code w) where
           let inside = at.within in
           let spot = at.spot in
           let newest = h.newest_is ∙ ap word_address spot in
-          by_block w (Q (assigned (Some u) x v (record s { newest = outside }))) write_label
+          by_block w (Q (assigned (Some u) own x v (record s { newest = outside }))) write_label
           (Window Context 3 ∷ Get Datum Context 2 ∷ Get Context Context 1 ∷ Window Frame 3 ∷ Save Frame 2 Datum ∷ Jump meet ∷ []) e 60 (sel.own 4 (omega arith)) (omega arith) (
             address_on older,
             newest,
@@ -174,11 +175,11 @@ module _ (code : PeCode) (w : Code) (sel : IsSelected code w) where
           )
 
       assigned_by : (c : PeContext) (outside : ℕ) (older : List Item) → StandsAt code e.words s.items s.newest (record { content = c; outside = outside; older = older })
-          → Reach w (Q (assignment_meets x c (record s { newest = outside }))) 60 (record { rest = block w write_label; held = e })
+          → Reach w (Q (assignment_meets own x c (record s { newest = outside }))) 60 (record { rest = block w write_label; held = e })
       assigned_by (store_c v) outside older at = cell_written v outside older at (datum_at x s.items) refl
       assigned_by _ outside older at = nothing 60 (record { rest = block w write_label; held = e }) (omega arith)
 
-      assigned_at : (o : Option FoundContext) → newest_of s ≡ o → Reach w (Q (taken (assignment_meets x) o s)) 60 (record { rest = block w write_label; held = e })
+      assigned_at : (o : Option FoundContext) → newest_of s ≡ o → Reach w (Q (taken (assignment_meets own x) o s)) 60 (record { rest = block w write_label; held = e })
       assigned_at None is = nothing 60 (record { rest = block w write_label; held = e }) (omega arith)
       assigned_at (Some c) is = assigned_by c.content c.outside c.older (stands_at code e.words s.items s.newest c is h.memory.laid)
 
@@ -235,22 +236,23 @@ module _ (code : PeCode) (w : Code) (sel : IsSelected code w) where
     HasEntry (datum v) shape = Unit {0}
     HasEntry (cell_of x) shape = Unit {0}
     HasEntry (jump_of x) shape = Unit {0}
+    HasEntry (sequence_of x) shape = ⊥
 
     module _ (shape n : ℕ) (lt : shape < code.shapes) (enough : 90 ≤ n) where
       abbrev pub Enters : Thunk → Data → Type 0
       Enters t e = Wp w (Later w n (Q (entered code shape t s))) (Set Third (row_address code shape) ∷ Alu reg.Add Second Second Third ∷ Look Second Second ∷ Enter Second ∷ []) e
 
       cell_enters : (x : ℕ) (e : Data) (b : Bool) → is_assignment code.assignment shape ≡ b → HoldsItems code s.newest s.items e → Keeps e0.input e0.output (length e0.words) e → e.named.second ≡ column_word 1 → e.named.frame ≡ word_address x
-          → Wp w (Later w n (Q (cell_entered b x s))) (Set Third (row_address code shape) ∷ Alu reg.Add Second Second Third ∷ Look Second Second ∷ Enter Second ∷ []) e
+          → Wp w (Later w n (Q (cell_entered b own x s))) (Set Third (row_address code shape) ∷ Alu reg.Add Second Second Third ∷ Look Second Second ∷ Enter Second ∷ []) e
       cell_enters x e true is h keeps second f =
           let e1 = with_value Second (entry_word write_entry) (with_value Third (row_address code shape) e) in
-          looked (Later w n (Q (cell_entered true x s))) shape 1 write_entry write_label e lt (omega arith) (cond-true (is_assignment code.assignment shape) (entry_word write_entry) (entry_word read_entry) is) (sel.fixed 4 (omega arith)) second
-          (inr (wider w (Q (cell_entered true x s)) 60 n (record { rest = block w write_label; held = e1 }) (omega arith)
+          looked (Later w n (Q (cell_entered true own x s))) shape 1 write_entry write_label e lt (omega arith) (cond-true (is_assignment code.assignment shape) (entry_word write_entry) (entry_word read_entry) is) (sel.fixed 4 (omega arith)) second
+          (inr (wider w (Q (cell_entered true own x s)) 60 n (record { rest = block w write_label; held = e1 }) (omega arith)
           (assigned_at x e1 (record { newest_is = h.newest_is; top_is = h.top_is; memory = h.memory; bytes = h.bytes }) (record { input_is = keeps.input_is; output_is = keeps.output_is; size_is = keeps.size_is }) f (newest_of s) refl)))
       cell_enters x e false is h keeps second f =
           let e1 = with_value Second (entry_word read_entry) (with_value Third (row_address code shape) e) in
-          looked (Later w n (Q (cell_entered false x s))) shape 1 read_entry read_label e lt (omega arith) (cond-false (is_assignment code.assignment shape) (entry_word write_entry) (entry_word read_entry) is) (sel.fixed 3 (omega arith)) second
-          (inr (wider w (Q (cell_entered false x s)) 40 n (record { rest = block w read_label; held = e1 }) (omega arith)
+          looked (Later w n (Q (cell_entered false own x s))) shape 1 read_entry read_label e lt (omega arith) (cond-false (is_assignment code.assignment shape) (entry_word write_entry) (entry_word read_entry) is) (sel.fixed 3 (omega arith)) second
+          (inr (wider w (Q (cell_entered false own x s)) 40 n (record { rest = block w read_label; held = e1 }) (omega arith)
           (cell_read x e1 (record { newest_is = h.newest_is; top_is = h.top_is; memory = h.memory; bytes = h.bytes }) (record { input_is = keeps.input_is; output_is = keeps.output_is; size_is = keeps.size_is }) f (datum_at x s.items) refl)))
 
       pub enters : (t : Thunk) (e : Data) → HasEntry t shape → HoldsItems code s.newest s.items e → Keeps e0.input e0.output (length e0.words) e → e.named.second ≡ column_word (column code t) → e.named.frame ≡ payload t
@@ -276,8 +278,9 @@ module _ (code : PeCode) (w : Code) (sel : IsSelected code w) where
           by (is_assignment code.assignment shape) refl
         where
           by : (b : Bool) → is_assignment code.assignment shape ≡ b
-              → Wp w (Later w n (Q (cell_entered b x s))) (Set Third (row_address code shape) ∷ Alu reg.Add Second Second Third ∷ Look Second Second ∷ Enter Second ∷ []) e
+              → Wp w (Later w n (Q (cell_entered b own x s))) (Set Third (row_address code shape) ∷ Alu reg.Add Second Second Third ∷ Look Second Second ∷ Enter Second ∷ []) e
           by b is = cell_enters x e b is h keeps second f
+      enters (sequence_of x) e he h keeps second f good = absurd he
       enters (jump_of x) e he h keeps second f good =
           let e1 = with_value Second (entry_word leave_entry) (with_value Third (row_address code shape) e) in
           looked (Later w n (Q (jumped (escape_at x s.items) s))) shape 2 leave_entry leave_label e lt (omega arith) refl (sel.fixed 5 (omega arith)) second
@@ -333,6 +336,7 @@ module _ (code : PeCode) (w : Code) (sel : IsSelected code w) where
       used_thunk g (datum v) same found = used_found g (datum v) same tt found
       used_thunk g (cell_of x) same found = used_found g (cell_of x) same tt found
       used_thunk g (jump_of x) same found = used_found g (jump_of x) same tt found
+      used_thunk g (sequence_of x) same found = absurd (subst (IsGoodThunk code (frames_from s.items)) same (hands_on code e0.words s.items k here g found h.memory.laid).good)
 
       used_by : (o : Option FoundFrame) → frame_from s.items k here ≡ o → Uses (with_variable o (λ t. entered code shape t s))
       used_by None found = nothing 200 (record { rest = block w label; held = e0 }) (omega arith)

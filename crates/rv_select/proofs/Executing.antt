@@ -627,6 +627,7 @@ module _ (code : PeCode) (w : Code) (sel : IsSelected code w) (help : Helpers) w
     runs (insn.While x y) stands sound good cost = runs_while x y stands sound
     runs (insn.Loop x) stands sound good cost = runs_loop x stands sound
     runs (insn.New x y) stands sound good cost = runs_new x y stands sound
+    runs (insn.Cells x y) stands sound good cost = absurd (let none = sound.no_cells in cc)
     runs (insn.Escape y) stands sound good cost = runs_escape y stands sound (cost y refl)
     runs (insn.Accept y) stands sound good cost = runs_accept y (newest_of s) refl stands sound (cost y refl)
     runs (insn.Put kind x) stands sound good cost = runs_put kind x stands sound

@@ -158,6 +158,7 @@ module _ (code : PeCode) (b : Bounds) (fits : Fits code b) where
     blocks_fine (insn.LetData v y) h = alone (main_block code a d (insn.LetData v y)) (bound_datum v y h.deep (h.value v refl) (h.body y refl))
     blocks_fine (insn.Knot n y) h = alone (main_block code a d (insn.Let n y)) (bound_node n y h.deep (h.body y refl))
     blocks_fine insn.Done h = simp (low meet (omega arith))
+    blocks_fine (insn.Cells x y) h = simp (low meet (omega arith))
     blocks_fine (insn.Seq x y) h = pushed x (then_block code a d y ∷ []) (h.beside 0 0 (omega arith)) (simp (h.beside 1 0 (omega arith)))
     blocks_fine (insn.Assign x y) h = pushed y (assign_block code a d x ∷ []) (h.beside 1 0 (omega arith)) (simp (h.beside 0 0 (omega arith)))
     blocks_fine (insn.While x y) h =

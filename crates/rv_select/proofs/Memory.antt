@@ -9,7 +9,7 @@ use Rattle.fy_base.specs.declared.data.Datum.{Datum}
 use Rattle.pe_code.specs.declared.code.PeCode.{PeCode}
 use Rattle.pe_frame.specs.Frames.{frame_words, display_start}
 use Rattle.pe_machine.specs.States.{is_named, PeContext}
-use Rattle.pe_items.specs.Items.{ItemBinding, to_thunk, to_cell, to_escape, Item, frame, context, address_on, FoundContext, context_at, FoundFrame, from_frame, frame_from, handed_on, handed_by, with_datum, with_cell, datum_in, datum_at, context_in, escape_at}
+use Rattle.pe_items.specs.Items.{ItemBinding, to_thunk, to_cell, to_escape, Item, frame, context, sequence, address_on, FoundContext, context_at, FoundFrame, from_frame, frame_from, handed_on, handed_by, with_datum, with_cell, datum_in, datum_at, context_in, escape_at}
 use Rattle.rv_word.specs.Word.{word_address}
 use Rattle.rv_operators.specs.Operators.{word_of}
 use Rattle.rv_operators.specs.Laws.{IsDatum}
@@ -69,10 +69,12 @@ context_same code m n is c o e h = record {
 item_same : (code : PeCode) (m n : List ℕ) (is : List Item) (i : Item) → IsSameBelow (address_on (i ∷ is)) m n → IsLaid code m is i → IsLaid code n is i
 item_same code m n is (frame d b around) e h = frame_same code m n is d b around e h
 item_same code m n is (context c o) e h = context_same code m n is c o e h
+item_same code m n is (sequence c) e h = absurd h
 
-item_room : (i : Item) (is : List Item) → address_on is + 3 ≤ address_on (i ∷ is)
-item_room (frame d b around) is = let room = frame_room d in omega arith
+item_room : (i : Item) (is : List Item) → address_on is ≤ address_on (i ∷ is)
+item_room (frame d b around) is = omega arith
 item_room (context c o) is = omega arith
+item_room (sequence c) is = omega arith
 
 -- what is written on top of them changes nothing
 pub laid_same : (code : PeCode) (m n : List ℕ) (is : List Item) → IsSameBelow (address_on is) m n → AreLaid code m is → AreLaid code n is
@@ -108,6 +110,7 @@ hands_here code m is d b around h = record {
 
 pub hands_on : (code : PeCode) (m : List ℕ) (is : List Item) (k : ℕ) (x : Option ℕ) (f : FoundFrame) → frame_from is k x ≡ Some f → AreLaid code m is → HandsOn code m is f
 hands_on code m [] k x f e h = absurd (cc)
+hands_on code m (sequence c ∷ is) k x f e h = absurd h.0
 hands_on code m (context c o ∷ is) k x f e h = hands_more code m (context c o) is f (hands_on code m is k x f e h.1)
 hands_on code m (frame d b around ∷ is) k x f e h =
     by (is_named x (address_on is)) k (λ j g. hands_on code m is j around f g h.1) (λ g. hands_on code m is k x f g h.1) e
@@ -128,6 +131,7 @@ pub record ShowsFrames (m : List ℕ) (is : List Item) (x d : ℕ) : Type 0 wher
 
 pub shows_frames : (code : PeCode) (m : List ℕ) (is : List Item) (x d : ℕ) → frames_from is (Some x) ≡ Some (suc d) → AreLaid code m is → ShowsFrames m is x d
 shows_frames code m [] x d e h = absurd (cc)
+shows_frames code m (sequence c ∷ is) x d e h = absurd h.0
 shows_frames code m (context c o ∷ is) x d e h =
     let r = shows_frames code m is x d e h.1 in
     record { display = r.display; within = (let w = r.within in omega arith) }
@@ -170,6 +174,7 @@ stands_more code m i is x c r = record {
 
 pub stands_at : (code : PeCode) (m : List ℕ) (is : List Item) (x : ℕ) (c : FoundContext) → context_at x is ≡ Some c → AreLaid code m is → StandsAt code m is x c
 stands_at code m [] x c e h = absurd (cc)
+stands_at code m (sequence q ∷ is) x c e h = absurd h.0
 stands_at code m (frame d b around ∷ is) x c e h = stands_more code m (frame d b around) is x c (stands_at code m is x c e h.1)
 stands_at code m (context k o ∷ is) x c e h =
     by_eq (λ q. q ≡ Some c → StandsAt code m (context k o ∷ is) x c) x (address_on is) (Some (record { content = k; outside = o; older = is })) (context_at x is)
@@ -187,6 +192,7 @@ pub record CellIs (m : List ℕ) (is : List Item) (x : ℕ) (v : Datum) : Type 0
 
 pub cell_is : (code : PeCode) (m : List ℕ) (is : List Item) (x : ℕ) (v : Datum) → datum_at x is ≡ Some v → AreLaid code m is → CellIs m is x v
 cell_is code m [] x v e h = absurd (cc)
+cell_is code m (sequence c ∷ is) x v e h = absurd h.0
 cell_is code m (context c o ∷ is) x v e h =
     let r = cell_is code m is x v e h.1 in record { value_is = r.value_is; good = r.good; within = (let w = r.within in omega arith) }
 cell_is code m (frame d b around ∷ is) x v e h =
@@ -212,6 +218,7 @@ pub record EscapeIs (m : List ℕ) (is : List Item) (x c : ℕ) : Type 0 where
 
 pub escape_is : (code : PeCode) (m : List ℕ) (is : List Item) (x c : ℕ) → escape_at x is ≡ Some c → AreLaid code m is → EscapeIs m is x c
 escape_is code m [] x c e h = absurd (cc)
+escape_is code m (sequence q ∷ is) x c e h = absurd h.0
 escape_is code m (context k o ∷ is) x c e h =
     let r = escape_is code m is x c e h.1 in record { context_is = r.context_is; within = (let w = r.within in omega arith) }
 escape_is code m (frame d b around ∷ is) x c e h =
@@ -279,6 +286,7 @@ cell_written code m n x u v is d (to_cell z) around e same w good h =
 
 pub laid_with : (code : PeCode) (m n : List ℕ) (x : ℕ) (u v : Datum) (is : List Item) → datum_at x is ≡ Some u → Wrote m n (x + 2) (word_of v) → IsDatum v → AreLaid code m is → AreLaid code n (with_cell x v is)
 laid_with code m n x u v [] e w good h = absurd (cc)
+laid_with code m n x u v (sequence c ∷ is) e w good h = absurd h.0
 laid_with code m n x u v (context c o ∷ is) e w good h =
     (context_kept code m n x v is c o w (cell_below x u is e) h.0, laid_with code m n x u v is e w good h.1)
 laid_with code m n x u v (frame d b around ∷ is) e w good h =

@@ -11,7 +11,7 @@ use Rattle.fy_base.specs.declared.data.BinOp.{BinOp}
 use Rattle.fy_base.specs.declared.data.BinOp.TheVariants.{And, Or}
 use Rattle.fy_base.specs.declared.data.PutKind.{PutKind}
 use Rattle.fy_base.specs.declared.data.PutKind.TheVariants as puts
-use Rattle.fy_phrase.specs.Contexts.{op_1, op_l, op_r, if_c, case_c, then_c, assign_c, while_c, body_c, loop_c, new_c, drop_c, put_c, esc_c}
+use Rattle.fy_phrase.specs.Contexts.{op_1, op_l, op_r, if_c, case_c, then_c, assign_c, while_c, body_c, loop_c, new_c, drop_c, put_c, esc_c, cells_c, fill_c, element_c}
 use Rattle.pe_code.specs.declared.code.PeInsn.TheVariants as insn
 use Rattle.pe_code.specs.declared.code.PeItem.{PeItem}
 use Rattle.pe_code.specs.declared.code.PeCode.{PeCode}
@@ -232,6 +232,9 @@ module _ (code : PeCode) (w : Code) (sel : IsSelected code w) (help : Helpers) (
           ((sound_of r.0 (record { insn = insn.Assign p.address r.2; depth = r.1; place = r.3 }) r.4.entry.stands).beside_it 0 0 (omega arith))
           r.4.deep r.4.frame is good (met_of (assign_c p) outside k older found) (kept_of k)))
       value_by (put_c kind) outside older found = put_by kind outside older found
+      value_by (cells_c d body at) outside older found = absurd found.here.parts
+      value_by (fill_c n m d body at) outside older found = absurd found.here.parts
+      value_by (element_c wanted) outside older found = absurd found.here.parts
       value_by _ outside older found = nothing code w sel help e0 (step_cost (deepest code.items)) meet e0 (omega arith)
 
       pub value_at : (o : Option FoundContext) → newest_of s ≡ o → From code w sel help e0 (answered (datum_meets code v) o s) (step_cost (deepest code.items)) meet e0

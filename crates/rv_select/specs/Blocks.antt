@@ -131,6 +131,8 @@ module _ (code : PeCode) (a d : ℕ) where
   main_block (insn.LetData v y) = Set First (column_word datum_column) ∷ Set Second (word_of v) ∷ bind_body y
   main_block (insn.Knot n y) = Set First (column_word (column_of code n)) ∷ move Second Frame ∷ bind_body y
   main_block insn.Done = Jump meet ∷ []
+  -- no image makes a sequence of cells
+  main_block (insn.Cells x y) = Jump meet ∷ []
   main_block (insn.Seq x y) = push_frame (own_entry 1) (label_of code x)
   main_block (insn.Assign x y) = push_frame (own_entry 1) (label_of code y)
   main_block (insn.While x y) = push_frame (own_entry 1) (label_of code x)

@@ -10,8 +10,8 @@ use Rattle.pe_code.specs.declared.code.PeCode.{PeCode}
 use Rattle.pe_code.specs.Code.{item_at}
 use Rattle.pe_code.specs.Valid.{LeadsTo, IsThunkNode}
 use Rattle.pe_frame.specs.Frames.{display_start}
-use Rattle.pe_machine.specs.States.{Pointer, Thunk, source, datum, cell_of, jump_of, Focus, code_at, value, completed, PeContext}
-use Rattle.pe_items.specs.Items.{ItemBinding, to_thunk, to_cell, to_escape, Item, frame, context, address_on, FoundFrame, frame_from, handed_on, ItemState}
+use Rattle.pe_machine.specs.States.{Pointer, Thunk, source, datum, cell_of, jump_of, sequence_of, Focus, code_at, value, completed, PeContext}
+use Rattle.pe_items.specs.Items.{ItemBinding, to_thunk, to_cell, to_escape, Item, frame, context, sequence, address_on, FoundFrame, frame_from, handed_on, ItemState}
 use Rattle.rv_word.specs.declared.micros.Micro.{Micro}
 use Rattle.rv_word.specs.Word.{Data, Code, State, word_address, block}
 use Rattle.rv_operators.specs.Operators.{word_of}
@@ -35,6 +35,7 @@ abbrev pub frames_from : List Item → Option ℕ → Option ℕ
 frames_from is None = Some 0
 frames_from [] (Some x) = None
 frames_from (context content outside ∷ is) (Some x) = frames_from is (Some x)
+frames_from (sequence c ∷ is) (Some x) = frames_from is (Some x)
 frames_from (frame depth binding around ∷ is) (Some x) = if nat_eq x (address_on is) then Some (suc depth) else frames_from is (Some x)
 
 abbrev pub address_found : Option FoundFrame → Option ℕ
@@ -49,6 +50,7 @@ column code (source node around) = column_of code node
 column code (datum v) = datum_column
 column code (cell_of x) = cell_column
 column code (jump_of x) = escape_column
+column code (sequence_of x) = escape_column
 
 -- what its code finds as the frame in use
 abbrev pub payload : Thunk → ℕ
@@ -56,13 +58,15 @@ payload (source node around) = frame_word around
 payload (datum v) = word_of v
 payload (cell_of x) = word_address x
 payload (jump_of x) = word_address x
+payload (sequence_of x) = word_address x
 
--- its node is one of which thunks are made where its frame is, and its datum is in range
+-- its node is one of which thunks are made where its frame is, and its datum is in range; no image makes a sequence of cells, so that none is named
 abbrev pub IsGoodThunk : PeCode → (Option ℕ → Option ℕ) → Thunk → Type 0
 IsGoodThunk code depths (source node around) = (depth : ℕ) × IsThunkNode code depth node × (depths around ≡ Some depth)
 IsGoodThunk code depths (datum v) = IsDatum v
 IsGoodThunk code depths (cell_of x) = Unit {0}
 IsGoodThunk code depths (jump_of x) = Unit {0}
+IsGoodThunk code depths (sequence_of x) = ⊥
 
 abbrev pub IsGoodBinding : PeCode → (Option ℕ → Option ℕ) → ItemBinding → Type 0
 IsGoodBinding code depths (to_thunk t) = IsGoodThunk code depths t
@@ -134,6 +138,7 @@ pub record ContextIsLaid (code : PeCode) (words : List ℕ) (is : List Item) (co
 abbrev pub IsLaid : PeCode → List ℕ → List Item → Item → Type 0
 IsLaid code words is (frame depth binding around) = FrameIsLaid code words is depth binding around
 IsLaid code words is (context content outside) = ContextIsLaid code words is content outside
+IsLaid code words is (sequence c) = ⊥
 
 abbrev pub AreLaid : PeCode → List ℕ → List Item → Type 0
 AreLaid code words [] = Unit {0}

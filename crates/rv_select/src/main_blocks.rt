@@ -309,7 +309,8 @@ pub fn add_main(
         PeInsn::Let(node, body) | PeInsn::Knot(node, body) => add_let(block, site, *node, *body),
         PeInsn::LetVar(variable, body) => add_let_variable(block, site, *variable, *body),
         PeInsn::LetData(value, body) => add_let_datum(block, site, *value, *body),
-        PeInsn::Done => add_jump(block, MEET),
+        // No image makes a sequence of cells.
+        PeInsn::Done | PeInsn::Cells(..) => add_jump(block, MEET),
         PeInsn::Escape(body) => add_escape(block, site, *body),
         PeInsn::Accept(body) => add_accept(block, site, *body),
         PeInsn::Put(kind, x) => add_push(block, put_entry(*kind), site.start(*x).label),

@@ -1,7 +1,8 @@
 use fy_base::{BinOp, Datum, OutOfMemory, Place, PutKind, UnOp};
 use fy_types::Names;
 use pe_code::{
-    AddressList, Entry, EntryList, NodeList, PeCode, PeInsn, PeItem, PeItemList, is_valid, print_pe,
+    AddressList, Entry, EntryList, NodeList, PeCode, PeInsn, PeItem, PeItemList, SequenceShapes,
+    is_valid, print_pe,
 };
 use std::alloc::Global;
 use std::test::Fail;
@@ -32,6 +33,7 @@ const PRINTS: &[&str] = &[
     "letdata false 8",
     "done",
     "while 6 7",
+    "cells 1 2",
     "put char 4",
     "read 4294967295",
 ];
@@ -55,7 +57,8 @@ fn printed(alloc: Global, number: usize) -> Result<PeInsn, OutOfMemory> {
         13 => PeInsn::LetData(Datum::Bool(false), 8),
         14 => PeInsn::Done,
         15 => PeInsn::While(6, 7),
-        16 => PeInsn::Put(PutKind::Char, 4),
+        16 => PeInsn::Cells(1, 2),
+        17 => PeInsn::Put(PutKind::Char, 4),
         _ => PeInsn::Read(4294967295),
     })
 }
@@ -78,6 +81,8 @@ enum Part {
     Done,
     Seq(u32),
     Bind,
+    New(u32),
+    Cells(u32),
     // Over this and three more parts.
     Case(u32),
 }
@@ -89,6 +94,8 @@ fn insn(alloc: Global, part: Part) -> Result<PeInsn, OutOfMemory> {
         Part::Done => Ok(PeInsn::Done),
         Part::Seq(second) => Ok(PeInsn::Seq(2, second)),
         Part::Bind => Ok(PeInsn::Bind(2)),
+        Part::New(body) => Ok(PeInsn::New(2, body)),
+        Part::Cells(body) => Ok(PeInsn::Cells(2, body)),
         Part::Case(index) => Ok(PeInsn::Case(index, addresses(alloc, &[2, 2, 2, 2])?)),
     }
 }
@@ -100,6 +107,14 @@ fn item(insn: PeInsn, depth: u32) -> PeItem {
         place: Place::first(),
     }
 }
+
+// No sequence of cells is used.
+const NO_SEQUENCES: SequenceShapes = SequenceShapes {
+    value: None,
+    element: None,
+    assigned_element: None,
+    row_length: None,
+};
 
 // Code with these two items and a third, where node 7 is a thunk node and enters at the third.
 fn code_of(
@@ -125,11 +140,12 @@ fn code_of(
         entries,
         shapes: 1,
         assignment: Some(0),
+        sequences: NO_SEQUENCES,
         thunks,
     })
 }
 
-// Each of these but the first breaks one point alone.
+// Each of these that is refused breaks one point alone.
 const ITEMS: &[(Part, Part, [u32; 3], bool)] = &[
     (Part::Let(7), Part::UseVar(0, 0), [0, 1, 0], true),
     (Part::Let(7), Part::UseVar(0, 0), [1, 2, 1], false),
@@ -142,6 +158,8 @@ const ITEMS: &[(Part, Part, [u32; 3], bool)] = &[
     (Part::Let(8), Part::UseVar(0, 0), [0, 1, 0], false),
     (Part::Let(7), Part::UseVar(0, 0), [0, 1, 1], false),
     (Part::Case(2), Part::Done, [0, 0, 0], false),
+    (Part::New(1), Part::UseVar(0, 0), [0, 1, 0], true),
+    (Part::Cells(1), Part::UseVar(0, 0), [0, 1, 0], false),
 ];
 
 #[test]
@@ -226,6 +244,30 @@ fn tables_are_judged(rt: HostRuntime) -> Result<(), Fail> {
     let mut code = valid_code(rt.alloc())?;
     code.items = PeItemList::new(rt.alloc());
     assert!(rt; !is_valid(&code));
+    Ok(())
+}
+
+// The numbers of shapes that use a sequence, in code of one shape, and whether it is valid with them.
+const SEQUENCES: &[(Option<u32>, Option<u32>, Option<u32>, Option<u32>, bool)] = &[
+    (Some(0), Some(0), Some(0), Some(0), true),
+    (Some(1), None, None, None, false),
+    (None, Some(1), None, None, false),
+    (None, None, Some(1), None, false),
+    (None, None, None, Some(1), false),
+];
+
+#[test]
+fn shapes_of_sequences_are_judged(rt: HostRuntime) -> Result<(), Fail> {
+    for (value, element, assigned_element, row_length, want) in SEQUENCES {
+        let mut code = valid_code(rt.alloc())?;
+        code.sequences = SequenceShapes {
+            value: *value,
+            element: *element,
+            assigned_element: *assigned_element,
+            row_length: *row_length,
+        };
+        assert!(rt; is_valid(&code) == *want);
+    }
     Ok(())
 }
 

@@ -34,9 +34,12 @@ one_part c = elim c.in-Op1.is [
               | inl loop ↦ ap beside loop
               | inr g ↦ elim g [
                 | inl new ↦ ap beside new.1
-                | inr h ↦ elim h [
-                  | inl put ↦ ap beside put.1
-                  | inr read ↦ ap beside read
+                | inr k ↦ elim k [
+                  | inl cells ↦ ap beside cells.1
+                  | inr h ↦ elim h [
+                    | inl put ↦ ap beside put.1
+                    | inr read ↦ ap beside read
+                  ]
                 ]
               ]
             ]

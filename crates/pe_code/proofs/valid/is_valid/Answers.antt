@@ -3,9 +3,9 @@ use Rattle.std.proofs.lemmas.Bool.{both_ways}
 use Rattle.pe_code.proofs.valid.is_valid.Goals as goal
 use Rattle.pe_code.proofs.valid.is_valid.Goals.{then-is_item_count, else-is_item_count, then-leads_to, else-leads_to, then-are_sound_items, else-are_sound_items, then-are_few_parts, else-are_few_parts, then-are_sound_entries, else-are_sound_entries, then-are_once, else-are_once}
 
-pub returns-then-is_below : goal.returns-then-is_below
-returns-then-is_below c = elim c.if-are_once.branch [
-  | else-are_once u ↦ absurd (both_ways _ (u.value-is ∙ u.if-are_once.false) c.if-is_below.true)
+pub returns-then-are_sound_shapes : goal.returns-then-are_sound_shapes
+returns-then-are_sound_shapes c = elim c.if-are_once.branch [
+  | else-are_once u ↦ absurd (both_ways _ (u.value-is ∙ u.if-are_once.false) c.if-are_sound_shapes.true)
   | then-are_once u ↦ elim c.if-are_sound_entries.branch [
     | else-are_sound_entries v ↦ absurd (both_ways _ (v.value-is ∙ v.if-are_sound_entries.false) u.if-are_once.true)
     | then-are_sound_entries v ↦ elim c.if-are_few_parts.branch [
@@ -27,7 +27,7 @@ returns-then-is_below c = elim c.if-are_once.branch [
                     parts = rw c.as_slice-items.ensures at (x.are_few_parts.ensures.0 (sym x.value-is ∙ w.if-are_few_parts.true));
                     entries = rw c.as_slice-entries.ensures.entries at (w.are_sound_entries.ensures.0 (sym w.value-is ∙ v.if-are_sound_entries.true));
                     once = rw c.as_slice-entries.ensures.entries at (v.are_once.ensures.0 (sym v.value-is ∙ u.if-are_once.true));
-                    assignment = u.is_below.ensures.0 (sym u.value-is ∙ c.if-is_below.true);
+                    asked = u.are_sound_shapes.ensures.0 (sym u.value-is ∙ c.if-are_sound_shapes.true);
                     words = rw c.as_slice.ensures at (c.are_few_words.ensures.0 t);
                   },
               λ valid. c.are_few_words.ensures.1 (rw c.as_slice.ensures valid.words),
@@ -39,11 +39,11 @@ returns-then-is_below c = elim c.if-are_once.branch [
   ]
 ]
 
-pub returns-else-is_below : goal.returns-else-is_below
-returns-else-is_below c = (
-  λ t. absurd (both_ways _ c.if-is_below.false t),
+pub returns-else-are_sound_shapes : goal.returns-else-are_sound_shapes
+returns-else-are_sound_shapes c = (
+  λ t. absurd (both_ways _ c.if-are_sound_shapes.false t),
   λ valid. elim c.if-are_once.branch [
-    | then-are_once u ↦ u.value-is ∙ u.is_below.ensures.1 valid.assignment
+    | then-are_once u ↦ u.value-is ∙ u.are_sound_shapes.ensures.1 valid.asked
     | else-are_once u ↦ absurd (both_ways _ u.if-are_once.false (elim c.if-are_sound_entries.branch [
       | then-are_sound_entries v ↦ v.value-is ∙ v.are_once.ensures.1 (rw c.as_slice-entries.ensures.entries valid.once)
       | else-are_sound_entries v ↦ absurd (both_ways _ v.if-are_sound_entries.false (elim c.if-are_few_parts.branch [

@@ -51,5 +51,8 @@ returns-in-Loop-clause-placed c frames is = c.go_in-in-Loop.ensures.placed frame
 pub returns-in-New-clause-placed : goal.returns-in-New-clause-placed
 returns-in-New-clause-placed c frames is = c.go_in-in-New.ensures.placed frames (c.beside-in-New.ensures.placed frames is) is
 
+pub returns-in-Cells-clause-placed : goal.returns-in-Cells-clause-placed
+returns-in-Cells-clause-placed c frames is = c.go_in-in-Cells.ensures.placed frames (c.beside-in-Cells.ensures.placed frames is) is
+
 pub returns-in-Put-clause-placed : goal.returns-in-Put-clause-placed
 returns-in-Put-clause-placed c frames is = c.go_in-in-Put.ensures.placed frames tt is

@@ -22,3 +22,6 @@ returns-in-While-clause-placed c frames is = let both = subst (IsPlacedContext f
 
 pub returns-in-Assign-clause-placed : goal.returns-in-Assign-clause-placed
 returns-in-Assign-clause-placed c frames is = c.push-in-Assign.ensures.placed frames tt (subst (IsPlacedContext frames) c.in-Assign.is is)
+
+pub returns-in-Cells-clause-placed : goal.returns-in-Cells-clause-placed
+returns-in-Cells-clause-placed c frames is = c.count.ensures.placed frames (subst (IsPlacedContext frames) c.in-Cells.is is)

@@ -10,8 +10,8 @@ invariant-loop-left l = record {
   end : l.end ≤ length l.core.frames.items;
   placed : IsPlacedName (frames_of l.core) l.name;
   outside :
-      frame_outside (frames_onto [] l.core.frames.items) l.links (number_of l.fn.frame)
-      ≡ frame_outside (frames_onto [] (take l.end l.core.frames.items)) l.left (Some l.name.number);
+      frame_outside (frames_onto l.core.cells.items [] l.core.frames.items) l.links (number_of l.fn.frame)
+      ≡ frame_outside (frames_onto l.core.cells.items [] (take l.end l.core.frames.items)) l.left (Some l.name.number);
 }
 
 abbrev pub decreases-loop-left : goal.decreases-loop-left

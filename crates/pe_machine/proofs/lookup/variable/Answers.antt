@@ -9,4 +9,4 @@ returns-clause-placed c =
     let x = c.index.result.now in
     let place = c.in_ok-place.place in
     let inside = c.in_ok-place.ensures.0 in
-    c.handed_on.ensures.placed frames (frame_at place x frames core.frames_placed inside c.index.ensures).0 (name_of_frame place x frames core.numbered inside c.index.ensures)
+    c.handed_on.ensures.placed frames (frame_at place x frames core.frames_placed inside c.index.ensures).0 (name_of_frame core.cells.items place x frames core.numbered inside c.index.ensures)

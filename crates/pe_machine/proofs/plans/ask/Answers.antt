@@ -8,12 +8,12 @@ pub returns-in-Some-clause-moves : goal.returns-in-Some-clause-moves
 returns-in-Some-clause-moves c =
     let core = c.args.core.now in
     let items = core.contexts.items in
-    let e : length items - 1 ≡ c.len.result - 1 = omega (arith, c.len.ensures, core.contexts.ok.0) in
+    let kept = c.kept_taken.result in
+    let e : length items - 1 ≡ kept.contexts = sym c.kept_taken.ensures.contexts in
     let P : ℕ → Type 0 = λ k. IsHeldAt c.in-Some.held k items in
     let at = subst P e c.in-Some.ensures.held in
     let some = c.in-Some.ensures.held.0 in
-    let last : c.len.result - 1 + 1 ≡ length items = omega (arith, c.len.ensures, core.contexts.ok.0) in
-    let many : length core.frames.items ≤ c.len-in-Some.result = omega (arith, c.len-in-Some.ensures, core.frames.ok.0) in
-    c.meet_demand.ensures.moves (kept_of (record { contexts = c.len.result - 1; frames = c.len-in-Some.result; load = core.load }) (state_of core))
-    (frames_stay core.frames.items (c.len.result - 1) c.len-in-Some.result core.load (state_of core) refl many)
-    ∙ sym (taken_at (demand_move c.args.demand) c.in-Some.held (c.len.result - 1) c.len-in-Some.result core.load items core.frames.items (state_of core) refl refl at last many refl)
+    let last : kept.contexts + 1 ≡ length items = omega (arith, c.kept_taken.ensures.contexts) in
+    let many : length core.frames.items ≤ kept.frames = omega (arith, c.kept_taken.ensures.frames) in
+    c.meet_demand.ensures.moves (kept_of kept (state_of core)) (frames_stay core.cells.items core.frames.items kept.contexts kept.frames kept.load (state_of core) refl many)
+    ∙ sym (taken_at (demand_move c.args.demand) c.in-Some.held kept.contexts kept.frames kept.load items core.cells.items core.frames.items (state_of core) refl refl at last many c.kept_taken.ensures.load)
