@@ -1,5 +1,5 @@
 -- Texts that are checked.
-use Rattle.std.proofs.Common.{◌≡◌, ℕ, ◌+◌, ◌<◌, ◌≤◌, List, [], length, IsErrAnd, refl, sym, ap, subst, arith, inl, inr}
+use Rattle.std.proofs.Common.{◌≡◌, ℕ, ◌+◌, ◌<◌, ◌≤◌, List, [], length, IsErrAnd, refl, sym, ap, ◌∙◌, subst, arith, inl, inr}
 use Rattle.std.specs.Prelude.{◌≢◌, ◌⊎◌, IfErr, Some, None, Ok, Err}
 use Rattle.std.specs.declared.option.Option.{Option}
 use Rattle.std.specs.declared.result.Result.{Result}
@@ -20,7 +20,8 @@ use Rattle.fy_phrase.specs.Sizes.{depth}
 use Rattle.fy_phrase.specs.CoreLimits.{KeepsCoreLimits}
 use Rattle.fy_expand.specs.declared.error.ExpandError.{ExpandError}
 use Rattle.fy_expand.specs.declared.error.ExpandError.TheVariants as expanding
-use Rattle.fy_expand.specs.Judged.{HasTokens, IsAllowed, IsJudged, no_tokens, no_program, too_deep, length_refused, tokens_refused, syntax_refused, depth_refused, expansion_refused}
+use Rattle.fy_expand.specs.Expansion.{core_of}
+use Rattle.fy_expand.specs.Judged.{HasTokensFrom, IsAllowed, IsJudged, IsJudgedFrom, no_tokens, no_program, too_deep, expanded, length_refused, tokens_refused, syntax_refused, depth_refused, expansion_refused}
 use Rattle.fy_expand.specs.Judged as judged
 use Rattle.fy_phrase.specs.WellMade.{HasDepths}
 use Rattle.fy_expand.proofs.DepthLemmas.{depth-below}
@@ -41,7 +42,8 @@ use Rattle.pe_shapes.specs.Counts.{HasMany, IsCount}
 use Rattle.pe_shapes.specs.Shaping.{most_shapes, most_pairs, IsShapeOf, IsPairOf, IsShaping}
 use Rattle.pe_shapes.specs.declared.error.ShapeError.{ShapeError}
 use Rattle.pe_shapes.specs.declared.error.ShapeError.TheVariants as shaping
-use Rattle.fy_front.specs.Checked.{lex_refusal, parse_refusal, expand_refusal, find_refusal, shapes_refusal, IsProgramText, IsInUse, IsShownBy, IsLeastShape, IsLeastPair, IsAccepted, IsRefusedFor, not_judged, too_large, no_command, many_shapes, many_entries, large_tables, HasNames, failure_of, IfRefused, IsOfText, IsUnjudged}
+use Rattle.fy_front.specs.Checked.{lex_refusal, parse_refusal, expand_refusal, find_refusal, shapes_refusal, IsProgramText, IsInUse, IsShownBy, IsLeastShape, IsLeastPair, IsAccepted, IsRefusedFor, not_judged, too_large, no_command, many_shapes, many_entries, large_tables, told_as, failure_of, IfRefused, IsOfText, IsPhraseOf, IsUnjudged, IsUnjudgedFrom}
+use Rattle.fy_phrase.specs.declared.phrase.Phrase.{Phrase}
 use Rattle.fy_front.specs.declared.texts.Program.{Program as ProgramOfText}
 use Rattle.fy_front.specs.declared.error.FrontError.{FrontError}
 use Rattle.fy_front.specs.declared.error.FrontError.TheVariants.{Refused, OutOfMemory}
@@ -66,8 +68,8 @@ few_first names e = let h : length first_names ≡ 13 = refl in omega (arith, h,
 pub few_names : (first names : List Bytes) (text : Bytes) → first ≡ first_names → length text ≤ 1048576 → length names ≤ length first + length text → length names ≤ 4000000000
 few_names first names text e short few = let h : length first_names ≡ 13 = refl in omega (arith, h, ap length e)
 
-pub has_tokens : (names after : List Bytes) (text : Bytes) (tokens : List Token) → length text ≤ 1048576 → names ≡ first_names → IsTokensOf names text tokens after → AreWithin tokens → HasTokens text tokens
-has_tokens names after text tokens short e read within = record { short = short; after = after; read = subst (λ n. IsTokensOf n text tokens after) e read; within = within }
+pub has_tokens : (names after : List Bytes) (text : Bytes) (tokens : List Token) → length text ≤ 1048576 → IsTokensOf names text tokens after → AreWithin tokens → HasTokensFrom names text tokens
+has_tokens names after text tokens short read within = record { short = short; after = after; read = read; within = within }
 
 is_allowed : (tokens : List Token) (tree : written.Tree) → IsTheProgram tokens tree → IsAllowed tokens tree
 is_allowed tokens tree h = record { spelled = h.spelled; nests = h.within }
@@ -81,15 +83,15 @@ lex_told (lexing.NumberTooLarge p) w e same = cc
 lex_told lexing.TooManyTokens w e same = cc
 lex_told lexing.OutOfMemory w e same = cc
 
-pub not_lexed : (names : List Bytes) (text : Bytes) (error : LexError) → length text ≤ 1048576 → names ≡ first_names → IsFaultOf names text error → IfRefused (IsUnjudged text) (failure_of (lex_refusal error))
-not_lexed names text error short e fault =
-    failed (IsUnjudged text) (lex_refusal error)
-    (λ w told. record { cause = tokens_refused error; is_judged = (no_tokens short (subst (λ n. IsFaultOf n text error) e fault) (lex_told error w told)); told = told })
+pub not_lexed : (names : List Bytes) (text : Bytes) (error : LexError) → length text ≤ 1048576 → IsFaultOf names text error → IfRefused (IsUnjudgedFrom names text) (failure_of (lex_refusal error))
+not_lexed names text error short fault =
+    failed (IsUnjudgedFrom names text) (lex_refusal error) (λ w told. record { cause = tokens_refused error; is_judged = no_tokens short fault (lex_told error w told); told = told })
 
-pub not_parsed : (text : Bytes) (tokens : List Token) (error : ParseError) → HasTokens text tokens → IsRefusal tokens error → IfRefused (IsUnjudged text) (failure_of (parse_refusal error))
-not_parsed text tokens (parsing.Syntax place) has is = record { cause = syntax_refused place; is_judged = no_program has is; told = refl }
-not_parsed text tokens (parsing.TooDeep place) has is = record { cause = depth_refused place; is_judged = too_deep has is; told = refl }
-not_parsed text tokens parsing.OutOfMemory has is = tt
+pub not_parsed : (names : List Bytes) (text : Bytes) (tokens : List Token) (error : ParseError) → HasTokensFrom names text tokens → IsRefusal tokens error
+    → IfRefused (IsUnjudgedFrom names text) (failure_of (parse_refusal error))
+not_parsed names text tokens (parsing.Syntax place) has is = record { cause = syntax_refused place; is_judged = no_program has is; told = refl }
+not_parsed names text tokens (parsing.TooDeep place) has is = record { cause = depth_refused place; is_judged = too_deep has is; told = refl }
+not_parsed names text tokens parsing.OutOfMemory has is = tt
 
 expand_told : (error : ExpandError) (w : Refusal) → expand_refusal error ≡ Some w → error ≢ expanding.OutOfMemory
 expand_told (expanding.UnknownName p) w e same = cc
@@ -104,15 +106,18 @@ expand_told expanding.TooLarge w e same = cc
 expand_told expanding.TooManyVisits w e same = cc
 expand_told expanding.OutOfMemory w e same = cc
 
-pub not_expanded : (text : Bytes) (tokens : List Token) (tree : written.Tree) (error : ExpandError) → HasTokens text tokens → IsTheProgram tokens tree
-    → (error ≡ expanding.OutOfMemory) ⊎ ((text : Bytes) (tokens : List Token) → HasTokens text tokens → IsAllowed tokens tree → IsJudged text (Err (expansion_refused error)))
-    → IfRefused (IsUnjudged text) (failure_of (expand_refusal error))
-not_expanded text tokens tree error has program refused =
-    failed (IsUnjudged text) (expand_refusal error)
+pub not_expanded : (names : List Bytes) (text : Bytes) (tokens : List Token) (tree : written.Tree) (error : ExpandError) → HasTokensFrom names text tokens → IsTheProgram tokens tree
+    → (error ≡ expanding.OutOfMemory) ⊎ (core_of tree ≡ Err error) → IfRefused (IsUnjudgedFrom names text) (failure_of (expand_refusal error))
+not_expanded names text tokens tree error has program refused =
+    failed (IsUnjudgedFrom names text) (expand_refusal error)
     (λ w told. elim refused [
       | inl memory ↦ absurd (expand_told error w told memory)
-      | inr is ↦ record { cause = expansion_refused error; is_judged = is text tokens has (is_allowed tokens tree program); told = told }
+      | inr is ↦ record { cause = expansion_refused error; is_judged = judged.not_expanded has (is_allowed tokens tree program) is; told = told }
     ])
+
+-- two causes are one, and so is what is told
+pub told_one : (cause other : judged.Refusal) (why told : Refusal) → cause ≡ other → told_as cause ≡ Some why → told_as other ≡ Some told → why ≡ told
+told_one cause other why told same is is' = let e : Some why ≡ Some told = sym is ∙ ap told_as same ∙ is' in cc
 
 -- ---- core phrases, and length
 
@@ -120,14 +125,18 @@ not_expanded text tokens tree error has program refused =
 pub depth_within : (p : Tree) → HasDepths p → KeepsCoreLimits p → depth p ≤ 1023
 depth_within p depths within = let h = within.shallow in let k = depth-below 0 p depths in omega arith
 
-pub core_judged : (text : Bytes) (tokens : List Token) (tree : written.Tree) (phrase : Tree) → HasTokens text tokens → IsTheProgram tokens tree
-    → ((text : Bytes) (tokens : List Token) → HasTokens text tokens → IsAllowed tokens tree → IsJudged text (Ok phrase)) → IsJudged text (Ok phrase)
-core_judged text tokens tree phrase has program is = is text tokens has (is_allowed tokens tree program)
+pub judged_so : (names : List Bytes) (text : Bytes) (tokens : List Token) (tree : written.Tree) (phrase : Tree) → HasTokensFrom names text tokens → IsTheProgram tokens tree → core_of tree ≡ Ok phrase
+    → IsJudgedFrom names text (Ok phrase)
+judged_so names text tokens tree phrase has program is = expanded has (is_allowed tokens tree program) is
 
-pub names_of : (names after : List Bytes) (text : Bytes) (tokens : List Token) → names ≡ first_names → IsTokensOf names text tokens after → HasNames text after
-names_of names after text tokens e read = record { tokens = tokens; read = subst (λ n. IsTokensOf n text tokens after) e read }
+-- a list that is that of the predefined names
+pub phrase_first : (names after : List Bytes) (text : Bytes) (phrase : Phrase) → names ≡ first_names → IsPhraseOf names text after phrase → IsPhraseOf first_names text after phrase
+phrase_first names after text phrase e is = subst (λ n. IsPhraseOf n text after phrase) e is
 
-pub unjudged_long : (text : Bytes) → 1048576 < length text → IsUnjudged text refusal.Length
+pub unjudged_first : (names : List Bytes) (text : Bytes) (error : FrontError) → names ≡ first_names → IfRefused (IsUnjudgedFrom names text) error → IfRefused (IsUnjudged text) error
+unjudged_first names text error e is = subst (λ n. IfRefused (IsUnjudgedFrom n text) error) e is
+
+pub unjudged_long : {names : List Bytes} (text : Bytes) → 1048576 < length text → IsUnjudgedFrom names text refusal.Length
 unjudged_long text longer = record { cause = length_refused; is_judged = judged.too_long longer; told = refl }
 
 pub refused_unjudged : (text : Bytes) (why : Refusal) → IsUnjudged text why → IsRefusedFor text why

@@ -16,10 +16,11 @@ use Rattle.fy_grammar.specs.declared.error.ParseError.TheVariants as parsing
 use Rattle.fy_phrase.specs.Reads.{reads}
 use Rattle.fy_phrase.specs.Sizes.{depth}
 use Rattle.fy_phrase.specs.Tree.{Tree}
+use Rattle.fy_phrase.specs.declared.phrase.Phrase.{Phrase}
 use Rattle.fy_phrase.specs.declared.shapes.ShapeTable.{ShapeTable}
 use Rattle.fy_expand.specs.declared.error.ExpandError.{ExpandError}
 use Rattle.fy_expand.specs.declared.error.ExpandError.TheVariants as expanding
-use Rattle.fy_expand.specs.Judged.{IsJudged, length_refused, tokens_refused, syntax_refused, depth_refused, expansion_refused}
+use Rattle.fy_expand.specs.Judged.{IsJudged, IsJudgedFrom, length_refused, tokens_refused, syntax_refused, depth_refused, expansion_refused}
 use Rattle.fy_expand.specs.Judged as judged
 use Rattle.fy_derive.specs.Derivations.{PlainDerivation}
 use Rattle.fy_derive.specs.Judging.{conclusion_of, refusal as refusal_of}
@@ -144,12 +145,22 @@ pub data IsRefusedFor (text : Bytes) : Refusal → Type 0 where
   large_tables : (p : Tree) (d : PlainDerivation) → IsShownBy text p d → (passes : PassesWords p d) → HasAtMost most_pairs (IsPairOf p d)
       → HasMany passes.shapes (IsLeastShape p) → IsRefusedFor text refusal.Tables
 
--- the names of the text: those that are always there, and then its others in the order in which they first stand in it
-pub record HasNames (text : Bytes) (names : List Bytes) : Type 0 where
+-- the names of the text: those that are there, and then its others in the order in which they first stand in it
+pub record HasNamesFrom (there : List Bytes) (text : Bytes) (names : List Bytes) : Type 0 where
   pub tokens : List Token
-  pub read : IsTokensOf first_names text tokens names
+  pub read : IsTokensOf there text tokens names
+
+-- from the predefined names on
+abbrev pub HasNames : Bytes → List Bytes → Type 0
+HasNames = HasNamesFrom first_names
 
 -- ---- what is made of a text
+
+-- the core phrase of a text whose names are numbered by the list, which becomes the other one
+pub record IsPhraseOf (names : List Bytes) (text : Bytes) (after : List Bytes) (phrase : Phrase) : Type 0 where
+  pub is_judged : IsJudgedFrom names text (Ok (reads phrase))
+  pub shallow : depth (reads phrase) ≤ 1023
+  pub named : HasNamesFrom names text after
 
 -- the core phrase and the names of a text
 pub record IsCore (text : Bytes) (core : Core) : Type 0 where
@@ -158,11 +169,14 @@ pub record IsCore (text : Bytes) (core : Core) : Type 0 where
   pub named : HasNames text core.names
   pub few_names : length core.names ≤ 4000000000
 
--- a text has no core phrase, and so it is told
-pub record IsUnjudged (text : Bytes) (why : Refusal) : Type 0 where
+-- a text whose names are numbered by the list has no core phrase, and so it is told
+pub record IsUnjudgedFrom (names : List Bytes) (text : Bytes) (why : Refusal) : Type 0 where
   pub cause : judged.Refusal
-  pub is_judged : IsJudged text (Err cause)
+  pub is_judged : IsJudgedFrom names text (Err cause)
   pub told : told_as cause ≡ Some why
+
+abbrev pub IsUnjudged : Bytes → Refusal → Type 0
+IsUnjudged = IsUnjudgedFrom first_names
 
 -- the program of a text, with its names and a derivation that it is a command, which keeps the limits and can be written under these names, has each demand shape that some
 -- derivation has, and whose demand shapes keep their limits

@@ -9,4 +9,4 @@ pub use error::{
     FrontError, expand_refusal, find_refusal, lex_refusal, parse_refusal, shapes_refusal,
 };
 pub use refusal::Refusal;
-pub use texts::{Core, Program, core_of, program_of};
+pub use texts::{Core, Program, core_of, phrase_of, program_of};

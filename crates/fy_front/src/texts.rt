@@ -1,8 +1,9 @@
 //! All passes of the front, in their order.
 
-ghost use Rattle.std.specs.Prelude.{◌≤◌, length, IfOk, IfErr};
+ghost use Rattle.std.specs.Prelude.{◌+◌, ◌≤◌, length, IfOk, IfErr};
 ghost use Rattle.fy_expand.specs.Judged.{most_text};
-ghost use Rattle.fy_front.specs.Checked.{IsRefusedFor, IfRefused, IsCore, IsOfText, IsUnjudged};
+ghost use Rattle.fy_front.specs.Checked.{IsRefusedFor, IfRefused, IsCore, IsOfText, IsPhraseOf, IsUnjudged, IsUnjudgedFrom};
+ghost use Rattle.fy_lexer.specs.Tokens.{HasAdded};
 
 use crate::error::FrontError;
 use fy_derive::Derivation;
@@ -32,21 +33,38 @@ pub struct Program {
     pub names: Names,
 }
 
-/// The core phrase of a text. The stages are its tokens, its syntax with its nesting, its expansion and
-/// the core limits.
+/// The core phrase of a text, whose names are numbered by the list, which gets those that are new. The
+/// stages are its tokens, its syntax with its nesting, its expansion and the core limits.
 ///
 /// # Errors
 ///
 /// `Refused` as the first stage refuses that does, and `OutOfMemory`.
+pub fn phrase_of(alloc: Global, names: &mut Names, text: &[u8]) -> Result<Phrase, FrontError>
+    requires text { length text.now ≤ most_text }
+    requires names { length names.old ≤ 3000000000 }
+    ensures phrase { IfOk result (IsPhraseOf names.old text.now names.new) }
+    ensures refused { IfErr result (IfRefused (IsUnjudgedFrom names.old text.now)) }
+    ensures names { HasAdded names.old names.new }
+    ensures few { length names.new ≤ length names.old + length text.now }
+{
+    let tokens = lex(alloc, names, text)?;
+    let tree = parse(alloc, tokens.as_slice())?;
+    let phrase = expand(alloc, &tree)?;
+    Ok(phrase)
+}
+
+/// The core phrase of a text, with its names.
+///
+/// # Errors
+///
+/// As of `phrase_of`.
 pub fn core_of(alloc: Global, text: &[u8]) -> Result<Core, FrontError>
     requires { length text.now ≤ most_text }
     ensures core { IfOk result (IsCore text.now) }
     ensures refused { IfErr result (IfRefused (IsUnjudged text.now)) }
 {
     let mut names = Names::new(alloc)?;
-    let tokens = lex(alloc, &mut names, text)?;
-    let tree = parse(alloc, tokens.as_slice())?;
-    let phrase = expand(alloc, &tree)?;
+    let phrase = phrase_of(alloc, &mut names, text)?;
     Ok(Core { phrase, names })
 }
 

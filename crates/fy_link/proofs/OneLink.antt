@@ -4,15 +4,18 @@ use Rattle.std.specs.Prelude.{Option, Some, None, Ok, Err, slice_get}
 use Rattle.fy_base.specs.Outside.{Bytes}
 use Rattle.fy_base.specs.Places.{first_place}
 use Rattle.fy_base.specs.declared.data.Place.{Place}
-use Rattle.fy_grammar.specs.declared.error.ParseError.TheVariants as unparsed
 use Rattle.fy_phrase.specs.Reads.{reads}
 use Rattle.fy_phrase.specs.Tree.{Tree}
-use Rattle.fy_expand.specs.Judged.{Refusal, length_refused, tokens_refused, syntax_refused, depth_refused, expansion_refused, IsJudgedFrom}
+use Rattle.fy_expand.specs.Judged.{IsJudgedFrom}
+use Rattle.fy_expand.specs.Judged as judged
 use Rattle.fy_expand.proofs.JudgedLemmas.{one_phrase, phrase_or_refusal, one_refusal}
 use Rattle.fy_derive.specs.Derivations.{PlainDerivation}
 use Rattle.fy_derive.specs.Limits.{KeepsLimits}
 use Rattle.fy_derive.specs.Reading.{plain_derivation}
 use Rattle.fy_read.proofs.FineLemmas.{same_front}
+use Rattle.fy_front.specs.Checked.{IsUnjudgedFrom}
+use Rattle.fy_front.specs.declared.refusal.Refusal.{Refusal}
+use Rattle.fy_front.proofs.Checking.{told_one}
 use Rattle.fy_link.specs.declared.error.LinkError.{LinkError}
 use Rattle.fy_link.specs.declared.error.LinkError.TheVariants as refused
 use Rattle.fy_link.specs.declared.linking.Linked.{Linked}
@@ -23,7 +26,7 @@ use Rattle.fy_link.specs.Units.{PlainUnit, plain_unit}
 use Rattle.fy_link.specs.Joined.{TextPart, IsTail, IsTextPart, AreTextParts, IsJoinedText, joined_text}
 use Rattle.fy_link.specs.Composed.{composed_derivation}
 use Rattle.fy_link.specs.Laws.{IsSameLinked, UnitsAreLinkedOneWay}
-use Rattle.fy_link.specs.Links.{AreUnitsOf, IsLinked, IsUnlinked, IsTooLarge, link_fault, sources_of, text_refusal}
+use Rattle.fy_link.specs.Links.{AreUnitsOf, IsLinked, IsUnlinked, IsTooLarge, link_fault, sources_of}
 use Rattle.fy_link.proofs.PlaceOrder.{heads-same}
 use Rattle.fy_link.proofs.SameSources.{headed-later, headed-same}
 
@@ -77,31 +80,8 @@ texts-same names values t u h k = h.is ∙ (ap joined_text (parts-same names val
 
 -- ---- refusals
 
--- the answer that tells a refusal of the text
-told_as : Refusal → LinkError
-told_as length_refused = refused.Length
-told_as (tokens_refused e) = refused.Lex e
-told_as (syntax_refused at) = refused.Parse (unparsed.Syntax at)
-told_as (depth_refused at) = refused.Parse (unparsed.TooDeep at)
-told_as (expansion_refused e) = refused.Expand e
-
-refusal-same : (a b : Refusal) → Some a ≡ Some b → a ≡ b
-refusal-same a b e = cc
-
-told-as : (e : LinkError) (why : Refusal) → text_refusal e ≡ Some why → e ≡ told_as why
-unfolding told_as
-told-as refused.Length why h = ap told_as (refusal-same length_refused why h)
-told-as (refused.Lex e) why h = ap told_as (refusal-same (tokens_refused e) why h)
-told-as (refused.Parse (unparsed.Syntax at)) why h = ap told_as (refusal-same (syntax_refused at) why h)
-told-as (refused.Parse (unparsed.TooDeep at)) why h = ap told_as (refusal-same (depth_refused at) why h)
-told-as (refused.Parse unparsed.OutOfMemory) why h = absurd cc
-told-as (refused.Expand e) why h = ap told_as (refusal-same (expansion_refused e) why h)
-told-as (refused.Double j) why h = absurd cc
-told-as (refused.Missing j) why h = absurd cc
-told-as (refused.Interface j) why h = absurd cc
-told-as refused.NotMain why h = absurd cc
-told-as refused.TooLarge why h = absurd cc
-told-as refused.OutOfMemory why h = absurd cc
+refusal-same : (names : List Bytes) (text : Bytes) (a b : Refusal) → IsUnjudgedFrom names text a → IsUnjudgedFrom names text b → a ≡ b
+refusal-same names text a b h k = told_one h.cause k.cause a b (one_refusal {names = names} text h.cause k.cause h.is_judged k.is_judged) h.told k.told
 
 fault-same : (o : Option LinkError) (e f : LinkError) → o ≡ Some e → o ≡ Some f → e ≡ f
 fault-same o e f h k = cc
@@ -116,7 +96,7 @@ linkable-or-not names values units others e h k n f =
     fault-or-none (link_fault (sources_of others)) e (ap (λ (us : List PlainUnit). link_fault (sources_of us)) (sym (units-same names values units others h k)) ∙ n) f
 
 -- nor can their text both have a phrase and not
-phrase-or-not : (names : List Bytes) (values : List UnitValue) (t u : Bytes) (p : Tree) (why : Refusal) → IsJoinedText names values t → IsJoinedText names values u →
+phrase-or-not : (names : List Bytes) (values : List UnitValue) (t u : Bytes) (p : Tree) (why : judged.Refusal) → IsJoinedText names values t → IsJoinedText names values u →
     IsJudgedFrom names t (Ok p) → IsJudgedFrom names u (Err why) → ⊥
 phrase-or-not names values t u p why h k j r =
     phrase_or_refusal {names = names} u p why (subst (λ (b : Bytes). IsJudgedFrom names b (Ok p)) (texts-same names values t u h k) j) r
@@ -128,8 +108,8 @@ not-large units d is keeps (inr deep) = let shallow = (subst KeepsLimits is keep
 linked-or-not : (names : List Bytes) (values : List UnitValue) (linked : Linked) (e : LinkError) → e ≢ refused.OutOfMemory → IsLinked names values linked →
     IsUnlinked names values e → ⊥
 linked-or-not names values linked e m h (IsUnlinked.of_units units are f) = linkable-or-not names values h.units units e h.are are h.linkable f
-linked-or-not names values linked e m h (IsUnlinked.of_text units {text = t} {why = why} are f joined told j) =
-    phrase-or-not names values linked.text t (reads linked.phrase) why h.text joined h.phrase j
+linked-or-not names values linked e m h (IsUnlinked.of_text units {text = t} are f joined r) =
+    phrase-or-not names values linked.text t (reads linked.phrase) r.cause h.text joined h.phrase r.is_judged
 linked-or-not names values linked e m h (IsUnlinked.of_size units are f joined j large) =
     not-large units (plain_derivation linked.derivation) (h.derivation ∙ ap composed_derivation (units-same names values h.units units h.are are)) h.few large
 linked-or-not names values linked e m h IsUnlinked.of_memory = m refl
@@ -138,17 +118,16 @@ unlinked-same : (names : List Bytes) (values : List UnitValue) (e f : LinkError)
     IsUnlinked names values f → e ≡ f
 unlinked-same names values e f m n (IsUnlinked.of_units us are h) (IsUnlinked.of_units vs too k) =
     fault-same (link_fault (sources_of vs)) e f (ap (λ (xs : List PlainUnit). link_fault (sources_of xs)) (sym (units-same names values us vs are too)) ∙ h) k
-unlinked-same names values e f m n (IsUnlinked.of_units us are h) (IsUnlinked.of_text vs too k joined told j) = absurd (linkable-or-not names values vs us e too are k h)
+unlinked-same names values e f m n (IsUnlinked.of_units us are h) (IsUnlinked.of_text vs too k joined r) = absurd (linkable-or-not names values vs us e too are k h)
 unlinked-same names values e f m n (IsUnlinked.of_units us are h) (IsUnlinked.of_size vs too k joined j large) = absurd (linkable-or-not names values vs us e too are k h)
-unlinked-same names values e f m n (IsUnlinked.of_text us are h joined told j) (IsUnlinked.of_units vs too k) = absurd (linkable-or-not names values us vs f are too h k)
-unlinked-same names values e f m n (IsUnlinked.of_text us {text = t} {why = a} are h joined told j) (IsUnlinked.of_text vs {text = u} {why = b} too k twice heard i) =
-    let same = one_refusal {names = names} u a b (subst (λ (x : Bytes). IsJudgedFrom names x (Err a)) (texts-same names values t u joined twice) j) i in
-    told-as e a told ∙ (ap told_as same ∙ sym (told-as f b heard))
-unlinked-same names values e f m n (IsUnlinked.of_text us {text = t} {why = a} are h joined told j) (IsUnlinked.of_size vs {text = u} {p = p} too k twice i large) =
-    absurd (phrase-or-not names values u t p a twice joined i j)
+unlinked-same names values e f m n (IsUnlinked.of_text us are h joined r) (IsUnlinked.of_units vs too k) = absurd (linkable-or-not names values us vs f are too h k)
+unlinked-same names values e f m n (IsUnlinked.of_text us {text = t} {why = a} are h joined r) (IsUnlinked.of_text vs {text = u} {why = b} too k twice s) =
+    ap refused.Text (refusal-same names u a b (subst (λ (x : Bytes). IsUnjudgedFrom names x a) (texts-same names values t u joined twice) r) s)
+unlinked-same names values e f m n (IsUnlinked.of_text us {text = t} are h joined r) (IsUnlinked.of_size vs {text = u} {p = p} too k twice i large) =
+    absurd (phrase-or-not names values u t p r.cause twice joined i r.is_judged)
 unlinked-same names values e f m n (IsUnlinked.of_size us are h joined j large) (IsUnlinked.of_units vs too k) = absurd (linkable-or-not names values us vs f are too h k)
-unlinked-same names values e f m n (IsUnlinked.of_size us {text = t} {p = p} are h joined j large) (IsUnlinked.of_text vs {text = u} {why = b} too k twice heard i) =
-    absurd (phrase-or-not names values t u p b joined twice j i)
+unlinked-same names values e f m n (IsUnlinked.of_size us {text = t} {p = p} are h joined j large) (IsUnlinked.of_text vs {text = u} too k twice s) =
+    absurd (phrase-or-not names values t u p s.cause joined twice j s.is_judged)
 unlinked-same names values e f m n (IsUnlinked.of_size us are h joined j large) (IsUnlinked.of_size vs too k twice i more) = refl
 unlinked-same names values e f m n IsUnlinked.of_memory k = absurd (m refl)
 unlinked-same names values e f m n h IsUnlinked.of_memory = absurd (n refl)

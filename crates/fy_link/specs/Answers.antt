@@ -9,6 +9,8 @@ use Rattle.fy_read.specs.declared.error.ReadError.{ReadError}
 use Rattle.fy_read.specs.declared.error.ReadError.TheVariants as read
 use Rattle.fy_least.specs.declared.error.FindError.{FindError}
 use Rattle.fy_least.specs.declared.error.FindError.TheVariants as find
+use Rattle.fy_front.specs.declared.error.FrontError.{FrontError}
+use Rattle.fy_front.specs.declared.error.FrontError.TheVariants as front
 use Rattle.fy_link.specs.declared.error.UnitError.{UnitError}
 use Rattle.fy_link.specs.declared.error.UnitError.TheVariants as refused
 use Rattle.fy_link.specs.declared.error.UnitReadError.{UnitReadError}
@@ -32,17 +34,10 @@ abbrev pub of_find : FindError → UnitError
 of_find find.OutOfMemory = refused.OutOfMemory
 of_find e = refused.Find e
 
-abbrev pub link_of_lex : LexError → LinkError
-link_of_lex lex.OutOfMemory = unlinked.OutOfMemory
-link_of_lex e = unlinked.Lex e
-
-abbrev pub link_of_parse : ParseError → LinkError
-link_of_parse parse.OutOfMemory = unlinked.OutOfMemory
-link_of_parse e = unlinked.Parse e
-
-abbrev pub link_of_expand : ExpandError → LinkError
-link_of_expand expand.OutOfMemory = unlinked.OutOfMemory
-link_of_expand e = unlinked.Expand e
+-- of the joined text
+abbrev pub link_of_text : FrontError → LinkError
+link_of_text (front.Refused why) = unlinked.Text why
+link_of_text front.OutOfMemory = unlinked.OutOfMemory
 
 -- the same of bytes that are read as a unit
 abbrev pub of_source : UnitError → UnitReadError

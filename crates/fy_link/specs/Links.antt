@@ -1,18 +1,19 @@
 -- What linking gives, and why units aren't linked.
-use Rattle.std.specs.Prelude.{◌≡◌, ℕ, suc, ◌<◌, if◌then◌else◌, List, [], ◌∷◌, map, Option, Some, None, Ok, Err, ◌⊎◌}
+use Rattle.std.specs.Prelude.{◌≡◌, ℕ, suc, ◌<◌, if◌then◌else◌, List, [], ◌∷◌, map, Option, Some, None, Ok, ◌⊎◌}
 use Rattle.fy_base.specs.Outside.{Bytes}
 use Rattle.fy_types.specs.declared.types.Atom.TheVariants.{Comm}
 use Rattle.fy_types.specs.Types.{PlainType}
-use Rattle.fy_grammar.specs.declared.error.ParseError.TheVariants as unparsed
 use Rattle.fy_phrase.specs.Reads.{reads}
 use Rattle.fy_phrase.specs.Tree.{Tree}
-use Rattle.fy_expand.specs.Judged.{Refusal, length_refused, tokens_refused, syntax_refused, depth_refused, expansion_refused, IsJudgedFrom}
+use Rattle.fy_expand.specs.Judged.{IsJudgedFrom}
 use Rattle.fy_derive.specs.Derivations.{nodes, nesting, most_nodes, most_nesting}
 use Rattle.fy_derive.specs.Judging.{conclusion_of, refusal}
 use Rattle.fy_derive.specs.Limits.{KeepsLimits}
 use Rattle.fy_derive.specs.Reading.{plain_derivation}
 use Rattle.fy_derive.specs.Rules.{is_atom}
 use Rattle.fy_derive.specs.Subsumption.{is_below}
+use Rattle.fy_front.specs.Checked.{IsUnjudgedFrom}
+use Rattle.fy_front.specs.declared.refusal.Refusal.{Refusal}
 use Rattle.fy_link.specs.declared.error.LinkError.{LinkError}
 use Rattle.fy_link.specs.declared.error.LinkError.TheVariants as refused
 use Rattle.fy_link.specs.declared.linking.Linked.{Linked}
@@ -82,15 +83,6 @@ pub record IsLinked (names : List Bytes) (values : List UnitValue) (linked : Lin
   pub accepted : refusal (conclusion_of (reads linked.phrase) (plain_derivation linked.derivation)) ≡ None
   pub few : KeepsLimits (plain_derivation linked.derivation)
 
--- the refusal of a text that an answer tells
-abbrev pub text_refusal : LinkError → Option Refusal
-text_refusal refused.Length = Some length_refused
-text_refusal (refused.Lex e) = Some (tokens_refused e)
-text_refusal (refused.Parse (unparsed.Syntax at)) = Some (syntax_refused at)
-text_refusal (refused.Parse (unparsed.TooDeep at)) = Some (depth_refused at)
-text_refusal (refused.Expand e) = Some (expansion_refused e)
-text_refusal e = None
-
 -- the composed derivation passes a limit
 abbrev pub IsTooLarge : List PlainUnit → Type 0
 IsTooLarge units = (most_nodes < nodes (composed_derivation units)) ⊎ (most_nesting < nesting (composed_derivation units))
@@ -100,14 +92,10 @@ IsTooLarge units = (most_nodes < nodes (composed_derivation units)) ⊎ (most_ne
 pub data IsUnlinked (names : List Bytes) (values : List UnitValue) : LinkError → Type 0 where
   of_units : (units : List PlainUnit) {e : LinkError} →
       AreUnitsOf names values units → link_fault (sources_of units) ≡ Some e → IsUnlinked names values e
-  of_text : (units : List PlainUnit) {text : Bytes} {e : LinkError} {why : Refusal} →
+  of_text : (units : List PlainUnit) {text : Bytes} {why : Refusal} →
       AreUnitsOf names values units → link_fault (sources_of units) ≡ None → IsJoinedText names values text →
-      text_refusal e ≡ Some why → IsJudgedFrom names text (Err why) → IsUnlinked names values e
+      IsUnjudgedFrom names text why → IsUnlinked names values (refused.Text why)
   of_size : (units : List PlainUnit) {text : Bytes} {p : Tree} →
       AreUnitsOf names values units → link_fault (sources_of units) ≡ None → IsJoinedText names values text →
       IsJudgedFrom names text (Ok p) → IsTooLarge units → IsUnlinked names values refused.TooLarge
   of_memory : IsUnlinked names values refused.OutOfMemory
-
--- the text is refused so
-abbrev pub IsTextRefused : List Bytes → Bytes → LinkError → Type 0
-IsTextRefused names text e = (why : Refusal) × (text_refusal e ≡ Some why) × IsJudgedFrom names text (Err why)

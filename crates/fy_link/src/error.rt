@@ -1,13 +1,14 @@
 //! Refusals.
 
 ghost use Rattle.std.specs.Prelude.{◌≡◌};
-ghost use Rattle.fy_link.specs.Answers.{link_of_expand, link_of_lex, link_of_parse, of_expand, of_find, of_lex, of_parse};
+ghost use Rattle.fy_link.specs.Answers.{link_of_text, of_expand, of_find, of_lex, of_parse};
 ghost use Rattle.fy_link.specs.declared.error.UnitError.TheVariants as refused;
 ghost use Rattle.fy_link.specs.declared.error.UnitReadError.TheVariants as unread;
 ghost use Rattle.fy_link.specs.declared.error.LinkError.TheVariants as unlinked;
 
 use fy_base::{OutOfMemory, Place};
 use fy_expand::ExpandError;
+use fy_front::{FrontError, Refusal};
 use fy_grammar::ParseError;
 use fy_least::FindError;
 use fy_lexer::LexError;
@@ -139,18 +140,9 @@ pub enum LinkError {
     /// The last unit is no command.
     #[error("the last unit is no command")]
     NotMain,
-    /// The joined text has over 1,048,576 bytes.
-    #[error("the joined text is too long")]
-    Length,
-    /// The joined text has no tokens.
-    #[error("tokens")]
-    Lex(LexError),
-    /// The joined text is no program.
-    #[error("syntax")]
-    Parse(ParseError),
-    /// The joined text has no core phrase.
-    #[error("expansion")]
-    Expand(ExpandError),
+    /// The joined text is refused so.
+    #[error("the joined text is refused")]
+    Text(Refusal),
     /// The composed derivation has over 262,144 nodes, or nests more than 2,048.
     #[error("the derivation is too large")]
     TooLarge,
@@ -175,35 +167,13 @@ impl<T: Drop> From<AllocFailed<T>> for LinkError {
     }
 }
 
-impl From<LexError> for LinkError {
-    ghost from_gives = { λ error e. e ≡ link_of_lex error };
+impl From<FrontError> for LinkError {
+    ghost from_gives = { λ error e. e ≡ link_of_text error };
 
-    fn from(error: LexError) -> LinkError {
+    fn from(error: FrontError) -> LinkError {
         match error {
-            LexError::OutOfMemory => LinkError::OutOfMemory,
-            error => LinkError::Lex(error),
-        }
-    }
-}
-
-impl From<ParseError> for LinkError {
-    ghost from_gives = { λ error e. e ≡ link_of_parse error };
-
-    fn from(error: ParseError) -> LinkError {
-        match error {
-            ParseError::OutOfMemory => LinkError::OutOfMemory,
-            error => LinkError::Parse(error),
-        }
-    }
-}
-
-impl From<ExpandError> for LinkError {
-    ghost from_gives = { λ error e. e ≡ link_of_expand error };
-
-    fn from(error: ExpandError) -> LinkError {
-        match error {
-            ExpandError::OutOfMemory => LinkError::OutOfMemory,
-            error => LinkError::Expand(error),
+            FrontError::Refused(why) => LinkError::Text(why),
+            FrontError::OutOfMemory => LinkError::OutOfMemory,
         }
     }
 }

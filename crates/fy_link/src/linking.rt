@@ -1,15 +1,13 @@
 //! Units linked.
 
-ghost use Rattle.std.specs.Prelude.{◌≡◌, ◌<◌, ◌≤◌, ◌⊎◌, ◌||◌, All, Ok, IfOk, IfErr, length, map, nat_lt};
-ghost use Rattle.fy_phrase.specs.Reads.{reads};
+ghost use Rattle.std.specs.Prelude.{◌≡◌, ◌<◌, ◌≤◌, ◌⊎◌, ◌||◌, All, IfOk, IfErr, length, map, nat_lt};
 ghost use Rattle.fy_derive.specs.Derivations.{most_nesting, most_nodes, nesting, nodes};
 ghost use Rattle.fy_derive.specs.Reading.{plain_derivation};
-ghost use Rattle.fy_expand.specs.Judged.{IsJudgedFrom, most_text};
 ghost use Rattle.fy_lexer.specs.Tokens.{HasAdded};
 ghost use Rattle.fy_link.specs.Composed.{composed_derivation};
 ghost use Rattle.fy_link.specs.Joined.{IsJoinedText, IsTextPart};
 ghost use Rattle.fy_link.specs.Read.{plain_part};
-ghost use Rattle.fy_link.specs.Links.{IsLinked, IsTextRefused, IsTooLarge, IsUnlinked};
+ghost use Rattle.fy_link.specs.Links.{IsLinked, IsTooLarge, IsUnlinked};
 ghost use Rattle.fy_link.specs.Units.{IsUnit, plain_unit};
 ghost use Rattle.fy_link.specs.declared.error.LinkError.TheVariants.{OutOfMemory as NoMemory, TooLarge as NoRoom};
 
@@ -20,9 +18,7 @@ use crate::joined::{Part, joined_text, tail};
 use crate::unit::{Unit, UnitList};
 use fy_base::{OutOfMemory, Text};
 use fy_derive::{Derivation, nesting_of, nodes_of};
-use fy_expand::expand;
-use fy_grammar::parse;
-use fy_lexer::lex;
+use fy_front::{Refusal, phrase_of};
 use fy_phrase::Phrase;
 use fy_types::Names;
 use std::alloc::Global;
@@ -50,9 +46,9 @@ pub struct Linked {
 ///
 /// The units are judged in order, and in each its name and then its imports in order: `Double` where it has the name of an earlier
 /// unit, `Missing` where an import is the name of no earlier unit, `Interface` where the exporting type isn't below the import's. Then
-/// `NotMain` where the last unit's type isn't `comm`. Then `Length` where the joined text has over 1,048,576 bytes, and `Lex`, `Parse`
-/// and `Expand` as it is refused. Then `TooLarge` exactly where the composed derivation has over 262,144 nodes or nests more than
-/// 2,048. And `OutOfMemory`.
+/// `NotMain` where the last unit's type isn't `comm`. Then `Text` as the joined text is refused, first for its length where it has over
+/// 1,048,576 bytes. Then `TooLarge` exactly where the composed derivation has over 262,144 nodes or nests more than 2,048. And
+/// `OutOfMemory`.
 pub fn link(alloc: Global, names: &mut Names, units: &UnitList) -> Result<Linked, LinkError>
     requires units { All (IsUnit names.old) units.now }
     requires some { 0 < length units.now }
@@ -66,9 +62,9 @@ pub fn link(alloc: Global, names: &mut Names, units: &UnitList) -> Result<Linked
     judge_units(alloc, units)?;
     let text = text_of(alloc, names, units)?;
     if text.len() > MOST_BYTES {
-        return Err(LinkError::Length);
+        return Err(LinkError::Text(Refusal::Length));
     }
-    let phrase = meaning(alloc, names, &text)?;
+    let phrase = phrase_of(alloc, names, &text)?;
     let derivation = derived(alloc, units)?;
     let text = Text::from_vec(text);
     Ok(Linked {
@@ -123,18 +119,4 @@ fn derived(alloc: Global, units: &[Unit]) -> Result<Derivation, LinkError>
         return Err(LinkError::TooLarge);
     }
     Ok(derivation)
-}
-
-// The core phrase of a text.
-fn meaning(alloc: Global, names: &mut Names, text: &[u8]) -> Result<Phrase, LinkError>
-    requires text { length text.now ≤ most_text }
-    requires names { length names.old ≤ 3000000000 }
-    ensures ok { IfOk result (λ p. IsJudgedFrom names.old text.now (Ok (reads p))) }
-    ensures err { IfErr result (λ e. (e ≡ NoMemory) ⊎ IsTextRefused names.old text.now e) }
-    ensures names { HasAdded names.old names.new }
-{
-    let tokens = lex(alloc, names, text)?;
-    let tree = parse(alloc, &tokens)?;
-    let phrase = expand(alloc, &tree)?;
-    Ok(phrase)
 }

@@ -1,5 +1,5 @@
 -- What is within the limits is taken, and a run whose bounds fit comes to its end.
-use Rattle.std.proofs.Common.{◌≡◌, ◌≢◌, ℕ, zero, suc, ◌+◌, ◌<◌, ◌≤◌, max, List, [], inl, inr, sym, ap, ◌∙◌, refl, subst, arith, All, Some}
+use Rattle.std.proofs.Common.{◌≡◌, ◌≢◌, ℕ, zero, suc, ◌+◌, ◌<◌, ◌≤◌, max, List, [], inl, inr, sym, ◌∙◌, refl, subst, arith, All, Some}
 use Rattle.std.specs.Prelude.{◌⊎◌, Any, Ok, Err}
 use Rattle.std.proofs.lemmas.Bool.{cases_lt}
 use Rattle.fy_base.specs.Outside.{Bytes}
@@ -37,6 +37,7 @@ use Rattle.fy_front.specs.declared.refusal.Refusal.{Refusal}
 use Rattle.fy_front.specs.declared.refusal.Refusal.TheVariants as refusal
 use Rattle.fy_world.proofs.WholeRuns.{whole_stays}
 use Rattle.fy_front.specs.Checked.{IsProgramText, IsShownBy, IsLeastShape, IsLeastPair, IsRefusedFor, told_as, shapes_refusal, not_judged, too_large, no_command, many_shapes, many_entries, large_tables}
+use Rattle.fy_front.proofs.Checking.{told_one}
 use Rattle.fy_tool.specs.Complete.{LeastShapesFit, AcceptedWhereLimitsHold, AcceptedTextIsNeverRefused, TextIsRefusedOneWay, RunCompletes}
 use Rattle.fy_tool.specs.Given.{by_text}
 use Rattle.fy_tool.proofs.Alike.{words_grow, shaping_same, one_shaping, shapes_kept}
@@ -125,9 +126,6 @@ one_stage text p why other (inr (inl (keep, none, told))) (inr (inr shapes)) = a
 one_stage text p why other (inr (inr shapes)) (inl (passes, told)) = absurd (keep_or_pass p shapes.shown.is_program.within passes)
 one_stage text p why other (inr (inr shapes)) (inr (inl (keep, none, told))) = absurd (none shapes.shown.is_program.is_command)
 one_stage text p why other (inr (inr shapes)) (inr (inr shapes')) = one_limit text p why other shapes shapes'
-
-told_one : (cause other : judged.Refusal) (why told : Refusal) → cause ≡ other → told_as cause ≡ Some why → told_as other ≡ Some told → why ≡ told
-told_one cause other why told same is is' = let e : Some why ≡ Some told = sym is ∙ ap told_as same ∙ is' in cc
 
 pub refused_one_way : TextIsRefusedOneWay
 refused_one_way text why other refused refused' = both (staged text why refused) (staged text other refused')

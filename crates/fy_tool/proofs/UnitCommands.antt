@@ -29,13 +29,11 @@ use Rattle.fy_world.specs.Working.{KeepsSuch, Keeps}
 use Rattle.fy_world.specs.declared.note.Note.{Note}
 use Rattle.fy_world.specs.declared.note.Note.TheVariants as note
 use Rattle.fy_front.specs.declared.refusal.Refusal.{Refusal}
-use Rattle.fy_front.specs.declared.refusal.Refusal.TheVariants as refusal
 use Rattle.fy_world.specs.declared.unlinked.Unlinked.TheVariants as unlinked
 use Rattle.fy_world.specs.declared.world.Stop.{Stop}
 use Rattle.fy_world.specs.declared.world.Stop.TheVariants.{Memory}
 use Rattle.fy_world.proofs.Counting.{called_none, faulted_keeps}
-use Rattle.fy_front.specs.Checked.{lex_refusal, parse_refusal, expand_refusal}
-use Rattle.fy_tool.specs.Units.{Listed, names_of, IsNoUnit, not_compiled, unit_refusal, IsLinkedBy, IsNotLinked, no_list, no_object, not_linked as not_linked_units, PassesShapes, linked_refusal, link_note}
+use Rattle.fy_tool.specs.Units.{Listed, names_of, IsNoUnit, not_compiled, unit_refusal, IsLinkedBy, IsNotLinked, no_list, no_object, not_linked as not_linked_units, PassesShapes, link_note}
 use Rattle.fy_tool.specs.Due.{IsImageBy, Sources, TellsSources, AreTold, AreListed, list_of, compiles, no_unit, not_linked, joins, misshapes, links, reads_of, keeps_of}
 use Rattle.fy_tool.specs.Fetched.{HasFetched, HasFetchedDue, LastRose, LastDueRose}
 use Rattle.fy_tool.specs.Answers.{Serves}
@@ -131,19 +129,12 @@ serves_unlisted order file b c k k1 e e1 stop takes same was =
 own_same : (x y : ℕ × Note) → Some x ≡ Some y → IsOwn x.0 → IsOwn y.0
 own_same x y is own = let same : x ≡ y = cc in subst (λ (p : ℕ × Note). IsOwn p.0) same own
 
-own_refused : (refused : Option Refusal) (status : ℕ) (why : Note) → linked_refusal refused ≡ Some (status, why) → IsOwn status
-own_refused None status why is = absurd cc
-own_refused (Some r) status why is = own_same (2, note.Refused r) (status, why) is (λ clash. cc, λ clash. cc)
-
 own_of : (error : LinkError) (status : ℕ) (why : Note) → link_note error ≡ Some (status, why) → IsOwn status
 own_of (linking.Double j) status why is = own_same (11, note.Link (unlinked.Double j)) (status, why) is (λ clash. cc, λ clash. cc)
 own_of (linking.Missing j) status why is = own_same (11, note.Link (unlinked.Missing j)) (status, why) is (λ clash. cc, λ clash. cc)
 own_of (linking.Interface j) status why is = own_same (11, note.Link (unlinked.Interface j)) (status, why) is (λ clash. cc, λ clash. cc)
 own_of linking.NotMain status why is = own_same (11, note.Link unlinked.Main) (status, why) is (λ clash. cc, λ clash. cc)
-own_of linking.Length status why is = own_same (2, note.Refused refusal.Length) (status, why) is (λ clash. cc, λ clash. cc)
-own_of (linking.Lex e) status why is = own_refused (lex_refusal e) status why is
-own_of (linking.Parse e) status why is = own_refused (parse_refusal e) status why is
-own_of (linking.Expand e) status why is = own_refused (expand_refusal e) status why is
+own_of (linking.Text r) status why is = own_same (2, note.Refused r) (status, why) is (λ clash. cc, λ clash. cc)
 own_of linking.TooLarge status why is = own_same (11, note.Link unlinked.Size) (status, why) is (λ clash. cc, λ clash. cc)
 own_of linking.OutOfMemory status why is = absurd cc
 

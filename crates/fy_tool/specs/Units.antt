@@ -1,5 +1,5 @@
 -- Units: which text is one, the list that names them, how they are read one after another and linked, and why they aren't.
-use Rattle.std.specs.Prelude.{◌≡◌, ◌≢◌, ℕ, ◌<◌, ◌≤◌, ◌⊎◌, List, [], ◌∷◌, ◌++◌, length, map, All, IsUtf8, option_map, Some, None, Err}
+use Rattle.std.specs.Prelude.{◌≡◌, ◌≢◌, ℕ, ◌<◌, ◌≤◌, ◌⊎◌, List, [], ◌∷◌, ◌++◌, length, map, All, IsUtf8, Some, None, Err}
 use Rattle.std.specs.declared.option.Option.{Option}
 use Rattle.fy_base.specs.Outside.{Bytes}
 use Rattle.fy_types.specs.Names.{first_names}
@@ -125,18 +125,12 @@ pub record IsLinkedBy (list : Bytes) (files : List Listed) (linked : Linked) : T
   pub is : IsLinked names values linked
 
 -- the status and the note that each answer of linking is; none where memory was wanting
-abbrev pub linked_refusal : Option Refusal → Option (ℕ × Note)
-linked_refusal why = option_map (λ why. (2, note.Refused why)) why
-
 abbrev pub link_note : LinkError → Option (ℕ × Note)
 link_note (linking.Double j) = Some (11, note.Link (unlinked.Double j))
 link_note (linking.Missing j) = Some (11, note.Link (unlinked.Missing j))
 link_note (linking.Interface j) = Some (11, note.Link (unlinked.Interface j))
 link_note linking.NotMain = Some (11, note.Link unlinked.Main)
-link_note linking.Length = Some (2, note.Refused refusal.Length)
-link_note (linking.Lex error) = linked_refusal (lex_refusal error)
-link_note (linking.Parse error) = linked_refusal (parse_refusal error)
-link_note (linking.Expand error) = linked_refusal (expand_refusal error)
+link_note (linking.Text why) = Some (2, note.Refused why)
 link_note linking.TooLarge = Some (11, note.Link unlinked.Size)
 link_note linking.OutOfMemory = None
 

@@ -1,7 +1,7 @@
 //! The refusals that the errors of units are.
 
 ghost use Rattle.std.specs.Prelude.{◌≡◌, Some, IfOk, IfErr, MatchResult};
-ghost use Rattle.fy_tool.specs.Units.{unit_refusal, linked_refusal, link_note};
+ghost use Rattle.fy_tool.specs.Units.{unit_refusal, link_note};
 
 use fy_front::{Refusal, expand_refusal, find_refusal, lex_refusal, parse_refusal};
 use fy_link::{LinkError, UnitError};
@@ -32,16 +32,6 @@ pub(crate) fn unit_refusal(error: UnitError) -> Option<Refusal>
     }
 }
 
-// Status 2 with the note of a refusal.
-fn linked_refusal(why: Option<Refusal>) -> Option<(u8, Note)>
-    ensures { result ≡ linked_refusal why }
-{
-    match why {
-        Some(why) => Some((2, Note::Refused(why))),
-        None => None,
-    }
-}
-
 /// The status and the note of units that aren't linked, or `None` where memory was wanting.
 pub(crate) fn link_note(error: LinkError) -> Option<(u8, Note)>
     ensures { result ≡ link_note error }
@@ -51,10 +41,7 @@ pub(crate) fn link_note(error: LinkError) -> Option<(u8, Note)>
         LinkError::Missing(unit) => Some((11, Note::Link(Unlinked::Missing(unit)))),
         LinkError::Interface(unit) => Some((11, Note::Link(Unlinked::Interface(unit)))),
         LinkError::NotMain => Some((11, Note::Link(Unlinked::Main))),
-        LinkError::Length => Some((2, Note::Refused(Refusal::Length))),
-        LinkError::Lex(error) => linked_refusal(lex_refusal(error)),
-        LinkError::Parse(error) => linked_refusal(parse_refusal(error)),
-        LinkError::Expand(error) => linked_refusal(expand_refusal(error)),
+        LinkError::Text(why) => Some((2, Note::Refused(why))),
         LinkError::TooLarge => Some((11, Note::Link(Unlinked::Size))),
         LinkError::OutOfMemory => None,
     }

@@ -1,48 +1,22 @@
-use Rattle.std.proofs.Common.{sym, subst}
-use Rattle.fy_grammar.specs.Program.{IsEnded}
-use Rattle.fy_grammar.proofs.Lexed.{lexed_ended}
-use Rattle.fy_phrase.specs.Reads.{reads}
-use Rattle.fy_syntax.specs.Reading.{tree_of}
-use Rattle.fy_front.specs.Checked.{lex_refusal, parse_refusal, expand_refusal, failure_of, IfRefused, IsUnjudged}
+use Rattle.fy_front.specs.Checked.{IfRefused, IsUnjudged}
 use Rattle.fy_front.specs.declared.error.FrontError.TheVariants.{OutOfMemory}
-use Rattle.fy_front.proofs.Checking.{handed, few_names, has_tokens, not_lexed, not_parsed, not_expanded, core_judged, depth_within, names_of}
+use Rattle.fy_front.proofs.Checking.{handed, few_first, few_names, phrase_first, unjudged_first}
 use Rattle.fy_front.proofs.texts.core_of.Goals as goal
 
 pub returns-in_err-names-clause-refused : goal.returns-in_err-names-clause-refused
 returns-in_err-names-clause-refused c =
     handed c.from_residual.result OutOfMemory (IfRefused (IsUnjudged c.args.text.now)) c.from_residual.ensures.1 tt
 
-pub returns-in_err-tokens-clause-refused : goal.returns-in_err-tokens-clause-refused
-returns-in_err-tokens-clause-refused c =
-    let e = c.in_err-tokens.field-0.0 in
-    handed c.from_residual-in_err-tokens.result (failure_of (lex_refusal e)) (IfRefused (IsUnjudged c.args.text.now)) c.from_residual-in_err-tokens.ensures.1
-    (not_lexed _ c.args.text.now e c.requires c.in_ok-names.ensures c.in_err-tokens.ensures.err)
-
-pub parse-requires : goal.parse-requires
-parse-requires c = subst IsEnded (sym c.as_slice.ensures.value) (lexed_ended _ _ c.in_ok-tokens.tokens.items _ c.in_ok-tokens.ensures.ok)
-
-pub returns-in_err-tree-clause-refused : goal.returns-in_err-tree-clause-refused
-returns-in_err-tree-clause-refused c =
-    let e = c.in_err-tree.field-0.0 in
-    handed c.from_residual-in_err-tree.result (failure_of (parse_refusal e)) (IfRefused (IsUnjudged c.args.text.now)) c.from_residual-in_err-tree.ensures.1
-    (not_parsed c.args.text.now c.as_slice.result.now e
-    (rw c.as_slice.ensures.value (has_tokens _ _ c.args.text.now c.in_ok-tokens.tokens.items c.requires c.in_ok-names.ensures c.in_ok-tokens.ensures.ok c.in_ok-tokens.ensures.within))
-    c.in_err-tree.ensures.err)
+pub phrase_of-requires-clause-names : goal.phrase_of-requires-clause-names
+phrase_of-requires-clause-names c = few_first _ c.in_ok-names.ensures
 
 pub returns-in_err-phrase-clause-refused : goal.returns-in_err-phrase-clause-refused
 returns-in_err-phrase-clause-refused c =
     let e = c.in_err-phrase.field-0.0 in
-    handed c.from_residual-in_err-phrase.result (failure_of (expand_refusal e)) (IfRefused (IsUnjudged c.args.text.now)) c.from_residual-in_err-phrase.ensures.1
-    (not_expanded c.args.text.now c.as_slice.result.now (tree_of c.in_ok-tree.tree) e
-    (rw c.as_slice.ensures.value (has_tokens _ _ c.args.text.now c.in_ok-tokens.tokens.items c.requires c.in_ok-names.ensures c.in_ok-tokens.ensures.ok c.in_ok-tokens.ensures.within))
-    c.in_ok-tree.ensures.ok c.in_err-phrase.ensures.refused)
+    handed c.from_residual-in_err-phrase.result e (IfRefused (IsUnjudged c.args.text.now)) c.from_residual-in_err-phrase.ensures.1
+    (unjudged_first _ c.args.text.now e c.in_ok-names.ensures c.in_err-phrase.ensures.refused)
 
 pub returns-clause-core : goal.returns-clause-core
-returns-clause-core c = record {
-  is_judged = core_judged c.args.text.now c.as_slice.result.now (tree_of c.in_ok-tree.tree) (reads c.in_ok-phrase.phrase)
-      (rw c.as_slice.ensures.value (has_tokens _ _ c.args.text.now c.in_ok-tokens.tokens.items c.requires c.in_ok-names.ensures c.in_ok-tokens.ensures.ok c.in_ok-tokens.ensures.within))
-      c.in_ok-tree.ensures.ok c.in_ok-phrase.ensures.judged;
-  shallow = depth_within (reads c.in_ok-phrase.phrase) c.in_ok-phrase.ensures.depths c.in_ok-phrase.ensures.limits;
-  named = names_of _ _ c.args.text.now c.in_ok-tokens.tokens.items c.in_ok-names.ensures c.in_ok-tokens.ensures.ok;
-  few_names = few_names _ _ c.args.text.now c.in_ok-names.ensures c.requires c.in_ok-tokens.ensures.few;
-}
+returns-clause-core c =
+    let is = phrase_first _ _ c.args.text.now c.in_ok-phrase.phrase c.in_ok-names.ensures c.in_ok-phrase.ensures.phrase in
+    record { is_judged = is.is_judged; shallow = is.shallow; named = is.named; few_names = few_names _ _ c.args.text.now c.in_ok-names.ensures c.requires c.in_ok-phrase.ensures.few }
