@@ -1,5 +1,5 @@
 -- Push-enter code: what its instructions name, and where nodes are entered.
-use Rattle.std.specs.Prelude.{ℕ, ◌==◌, ◌&&◌, Bool, true, false, if◌then◌else◌, List, [], ◌∷◌, slice_get, Option, Some, None}
+use Rattle.std.specs.Prelude.{ℕ, ◌==◌, ◌&&◌, if◌then◌else◌, List, [], ◌∷◌, slice_get, Option, Some, None}
 use Rattle.pe_code.specs.declared.code.PeInsn.{PeInsn}
 use Rattle.pe_code.specs.declared.code.PeInsn.TheVariants as insn
 use Rattle.pe_code.specs.declared.code.PeItem.{PeItem}
@@ -107,8 +107,3 @@ picked_from _ = []
 -- no sequence of cells is used at any shape
 abbrev pub no_sequences : SequenceShapes
 no_sequences = record { value = None; element = None; assigned_element = None; row_length = None }
-
--- whether it makes a sequence of cells
-abbrev pub makes_cells : PeInsn → Bool
-makes_cells (insn.Cells x y) = true
-makes_cells _ = false

@@ -1,11 +1,11 @@
 -- Valid code.
-use Rattle.std.specs.Prelude.{ℕ, ◌+◌, ◌*◌, ◌<◌, ◌≤◌, ◌≡◌, false, List, [], ◌∷◌, length, slice_get, All, Option, Some}
+use Rattle.std.specs.Prelude.{ℕ, ◌+◌, ◌*◌, ◌<◌, ◌≤◌, ◌≡◌, List, [], ◌∷◌, length, slice_get, All, Option, Some}
 use Rattle.std.specs.Option.{ForSome}
 use Rattle.pe_code.specs.declared.code.PeItem.{PeItem}
 use Rattle.pe_code.specs.declared.code.Entry.{Entry}
 use Rattle.pe_code.specs.declared.code.SequenceShapes.{SequenceShapes}
 use Rattle.pe_code.specs.declared.code.PeCode.{PeCode}
-use Rattle.pe_code.specs.Code.{item_at, beside, body_of, variable_of, shape_of, node_of, picked_from, makes_cells}
+use Rattle.pe_code.specs.Code.{item_at, beside, body_of, variable_of, shape_of, node_of, picked_from}
 
 -- the address leads to an item of the depth
 pub record LeadsTo (code : PeCode) (depth address : ℕ) : Type 0 where
@@ -19,10 +19,9 @@ pub record IsThunkNode (code : PeCode) (depth node : ℕ) : Type 0 where
   pub listed : slice_get code.thunks place ≡ Some node
   pub led : All (λ e. e.node ≡ node → LeadsTo code depth e.address) code.entries
 
--- what an item names is there, at the depth that it asks for; no image makes a sequence of cells
+-- what an item names is there, at the depth that it asks for
 pub record IsSoundItem (code : PeCode) (item : PeItem) : Type 0 where
   pub depth : item.depth ≤ 512
-  pub no_cells : makes_cells item.insn ≡ false
   pub beside_it : All (λ a. LeadsTo code item.depth a) (beside item.insn)
   pub body : ForSome (body_of item.insn) (λ a. LeadsTo code (item.depth + 1) a)
   pub variable : ForSome (variable_of item.insn) (λ k. k < item.depth)

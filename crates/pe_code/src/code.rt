@@ -59,7 +59,7 @@ pub enum PeInsn {
 
 impl PeInsn {
     ghost use Rattle.std.specs.Prelude.{◌≡◌};
-    ghost use Rattle.pe_code.specs.Code.{body_of, variable_of, shape_of, node_of, picked_from, makes_cells};
+    ghost use Rattle.pe_code.specs.Code.{body_of, variable_of, shape_of, node_of, picked_from};
 
     /// The address of its body under its binder, or `None` where it has no binder.
     pub fn body(&self) -> Option<u32>
@@ -118,16 +118,6 @@ impl PeInsn {
         match self {
             PeInsn::Case(_, parts) => parts.as_slice(),
             _ => &[],
-        }
-    }
-
-    /// Whether it makes a sequence of cells.
-    pub fn makes_cells(&self) -> bool
-        ensures { result ≡ makes_cells self.now }
-    {
-        match self {
-            PeInsn::Cells(..) => true,
-            _ => false,
         }
     }
 }

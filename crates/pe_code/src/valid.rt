@@ -1,9 +1,9 @@
 //! Which code is valid.
 
-ghost use Rattle.std.specs.Prelude.{◌≡◌, ℕ, ◌+◌, ◌*◌, ◌<◌, ◌≤◌, ◌↔◌, false, All, IsTrue, length};
+ghost use Rattle.std.specs.Prelude.{◌≡◌, ℕ, ◌+◌, ◌*◌, ◌<◌, ◌≤◌, ◌↔◌, All, IsTrue, length};
 ghost use Rattle.std.specs.Option.{ForSome};
 ghost use Rattle.pe_code.specs.Entries.{AreInOrder};
-ghost use Rattle.pe_code.specs.Code.{beside, makes_cells};
+ghost use Rattle.pe_code.specs.Code.{beside};
 ghost use Rattle.pe_code.specs.Valid.{LeadsTo, IsThunkNode, IsSoundItem, all_picked_from, IsSoundEntry, AreOnce, IsValid, asked_shapes};
 
 use crate::code::{Entry, PeCode, PeInsn, PeItem};
@@ -15,7 +15,7 @@ const MOST_DEPTH: u32 = 512;
 const MOST_WORDS: usize = 1_048_576;
 
 /// Whether the machine and the selection take the code: it has 1 to 65,536 items, of which the first stands under no
-/// binder; each item is at most 512 deep and makes no sequence of cells, and all that it names is there, at the depth that it asks for; the items pick
+/// binder; each item is at most 512 deep, and all that it names is there, at the depth that it asks for; the items pick
 /// from no more parts together than there are items; each entry leads to an item, and has a shape that is there and a
 /// node that has no other entry for it; and the table of all shapes and thunk nodes has at most 1,048,576 words. It
 /// takes no memory.
@@ -81,19 +81,12 @@ fn are_sound_items(code: &PeCode, items: &[PeItem]) -> bool
 fn is_sound_item(code: &PeCode, item: &PeItem) -> bool
     ensures { IsTrue result ↔ IsSoundItem code.now item.now }
 {
-    is_allowed(item)
+    item.depth <= MOST_DEPTH
         && has_sound_parts(code, item.depth, &item.insn)
         && has_sound_body(code, item.depth + 1, item.insn.body())
         && is_below(item.insn.variable(), item.depth)
         && is_below(item.insn.shape(), code.shapes)
         && has_sound_node(code, item.depth, item.insn.node())
-}
-
-// Whether it isn't too deep, and makes no sequence of cells.
-fn is_allowed(item: &PeItem) -> bool
-    ensures { IsTrue result ↔ ((item.now.depth ≤ 512) × (makes_cells item.now.insn ≡ false)) }
-{
-    item.depth <= MOST_DEPTH && !item.insn.makes_cells()
 }
 
 fn has_sound_parts(code: &PeCode, depth: u32, insn: &PeInsn) -> bool

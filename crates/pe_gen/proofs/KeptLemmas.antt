@@ -12,7 +12,7 @@ use Rattle.pe_code.specs.declared.code.PeCode.{PeCode}
 use Rattle.pe_code.specs.declared.code.SequenceShapes.{SequenceShapes}
 use Rattle.pe_code.specs.declared.code.PeInsn.{PeInsn}
 use Rattle.pe_code.specs.declared.code.PeItem.{PeItem}
-use Rattle.pe_code.specs.Code.{address_in, beside, body_of, variable_of, shape_of, node_of, picked_from, makes_cells}
+use Rattle.pe_code.specs.Code.{address_in, beside, body_of, variable_of, shape_of, node_of, picked_from}
 use Rattle.pe_code.specs.Entries.{AreInOrder}
 use Rattle.pe_code.specs.Valid.{LeadsTo, IsThunkNode, IsSoundItem, IsSoundEntry, all_picked_from, AreOnce, asked_sequences, asked_shapes, IsValid}
 use Rattle.pe_right.specs.Direct.{IsHanded, passed, bound, same, IsItemHanded, IsDirectOf}
@@ -46,11 +46,6 @@ same-shape : {p : Tree} {i j : PeInsn} → IsHanded p i j → shape_of j ≡ sha
 same-shape (passed c) = refl
 same-shape (bound c) = refl
 same-shape (same none) = refl
-
-same-cells : {p : Tree} {i j : PeInsn} → IsHanded p i j → makes_cells i ≡ makes_cells j
-same-cells (passed c) = refl
-same-cells (bound c) = refl
-same-cells (same none) = refl
 
 same-picked : {p : Tree} {i j : PeInsn} → IsHanded p i j → picked_from j ≡ picked_from i
 same-picked (passed c) = refl
@@ -93,7 +88,6 @@ module _ (p : Tree) (code made : PeCode) (direct : IsDirectOf p code made) where
   sound : (old new : PeItem) → IsItemHanded p old new → IsSoundItem code old → IsSoundItem made new
   sound old new h s = record {
     depth = omega (arith, h.depth, s.depth);
-    no_cells = sym (same-cells h.insn) ∙ s.no_cells;
     beside_it =
         let there = All-weaker (λ a. LeadsTo code old.depth a) (λ a. LeadsTo made old.depth a) (λ a l. leads l) (beside old.insn) s.beside_it in
         subst (λ xs. All (λ a. LeadsTo made new.depth a) xs) (sym (same-beside h.insn)) (subst (λ d. All (λ a. LeadsTo made d a) (beside old.insn)) (sym h.depth) there);

@@ -17,7 +17,7 @@ use Rattle.pe_code.specs.declared.code.PeCode.{PeCode}
 use Rattle.pe_code.specs.declared.code.SequenceShapes.{SequenceShapes}
 use Rattle.pe_code.specs.declared.code.PeInsn.{PeInsn}
 use Rattle.pe_code.specs.declared.code.PeItem.{PeItem}
-use Rattle.pe_code.specs.Code.{entry_of, beside, body_of, variable_of, shape_of, node_of, makes_cells}
+use Rattle.pe_code.specs.Code.{entry_of, beside, body_of, variable_of, shape_of, node_of}
 use Rattle.pe_code.specs.Valid.{LeadsTo, IsThunkNode, IsSoundItem, IsSoundEntry, asked_sequences, IsValid}
 use Rattle.pe_gen.specs.Preorder.{own_thunks}
 use Rattle.pe_right.specs.Constants.{no_data}
@@ -231,11 +231,6 @@ module _ (p : Tree) (table : ShapeTable) (code : PeCode) (made : IsMade p table 
   sound-insn d k q s o node scoped (of_read {x = x} {p = a} ex) =
       record { beside_it = one d x (leads-to a d (k + 1) x _ (first-part [] node refl) ex); body = no_body d; variable = no_variable d; shape = no_shape; thunk = no_thunk d }
 
-  -- no typed phrase makes a sequence of cells
-  no-cells : {k : ℕ} {q : Tree} {s : PlainShape} {i : PeInsn} → IsInsnOf no_data table code k q s i → makes_cells i ≡ false
-  no-cells (of_var e) = refl
-  no-cells h = refl
-
   sound-item : (i : ℕ) (item : PeItem) → slice_get code.items i ≡ Some item → IsSoundItem code item
   sound-item i item at =
       let x = site-of p table code made i item at in
@@ -244,7 +239,6 @@ module _ (p : Tree) (table : ShapeTable) (code : PeCode) (made : IsMade p table 
       let sound = subst (λ d. IsSoundInsn d item.insn) same (sound-insn x.depth x.site.node x.form x.shape item.insn x.node scoped x.its.insn) in
       record {
         depth = omega (arith, scoped.few);
-        no_cells = no-cells x.its.insn;
         beside_it = sound.beside_it;
         body = sound.body;
         variable = sound.variable;

@@ -1,14 +1,16 @@
 -- Frames around one another, among the items.
-use Rattle.std.proofs.Common.{◌≡◌, ℕ, zero, suc, ◌+◌, ◌<◌, ◌≤◌, Bool, true, false, cond, List, [], ◌∷◌, length, Some, None, refl, sym, ap, ◌∙◌, arith}
+use Rattle.std.proofs.Common.{◌≡◌, ℕ, zero, suc, ◌+◌, ◌<◌, ◌≤◌, Bool, true, false, cond, List, [], ◌∷◌, length, set, Some, None, refl, sym, ap, ◌∙◌, arith}
 use Rattle.std.proofs.lemmas.Bool.{cond-true, cond-false, cond_both, eqb-true, eqb-false, eq-eqb, ne_eqb}
 use Rattle.std.proofs.lemmas.Option.{same_Some}
+use Rattle.std.proofs.lemmas.List.{length-set}
 use Rattle.std.specs.Prelude.{nat_eq}
 use Rattle.std.specs.declared.option.Option.{Option}
 use Rattle.fy_base.specs.declared.data.Datum.{Datum}
 use Rattle.pe_frame.specs.Frames.{frame_words}
-use Rattle.pe_machine.specs.States.{is_named, source, datum, cell_of, jump_of, sequence_of, Thunk}
+use Rattle.fy_phrase.specs.Copy.{Which, own, element}
+use Rattle.pe_machine.specs.States.{is_named, source, datum, cell_of, jump_of, sequence_of, Sequence, Thunk}
 use Rattle.pe_code.specs.declared.code.PeCode.{PeCode}
-use Rattle.pe_items.specs.Items.{ItemBinding, to_thunk, to_cell, to_escape, Item, frame, context, sequence, words, address_on, from_frame, frame_from, handed_on, with_datum, with_cell, datum_in, datum_at}
+use Rattle.pe_items.specs.Items.{ItemBinding, to_thunk, to_cell, to_escape, Item, frame, context, sequence, words, address_on, from_frame, frame_from, handed_on, with_datum, with_cell, datum_in, datum_at, sequence_at, with_element, with_value}
 use Rattle.rv_select.specs.Layout.{frames_from, address_found, IsGoodThunk, IsGoodBinding}
 
 -- a choice by whether two numbers are the same
@@ -62,7 +64,7 @@ thunk_deeper code p q h (source n f) g = (g.0, g.1, h f g.0 g.2)
 thunk_deeper code p q h (datum v) g = g
 thunk_deeper code p q h (cell_of x) g = tt
 thunk_deeper code p q h (jump_of x) g = tt
-thunk_deeper code p q h (sequence_of x) g = absurd g
+thunk_deeper code p q h (sequence_of x) g = tt
 
 -- what a frame hands on
 pub handed_good : (code : PeCode) (depths : Option ℕ → Option ℕ) (x : ℕ) (b : ItemBinding) → IsGoodBinding code depths b → IsGoodThunk code depths (handed_on x b)
@@ -161,3 +163,70 @@ cell_below x u (frame d b around ∷ is) h =
     (λ same k. let room = frame_room d in omega arith)
     (λ other k. let below = cell_below x u is k in omega arith)
     h
+
+-- ---- a cell of a sequence with another datum
+
+pub words_element : (x i : ℕ) (v : Datum) (is : List Item) → words (with_element x i v is) ≡ words is
+words_element x i v [] = refl
+words_element x i v (context c o ∷ is) = ap (λ n. n + 4) (words_element x i v is)
+words_element x i v (frame d b a ∷ is) = ap (λ n. n + frame_words d) (words_element x i v is)
+words_element x i v (sequence c ∷ is) =
+    by_eq (λ (o : List Item). words o ≡ words (sequence c ∷ is)) (x + 4) (address_on is) (sequence (record c { values = set c.values i v }) ∷ is) (sequence c ∷ with_element x i v is)
+    (λ same. ap (λ n. words is + n) (length-set c.values i v))
+    (λ other. ap (λ n. n + length c.values) (words_element x i v is))
+
+pub address_element : (x i : ℕ) (v : Datum) (is : List Item) → address_on (with_element x i v is) ≡ address_on is
+address_element x i v is = ap suc (words_element x i v is)
+
+pub frames_element : (x i : ℕ) (v : Datum) (is : List Item) (f : Option ℕ) → frames_from (with_element x i v is) f ≡ frames_from is f
+frames_element x i v is None = frames_none (with_element x i v is) ∙ sym (frames_none is)
+frames_element x i v [] (Some y) = refl
+frames_element x i v (context c o ∷ is) (Some y) = frames_element x i v is (Some y)
+frames_element x i v (frame d b around ∷ is) (Some y) =
+    ap (λ a. cond (nat_eq y a) (Some (suc d)) (frames_from (with_element x i v is) (Some y))) (address_element x i v is)
+    ∙ ap (λ o. cond (nat_eq y (address_on is)) (Some (suc d)) o) (frames_element x i v is (Some y))
+frames_element x i v (sequence c ∷ is) (Some y) =
+    by_eq (λ (o : List Item). frames_from o (Some y) ≡ frames_from is (Some y)) (x + 4) (address_on is) (sequence (record c { values = set c.values i v }) ∷ is) (sequence c ∷ with_element x i v is)
+    (λ same. refl)
+    (λ other. frames_element x i v is (Some y))
+
+pub found_element : (x i : ℕ) (v : Datum) (is : List Item) (k : ℕ) (f : Option ℕ) → address_found (frame_from (with_element x i v is) k f) ≡ address_found (frame_from is k f)
+found_element x i v [] k f = refl
+found_element x i v (context c o ∷ is) k f = found_element x i v is k f
+found_element x i v (sequence c ∷ is) k f =
+    by_eq (λ (o : List Item). address_found (frame_from o k f) ≡ address_found (frame_from is k f)) (x + 4) (address_on is) (sequence (record c { values = set c.values i v }) ∷ is) (sequence c ∷ with_element x i v is)
+    (λ same. refl)
+    (λ other. found_element x i v is k f)
+found_element x i v (frame d b around ∷ is) k f =
+    ap (λ a. address_found (cond (is_named f a) (from_frame k (record { address = a; binding = b }) (λ j. frame_from (with_element x i v is) j around)) (frame_from (with_element x i v is) k f))) (address_element x i v is)
+    ∙ kept (is_named f (address_on is)) k (λ j. found_element x i v is j around) (found_element x i v is k f)
+  where
+    kept : (t : Bool) (k : ℕ) → ((j : ℕ) → address_found (frame_from (with_element x i v is) j around) ≡ address_found (frame_from is j around))
+        → address_found (frame_from (with_element x i v is) k f) ≡ address_found (frame_from is k f)
+        → address_found (cond t (from_frame k (record { address = address_on is; binding = b }) (λ j. frame_from (with_element x i v is) j around)) (frame_from (with_element x i v is) k f))
+        ≡ address_found (cond t (from_frame k (record { address = address_on is; binding = b }) (λ j. frame_from is j around)) (frame_from is k f))
+    kept true zero h e = refl
+    kept true (suc k) h e = h k
+    kept false k h e = e
+
+-- a sequence stands whole below the top
+pub sequence_below : (x : ℕ) (c : Sequence) (is : List Item) → sequence_at x is ≡ Some c → x + 4 + length c.values ≤ address_on is
+sequence_below x c [] h = absurd (cc)
+sequence_below x c (context k o ∷ is) h = let below = sequence_below x c is h in omega arith
+sequence_below x c (frame d b around ∷ is) h = let below = sequence_below x c is h in let room = frame_room d in omega arith
+sequence_below x c (sequence q ∷ is) h =
+    by_eq (λ o. o ≡ Some c → x + 4 + length c.values ≤ address_on (sequence q ∷ is)) (x + 4) (address_on is) (Some q) (sequence_at x is)
+    (λ same k. let long = ap (λ (z : Sequence). length z.values) (same_Some q c k) in omega arith)
+    (λ other k. let below = sequence_below x c is k in omega arith)
+    h
+
+-- ---- items with the same frames at the same addresses
+
+pub record AreAlike (is js : List Item) : Type 0 where
+  pub address : address_on js ≡ address_on is
+  pub frames : (f : Option ℕ) → frames_from js f ≡ frames_from is f
+  pub found : (k : ℕ) (f : Option ℕ) → address_found (frame_from js k f) ≡ address_found (frame_from is k f)
+
+pub alike_with : (which : Which) (x : ℕ) (v : Datum) (is : List Item) → AreAlike is (with_value which x v is)
+alike_with own x v is = record { address = address_with x v is; frames = frames_with x v is; found = found_with x v is }
+alike_with (element i) x v is = record { address = address_element x i v is; frames = frames_element x i v is; found = found_element x i v is }

@@ -1,5 +1,5 @@
 -- The binding of a variable is reached by few straight instructions.
-use Rattle.std.proofs.Common.{◌≡◌, ℕ, zero, suc, ◌+◌, ◌-◌, ◌^◌, ◌<◌, ◌≤◌, true, List, [], ◌∷◌, ◌++◌, length, ℤ, pos, Some, None, refl, sym, ap, ◌∙◌, subst, arith}
+use Rattle.std.proofs.Common.{◌≡◌, ℕ, zero, suc, ◌+◌, ◌-◌, ◌^◌, ◌<◌, ◌≤◌, true, List, [], ◌∷◌, ◌++◌, length, ℤ, pos, Some, None, refl, sym, ap, ◌∙◌, subst, inl, inr, arith}
 use Rattle.std.proofs.lemmas.Bool.{cond_both, cond-true, ltb-false}
 use Rattle.std.proofs.lemmas.Option.{same_Some}
 use Rattle.std.specs.Prelude.{slice_index, nat_lt, if◌then◌else◌}
@@ -152,7 +152,8 @@ record Running (code : PeCode) (w : Code) (s : ItemState) (t : State) (p : Point
 
 running : (code : PeCode) (w : Code) (a k shape : ℕ) (i : PeItem) (s : ItemState) (t : State) (p : Pointer) (ops : List Micro) → IsValid code → item_at code a ≡ Some i → i.insn ≡ insn.UseVar k shape
     → block w (label_of code a) ≡ ops → Stands code w s t → s.focus ≡ code_at p → p.address ≡ a → Running code w s t p k ops
-running code w a k shape i s t p ops valid stands is block_is h focus at =
+running code w a k shape i s t p ops valid stands is block_is (inr h) focus at = absurd (let same = sym focus ∙ ap (λ (z : ItemState). z.focus) h.state in cc)
+running code w a k shape i s t p ops valid stands is block_is (inl h) focus at =
     let r : RunsItem code w s.items p t.rest t.held = (let F : Focus → Type 0 = λ q. HasFocus code w s.items q t.rest t.held in subst F focus h.focus) in
     let sound : IsSoundItem code i = all_found (λ j. IsSoundItem code j) code.items a i valid.items stands in
     let here : Some r.leads.item ≡ Some i = sym r.leads.stands ∙ ap (λ n. item_at code n) at ∙ stands in

@@ -1,5 +1,5 @@
 -- Whole runs, in both directions.
-use Rattle.std.proofs.Common.{◌≡◌, ℕ, ◌<◌, List, [], ◌∷◌, ◌++◌, length, drop, refl, sym, ap, ◌∙◌, subst, inr, arith}
+use Rattle.std.proofs.Common.{◌≡◌, ℕ, ◌<◌, List, [], ◌∷◌, ◌++◌, length, drop, refl, sym, ap, ◌∙◌, subst, inl, inr, arith}
 use Rattle.std.proofs.lemmas.Bool.{cond_both, eqb-true}
 use Rattle.std.specs.Prelude.{slice_get, nat_eq}
 use Rattle.fy_base.specs.Outside.{Bytes}
@@ -18,7 +18,7 @@ use Rattle.rv_word.specs.declared.micros.Micro.{Micro}
 use Rattle.rv_word.specs.declared.micros.Micro.TheVariants.{Window, Get, Enter, End}
 use Rattle.rv_word.specs.Word.{Data, Code, State, Led, goes, hangs, stops, wrong, word_address, led_on}
 use Rattle.rv_select.specs.Numbers.{meet, end_label, end_entry, entry_word}
-use Rattle.rv_select.specs.Layout.{HasFocus, Stands}
+use Rattle.rv_select.specs.Layout.{HasItems, HasFocus, Stands}
 use Rattle.rv_select.specs.Laws.{IsSelectable, deepest, IsSameAs}
 use Rattle.rv_select.proofs.Runs.{Reach}
 use Rattle.rv_select.proofs.Wp.{with_value, by_block, by_blocks}
@@ -87,13 +87,13 @@ module _ (code : PeCode) (w : Code) (size : ℕ) where
 
     -- the last steps
     module _ (sel : IsSelected code w) where
-      ended_by : (f : Focus) (newest : ℕ) → standing_at f newest ≡ ended → HasFocus code w r.state.items f t.rest t.held → t.held.named.context ≡ word_address newest → Reach w (HasEnded r) 60 t
-      ended_by (code_at p) newest e focus at = absurd (cc)
-      ended_by (value v) newest e focus at = absurd (cc)
-      ended_by completed newest e focus at =
+      ended_by : (f : Focus) (newest : ℕ) → standing_at f newest ≡ ended → HasFocus code w r.state.items f t.rest t.held → HasItems code t.held.words r.state.items → t.held.named.context ≡ word_address newest → Reach w (HasEnded r) 60 t
+      ended_by (code_at p) newest e focus memory at = absurd (cc)
+      ended_by (value v) newest e focus memory at = absurd (cc)
+      ended_by completed newest e focus memory at =
           let zero' : newest ≡ 0 = cond_both (nat_eq newest 0) ended going (λ (o : Standing). o ≡ ended → newest ≡ 0) (λ yes' _. eqb-true newest 0 yes') (λ no' g. absurd (cc)) e in
           let foot = at ∙ ap word_address zero' in
-          let fits = tracks.stands.items.memory.fits in
+          let fits = memory.fits in
           let entry = sel.fixed 1 (omega arith) in
           subst (λ (ms : List Micro). Reach w (HasEnded r) 60 (record { rest = ms; held = t.held })) (sym focus)
           (by_blocks w (HasEnded r) meet (Window Context 1 ∷ Get First Context 0 ∷ Enter First ∷ []) t.held 9 60 (sel.callers 0 (omega arith)) (omega arith) (
@@ -105,7 +105,7 @@ module _ (code : PeCode) (w : Code) (size : ℕ) where
               entry_word end_entry,
               foot,
               omega arith,
-              tracks.stands.items.memory.foot,
+              memory.foot,
               (
                 end_entry,
                 end_label,
@@ -119,7 +119,12 @@ module _ (code : PeCode) (w : Code) (size : ℕ) where
           ))
 
       pub ends_so : r.standing ≡ ended → Reach w (HasEnded r) 60 t
-      ends_so e = ended_by r.state.focus r.state.newest (sym tracks.standing ∙ e) tracks.stands.focus tracks.stands.items.newest_is
+      ends_so e = by tracks.stands
+        where
+          by : Stands code w r.state t → Reach w (HasEnded r) 60 t
+          by (inl h) = ended_by r.state.focus r.state.newest (sym tracks.standing ∙ e) h.focus h.items.memory h.items.newest_is
+          -- no run is over while cells are made
+          by (inr h) = absurd (let going' : standing_of r.state ≡ going = ap standing_of h.state in let over = sym tracks.standing ∙ e in cc)
 
       pub goes_so : (help : Helpers) → IsSelectable code → r.standing ≡ going → Reach w (Lands code w size (tick code r)) (step_cost (deepest code.items)) t
       goes_so help ok e =

@@ -108,10 +108,10 @@ begun_more is starts next more k before size n e a h =
     ap (λ (l : List Start). slice_get l a) e ∙ ap (λ j. slice_get (starts ++ next ∷ []) j) last ∙ slice_get_last starts next ∙ ap (λ (z : Start). Some z) (n ∙ ap (λ j. start_in is j) (sym same ∙ sym last)))
     (cases_lt a (k + 1))
 
-pub labels_fit : (is : List PeItem) (a : ℕ) → length is ≤ 65536 → (start_in is a).label ≤ 262186
+pub labels_fit : (is : List PeItem) (a : ℕ) → length is ≤ 65536 → (start_in is a).label ≤ 262197
 labels_fit is a few = let part = blocks_of_part is a in let whole = blocks_few is in omega arith
 
-pub entries_fit : (is : List PeItem) (a : ℕ) → length is ≤ 65536 → all_picked_from is ≤ length is → (start_in is a).entry ≤ 393226
+pub entries_fit : (is : List PeItem) (a : ℕ) → length is ≤ 65536 → all_picked_from is ≤ length is → (start_in is a).entry ≤ 393231
 entries_fit is a few parts = let part = entries_of_part is a in let whole = entries_few is in omega arith
 
 pub next_label_fits : (is : List PeItem) (k : ℕ) (i : PeItem) (start : Start) → slice_get is k ≡ Some i → start ≡ start_in is k → length is ≤ 65536 → start.label + block_count i.insn < 2 ^ 32

@@ -1,5 +1,5 @@
 -- How many words the blocks of an item take, and its entries.
-use Rattle.std.proofs.Common.{◌≡◌, ℕ, zero, suc, ◌+◌, ◌-◌, ◌*◌, ◌^◌, ◌<◌, ◌≤◌, Bool, true, false, List, [], ◌∷◌, ◌++◌, length, refl, arith}
+use Rattle.std.proofs.Common.{◌≡◌, ℕ, zero, suc, ◌+◌, ◌-◌, ◌*◌, ◌^◌, ◌<◌, ◌≤◌, Bool, true, false, List, [], ◌∷◌, ◌++◌, length, Option, Some, None, refl, arith}
 use Rattle.std.proofs.lemmas.Bool.{cond_both, ltb-false}
 use Rattle.std.specs.Prelude.{nat_lt, nat_le, if◌then◌else◌}
 use Rattle.std.specs.Option.{ForSome}
@@ -22,7 +22,7 @@ use Rattle.rv_word.specs.Costs.{set_cost, block_words}
 use Rattle.rv_flow.specs.Laws.{blocks_words}
 use Rattle.rv_operators.specs.Operators.{word_of}
 use Rattle.rv_select.specs.Numbers.{entry_count, label_of, entry_number, entry_word, column_word, column_of, row_address}
-use Rattle.rv_select.specs.Blocks.{behind, reach, open_context, at_top, push, push_frame, bind, put_entry, main_block, left_block, new_block, unary_fault_blocks, binary_fault_blocks, blocks_of}
+use Rattle.rv_select.specs.Blocks.{behind, reach, open_context, at_top, push, push_frame, bind, put_entry, index_block, main_block, left_block, new_block, unary_fault_blocks, binary_fault_blocks, blocks_of}
 use Rattle.rv_select.proofs.Wp.{set_most}
 
 -- ---- operations
@@ -72,6 +72,14 @@ push_words entry label lt = let few = set_short (entry_word entry) (omega arith)
 
 pub push_frame_words : (entry label : ℕ) → entry < 2 ^ 28 → block_words (push_frame entry label) ≤ 21
 push_frame_words entry label lt = let few = set_short (entry_word entry) (omega arith) in omega arith
+
+-- an index is entered through a row
+pub index_words : (code : PeCode) (entry : ℕ) (o : Option ℕ) → entry < 2 ^ 28 → ForSome o (λ s. row_address code s < 2 ^ 31) → block_words (index_block code entry o) ≤ 48
+index_words code entry None few row = omega arith
+index_words code entry (Some s) few row =
+    let small = set_short (entry_word entry) (omega arith) in
+    let short = set_short (row_address code s) (row s refl) in
+    omega arith
 
 pub bind_words : (d label entry : ℕ) → d ≤ 512 → entry < 2 ^ 28 → block_words (bind d label entry) ≤ 22
 bind_words zero label entry deep lt = omega arith
@@ -177,7 +185,7 @@ module _ (code : PeCode) (a : ℕ) where
     insn_words (insn.LetData v y) h = let few = set_most (word_of v) in let body = own_bind y h in omega arith
     insn_words (insn.Knot n y) h = let column = set_most (column_word (column_of code n)) in let body = own_bind y h in omega arith
     insn_words insn.Done h = omega arith
-    insn_words (insn.Cells x y) h = omega arith
+    insn_words (insn.Cells x y) h = let main = own_push h in let body = own_bind y h in omega arith
     insn_words (insn.Seq x y) h = let main = own_push h in omega arith
     insn_words (insn.Assign x y) h = let main = own_push h in omega arith
     insn_words (insn.While x y) h = let main = own_push h in let next = own_set h in omega arith

@@ -1,19 +1,22 @@
 -- The code that is selected is disciplined.
-use Rattle.std.proofs.Common.{◌≡◌, ℕ, suc, ◌+◌, true, List, [], ◌∷◌, ◌++◌, length, Some, refl, subst, arith}
+use Rattle.std.proofs.Common.{◌≡◌, ℕ, suc, ◌+◌, true, false, List, [], ◌∷◌, ◌++◌, length, take, Option, Some, None, refl, subst, arith}
 use Rattle.std.proofs.lemmas.Bool.{and_from, and_parts, le-leb}
-use Rattle.std.specs.Prelude.{slice_get, nat_lt}
+use Rattle.std.specs.Prelude.{slice_get, nat_lt, nat_le}
+use Rattle.std.specs.Option.{ForSome}
 use Rattle.pe_code.specs.declared.code.PeItem.{PeItem}
 use Rattle.pe_code.specs.declared.code.PeCode.{PeCode}
-use Rattle.rv_word.specs.Discipline.{Bounds, are_disciplined, are_below}
-use Rattle.rv_runtime.specs.Routines.{put_true, put_false, put_int, routine_blocks}
+use Rattle.rv_word.specs.declared.micros.Micro.{Micro}
+use Rattle.rv_word.specs.Word.{zeros}
+use Rattle.rv_word.specs.Discipline.{Bounds, is_disciplined_from, are_disciplined, are_below}
+use Rattle.rv_runtime.specs.Routines.{exhausted, put_true, put_false, put_int, routine_blocks}
 use Rattle.rv_runtime.specs.Laws.{RoutinesAreDisciplined}
 use Rattle.rv_operators.specs.Operators.{operator_blocks}
 use Rattle.rv_operators.specs.Laws.{OperatorsAreDisciplined}
-use Rattle.rv_select.specs.Numbers.{meet, first_operator, start_label, end_label, datum_label, read_label, write_label, leave_label, pop_label, put_int_label, put_char_label, put_bool_label, fixed_entries, label_of}
-use Rattle.rv_select.specs.Blocks.{blocks_of, entries_of, caller_blocks, own_blocks}
+use Rattle.rv_select.specs.Numbers.{meet, first_operator, start_label, end_label, datum_label, read_label, write_label, leave_label, pop_label, put_int_label, put_char_label, put_bool_label, no_count_label, fill_label, filled_label, read_element_label, write_element_label, outside_label, length_label, no_room_label, index_read_label, index_write_label, fixed_entries, element_entry, label_of, entry_word, row_address}
+use Rattle.rv_select.specs.Blocks.{index_block, blocks_of, entries_of, caller_blocks, sequence_blocks, own_blocks}
 use Rattle.rv_select.specs.Program.{item_blocks, item_entries, word_code}
 use Rattle.rv_select.specs.Laws.{IsSelectable, SelectionIsDisciplined}
-use Rattle.rv_select.proofs.Judging.{IsLabel, joined}
+use Rattle.rv_select.proofs.Judging.{IsLabel, IsWord, joined}
 use Rattle.rv_select.proofs.Judged.{Fits, InsnFits, low, blocks_fine, entries_fine}
 use Rattle.rv_select.proofs.Fitting.{bounds, led_label, fits, insn_fits}
 
@@ -51,8 +54,8 @@ module _ (code : PeCode) (b : Bounds) (fit : Fits code b) where
 
   -- ---- what every program has
 
-  own_fine : IsLabel b (label_of code 0) → are_disciplined b (own_blocks code) ≡ true
-  own_fine start =
+  first_fine : IsLabel b (label_of code 0) → are_disciplined b (take 10 (own_blocks code)) ≡ true
+  first_fine start =
       simp (
         start,
         low code b fit meet (omega arith),
@@ -61,6 +64,37 @@ module _ (code : PeCode) (b : Bounds) (fit : Fits code b) where
         low code b fit put_true (omega arith),
         low code b fit put_false (omega arith),
       )
+
+  -- an index is entered
+  index_fine : (entry : ℕ) (o : Option ℕ) → IsWord (entry_word entry) → ForSome o (λ s. (nat_le 1 b.table_words ≡ true) × IsWord (row_address code s)) → is_disciplined_from b zeros (index_block code entry o) ≡ true
+  index_fine entry None word row = simp (low code b fit meet (omega arith))
+  index_fine entry (Some s) word row = let found = row s refl in simp (low code b fit no_room_label (omega arith), word, found.0, found.1)
+
+  -- the blocks of sequences before those
+  cells_fine : are_disciplined b (take 9 (sequence_blocks code)) ≡ true
+  cells_fine =
+      simp (
+        low code b fit no_count_label (omega arith),
+        low code b fit fill_label (omega arith),
+        low code b fit filled_label (omega arith),
+        low code b fit exhausted (omega arith),
+        low code b fit outside_label (omega arith),
+        low code b fit read_label (omega arith),
+        low code b fit write_label (omega arith),
+        low code b fit meet (omega arith),
+        low code b fit leave_label (omega arith),
+      )
+
+  sequences_fine : are_disciplined b (sequence_blocks code) ≡ true
+  sequences_fine =
+      let read : List Micro = index_block code (element_entry false) code.sequences.value in
+      let write : List Micro = index_block code (element_entry true) code.sequences.value in
+      joined b (take 9 (sequence_blocks code)) (read ∷ write ∷ []) cells_fine
+      (and_from (is_disciplined_from b zeros read) (are_disciplined b (write ∷ [])) (index_fine (element_entry false) code.sequences.value refl fit.indexed)
+      (and_from (is_disciplined_from b zeros write) true (index_fine (element_entry true) code.sequences.value refl fit.indexed) refl))
+
+  own_fine : IsLabel b (label_of code 0) → are_disciplined b (own_blocks code) ≡ true
+  own_fine start = joined b (take 10 (own_blocks code)) (sequence_blocks code) (first_fine start) sequences_fine
 
   fixed_lead : are_below b.blocks fixed_entries ≡ true
   fixed_lead =
@@ -75,6 +109,11 @@ module _ (code : PeCode) (b : Bounds) (fit : Fits code b) where
         low code b fit put_int_label (omega arith),
         low code b fit put_char_label (omega arith),
         low code b fit put_bool_label (omega arith),
+        low code b fit read_element_label (omega arith),
+        low code b fit write_element_label (omega arith),
+        low code b fit length_label (omega arith),
+        low code b fit index_read_label (omega arith),
+        low code b fit index_write_label (omega arith),
       )
 
 each_fits : (code : PeCode) (ok : IsSelectable code) → AllFit code (bounds code) (fits code ok) 0 code.items

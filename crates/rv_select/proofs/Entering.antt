@@ -1,5 +1,5 @@
 -- A variable's thunk is entered at a shape, through the table.
-use Rattle.std.proofs.Common.{◌≡◌, ℕ, zero, suc, ◌+◌, ◌*◌, ◌<◌, ◌≤◌, Bool, true, false, List, [], ◌∷◌, ◌++◌, length, All, Some, None, refl, sym, ap, ◌∙◌, subst, inl, inr, arith, length-append}
+use Rattle.std.proofs.Common.{◌≡◌, ℕ, zero, suc, ◌+◌, ◌*◌, ◌<◌, ◌≤◌, Bool, true, false, List, [], ◌∷◌, length, All, Some, None, refl, sym, ap, ◌∙◌, subst, inl, inr, arith}
 use Rattle.std.proofs.lemmas.Bool.{cond-true, cond-false, cond_both, and_parts, eqb-true, eqb-false}
 use Rattle.std.proofs.lemmas.Option.{same_Some, slice_get_within, get_or_from_slice_get}
 use Rattle.std.proofs.lemmas.List.{get_or-map}
@@ -8,33 +8,34 @@ use Rattle.std.specs.Prelude.{slice_get, slice_index, nat_eq, ◌==◌, ◌&&◌
 use Rattle.std.specs.declared.option.Option.{Option}
 use Rattle.fy_base.specs.declared.data.Datum.{Datum as DatumType}
 use Rattle.fy_phrase.specs.Contexts.{store_c}
-use Rattle.fy_phrase.specs.Copy.{own}
+use Rattle.fy_phrase.specs.Copy.{Which, own}
 use Rattle.pe_code.specs.declared.code.Entry.{Entry}
 use Rattle.pe_code.specs.declared.code.PeCode.{PeCode}
 use Rattle.pe_code.specs.Code.{address_in, entry_of}
 use Rattle.pe_code.specs.Valid.{LeadsTo}
 use Rattle.pe_machine.specs.States.{Thunk, source, datum, cell_of, jump_of, sequence_of, value, PeContext}
 use Rattle.pe_machine.specs.Step.{is_assignment}
-use Rattle.pe_items.specs.Items.{Item, address_on, FoundContext, context_at, FoundFrame, frame_from, handed_by, datum_at, with_cell, escape_at, ItemState}
-use Rattle.pe_items.specs.Step.{ItemMove, sticks, focused, loaded, assigned, assignment_meets, cell_entered, left_by, jumped, at_entry, entered, taken, newest_of, with_variable}
+use Rattle.pe_items.specs.Items as stack
+use Rattle.pe_items.specs.Items.{Item, address_on, FoundContext, context_at, datum_at, escape_at, value_at, ItemState}
+use Rattle.pe_items.specs.Step.{ItemMove, sticks, focused, loaded, assigned, assignment_meets, cell_entered, left_by, jumped, at_entry, entered_plain, taken, newest_of}
 use Rattle.rv_insn.specs.declared.instructions.RegOp.TheVariants as reg
-use Rattle.rv_word.specs.declared.micros.Register.TheVariants.{Frame, Context, Top, Datum, First, Second, Third}
+use Rattle.rv_word.specs.declared.micros.Register.TheVariants.{Frame, Context, Top, Datum, Second, Third}
 use Rattle.rv_word.specs.declared.micros.Micro.TheVariants.{Set, Alu, Window, Get, Save, Look, Jump, Enter}
 use Rattle.rv_word.specs.Word.{Data, Code, State, Led, word_address, table_address, block}
 use Rattle.rv_operators.specs.Operators.{word_of}
 use Rattle.rv_select.specs.Numbers.{meet, datum_label, read_label, write_label, leave_label, pop_label, datum_entry, read_entry, write_entry, leave_entry, label_of, entry_number, entry_word, row_words, place_in, column_word, column_of, row_address}
-use Rattle.rv_select.specs.Blocks.{move, reach}
+use Rattle.rv_select.specs.Blocks.{move}
 use Rattle.rv_select.specs.Program.{node_word, row}
-use Rattle.rv_select.specs.Layout.{frame_word, frames_from, column, payload, IsGoodThunk, HoldsItems}
+use Rattle.rv_select.specs.Layout.{frames_from, column, payload, IsGoodThunk, HoldsItems}
 use Rattle.rv_select.proofs.Runs.{Reach, Later, wider}
 use Rattle.rv_select.proofs.Wp.{Wp, at, with_value, any_step, by_block, by_blocks}
 use Rattle.rv_select.proofs.Values.{moves, adds}
-use Rattle.rv_select.proofs.Around.{address_with}
-use Rattle.rv_select.proofs.Memory.{hands_on, StandsAt, stands_at, cell_is, EscapeIs, escape_is, laid_with}
+use Rattle.rv_select.proofs.Around.{alike_with}
+use Rattle.rv_select.proofs.Memory.{StandsAt, stands_at, EscapeIs, escape_is, cell_spot, value_is, laid_value}
 use Rattle.rv_select.proofs.SelectedCode.{IsEntry, IsSelected}
 use Rattle.rv_select.proofs.Follows.{Follows}
 use Rattle.rv_select.proofs.Landing.{Keeps, went_code, went_value, went_completed}
-use Rattle.rv_select.proofs.Reaching.{word_small, reach_length, reached}
+use Rattle.rv_select.proofs.Reaching.{word_small}
 
 -- ---- the table
 
@@ -92,23 +93,24 @@ module _ (code : PeCode) (w : Code) (sel : IsSelected code w) where
     abbrev pub Q : ItemMove → Led → Type 0
     Q mv = Follows code w e0 mv
 
-    nothing : (n : ℕ) (t : State) → 9 ≤ n → Reach w (Q sticks) n t
+    pub nothing : (n : ℕ) (t : State) → 9 ≤ n → Reach w (Q sticks) n t
     nothing n t le = wider w (Q sticks) 9 n t le (any_step w (Q sticks) t (λ r. tt))
 
-    module _ (x : ℕ) (e : Data) (h : HoldsItems code s.newest s.items e) (keeps : Keeps e0.input e0.output (length e0.words) e) (f : e.named.frame ≡ word_address x) where
-      -- a cell is read
-      cell_read : (o : Option DatumType) → datum_at x s.items ≡ o → Reach w (Q (loaded o s)) 40 (record { rest = block w read_label; held = e })
+    -- a cell of either sort is entered
+    module _ (which : Which) (x : ℕ) (e : Data) (h : HoldsItems code s.newest s.items e) (keeps : Keeps e0.input e0.output (length e0.words) e) (f : e.named.frame ≡ word_address (cell_spot which x)) where
+      -- it is read
+      pub cell_read : (o : Option DatumType) → value_at which x s.items ≡ o → Reach w (Q (loaded o s)) 40 (record { rest = block w read_label; held = e })
       cell_read None is = nothing 40 (record { rest = block w read_label; held = e }) (omega arith)
       cell_read (Some v) is =
-          let c = cell_is code e.words s.items x v is h.memory.laid in
+          let c = value_is code e.words s.items which x v is h.memory.laid in
           let within = c.within in
           let fits = h.memory.fits in
           by_block w (Q (loaded (Some v) s)) read_label (Window Frame 3 ∷ Get Datum Frame 2 ∷ Jump meet ∷ []) e 40 (sel.own 3 (omega arith)) (omega arith) (
-            x,
+            cell_spot which x,
             f,
             omega arith,
             (
-              x,
+              cell_spot which x,
               word_of v,
               f,
               omega arith,
@@ -119,17 +121,17 @@ module _ (code : PeCode) (w : Code) (sel : IsSelected code w) where
           )
 
       -- or written
-      cell_written : (v : DatumType) (outside : ℕ) (older : List Item) → StandsAt code e.words s.items s.newest (record { content = store_c v; outside = outside; older = older }) → (o : Option DatumType) → datum_at x s.items ≡ o
-          → Reach w (Q (assigned o own x v (record s { newest = outside }))) 60 (record { rest = block w write_label; held = e })
+      cell_written : (v : DatumType) (outside : ℕ) (older : List Item) → StandsAt code e.words s.items s.newest (record { content = store_c v; outside = outside; older = older }) → (o : Option DatumType) → value_at which x s.items ≡ o
+          → Reach w (Q (assigned o which x v (record s { newest = outside }))) 60 (record { rest = block w write_label; held = e })
       cell_written v outside older at None is = nothing 60 (record { rest = block w write_label; held = e }) (omega arith)
       cell_written v outside older at (Some u) is =
-          let c = cell_is code e.words s.items x u is h.memory.laid in
+          let c = value_is code e.words s.items which x u is h.memory.laid in
           let within = c.within in
           let fits = h.memory.fits in
           let inside = at.within in
           let spot = at.spot in
           let newest = h.newest_is ∙ ap word_address spot in
-          by_block w (Q (assigned (Some u) own x v (record s { newest = outside }))) write_label
+          by_block w (Q (assigned (Some u) which x v (record s { newest = outside }))) write_label
           (Window Context 3 ∷ Get Datum Context 2 ∷ Get Context Context 1 ∷ Window Frame 3 ∷ Save Frame 2 Datum ∷ Jump meet ∷ []) e 60 (sel.own 4 (omega arith)) (omega arith) (
             address_on older,
             newest,
@@ -147,23 +149,23 @@ module _ (code : PeCode) (w : Code) (sel : IsSelected code w) where
                 omega arith,
                 at.here.outside_is,
                 (
-                  x,
+                  cell_spot which x,
                   f,
                   omega arith,
                   (
-                    x,
+                    cell_spot which x,
                     f,
                     omega arith,
                     λ n1 w1.
-                        went_completed code w outside (with_cell x v s.items) (record (with_value Context (word_address outside) (with_value Datum (word_of v) e)) { words = n1 }) e0.input e0.output (length e0.words)
+                        went_completed code w outside (stack.with_value which x v s.items) (record (with_value Context (word_address outside) (with_value Datum (word_of v) e)) { words = n1 }) e0.input e0.output (length e0.words)
                         (record {
                           newest_is = refl;
-                          top_is = h.top_is ∙ ap word_address (sym (address_with x v s.items));
+                          top_is = h.top_is ∙ ap word_address (sym (alike_with which x v s.items).address);
                           memory = record {
                             foot = w1.else 0 (λ q. omega arith) ∙ h.memory.foot;
-                            fits = (let z = w1.size in let a = address_with x v s.items in omega arith);
+                            fits = (let z = w1.size in let a = (alike_with which x v s.items).address in omega arith);
                             few = (let z = w1.size in let k = h.memory.few in omega arith);
-                            laid = laid_with code e.words n1 x u v s.items is w1 at.here.parts.1 h.memory.laid;
+                            laid = laid_value code e.words n1 which x u v s.items is w1 at.here.parts.1 h.memory.laid;
                           };
                           bytes = h.bytes;
                         })
@@ -175,16 +177,17 @@ module _ (code : PeCode) (w : Code) (sel : IsSelected code w) where
           )
 
       assigned_by : (c : PeContext) (outside : ℕ) (older : List Item) → StandsAt code e.words s.items s.newest (record { content = c; outside = outside; older = older })
-          → Reach w (Q (assignment_meets own x c (record s { newest = outside }))) 60 (record { rest = block w write_label; held = e })
-      assigned_by (store_c v) outside older at = cell_written v outside older at (datum_at x s.items) refl
+          → Reach w (Q (assignment_meets which x c (record s { newest = outside }))) 60 (record { rest = block w write_label; held = e })
+      assigned_by (store_c v) outside older at = cell_written v outside older at (value_at which x s.items) refl
       assigned_by _ outside older at = nothing 60 (record { rest = block w write_label; held = e }) (omega arith)
 
-      assigned_at : (o : Option FoundContext) → newest_of s ≡ o → Reach w (Q (taken (assignment_meets own x) o s)) 60 (record { rest = block w write_label; held = e })
+      pub assigned_at : (o : Option FoundContext) → newest_of s ≡ o → Reach w (Q (taken (assignment_meets which x) o s)) 60 (record { rest = block w write_label; held = e })
       assigned_at None is = nothing 60 (record { rest = block w write_label; held = e }) (omega arith)
       assigned_at (Some c) is = assigned_by c.content c.outside c.older (stands_at code e.words s.items s.newest c is h.memory.laid)
 
-      -- an escape leaves the newest contexts
-      left : (c : ℕ) → EscapeIs e.words s.items x c → (o : Option FoundContext) → context_at c s.items ≡ o → Reach w (Q (left_by o s)) 90 (record { rest = block w leave_label; held = e })
+    -- an escape is entered, and leaves the newest contexts
+    module _ (x : ℕ) (e : Data) (h : HoldsItems code s.newest s.items e) (keeps : Keeps e0.input e0.output (length e0.words) e) (f : e.named.frame ≡ word_address x) where
+      pub left : (c : ℕ) → EscapeIs e.words s.items x c → (o : Option FoundContext) → context_at c s.items ≡ o → Reach w (Q (left_by o s)) 90 (record { rest = block w leave_label; held = e })
       left c esc None is = nothing 90 (record { rest = block w leave_label; held = e }) (omega arith)
       left c esc (Some k) is =
           let within = esc.within in
@@ -240,7 +243,7 @@ module _ (code : PeCode) (w : Code) (sel : IsSelected code w) where
 
     module _ (shape n : ℕ) (lt : shape < code.shapes) (enough : 90 ≤ n) where
       abbrev pub Enters : Thunk → Data → Type 0
-      Enters t e = Wp w (Later w n (Q (entered code shape t s))) (Set Third (row_address code shape) ∷ Alu reg.Add Second Second Third ∷ Look Second Second ∷ Enter Second ∷ []) e
+      Enters t e = Wp w (Later w n (Q (entered_plain code shape t s))) (Set Third (row_address code shape) ∷ Alu reg.Add Second Second Third ∷ Look Second Second ∷ Enter Second ∷ []) e
 
       cell_enters : (x : ℕ) (e : Data) (b : Bool) → is_assignment code.assignment shape ≡ b → HoldsItems code s.newest s.items e → Keeps e0.input e0.output (length e0.words) e → e.named.second ≡ column_word 1 → e.named.frame ≡ word_address x
           → Wp w (Later w n (Q (cell_entered b own x s))) (Set Third (row_address code shape) ∷ Alu reg.Add Second Second Third ∷ Look Second Second ∷ Enter Second ∷ []) e
@@ -248,12 +251,12 @@ module _ (code : PeCode) (w : Code) (sel : IsSelected code w) where
           let e1 = with_value Second (entry_word write_entry) (with_value Third (row_address code shape) e) in
           looked (Later w n (Q (cell_entered true own x s))) shape 1 write_entry write_label e lt (omega arith) (cond-true (is_assignment code.assignment shape) (entry_word write_entry) (entry_word read_entry) is) (sel.fixed 4 (omega arith)) second
           (inr (wider w (Q (cell_entered true own x s)) 60 n (record { rest = block w write_label; held = e1 }) (omega arith)
-          (assigned_at x e1 (record { newest_is = h.newest_is; top_is = h.top_is; memory = h.memory; bytes = h.bytes }) (record { input_is = keeps.input_is; output_is = keeps.output_is; size_is = keeps.size_is }) f (newest_of s) refl)))
+          (assigned_at own x e1 (record { newest_is = h.newest_is; top_is = h.top_is; memory = h.memory; bytes = h.bytes }) (record { input_is = keeps.input_is; output_is = keeps.output_is; size_is = keeps.size_is }) f (newest_of s) refl)))
       cell_enters x e false is h keeps second f =
           let e1 = with_value Second (entry_word read_entry) (with_value Third (row_address code shape) e) in
           looked (Later w n (Q (cell_entered false own x s))) shape 1 read_entry read_label e lt (omega arith) (cond-false (is_assignment code.assignment shape) (entry_word write_entry) (entry_word read_entry) is) (sel.fixed 3 (omega arith)) second
           (inr (wider w (Q (cell_entered false own x s)) 40 n (record { rest = block w read_label; held = e1 }) (omega arith)
-          (cell_read x e1 (record { newest_is = h.newest_is; top_is = h.top_is; memory = h.memory; bytes = h.bytes }) (record { input_is = keeps.input_is; output_is = keeps.output_is; size_is = keeps.size_is }) f (datum_at x s.items) refl)))
+          (cell_read own x e1 (record { newest_is = h.newest_is; top_is = h.top_is; memory = h.memory; bytes = h.bytes }) (record { input_is = keeps.input_is; output_is = keeps.output_is; size_is = keeps.size_is }) f (datum_at x s.items) refl)))
 
       pub enters : (t : Thunk) (e : Data) → HasEntry t shape → HoldsItems code s.newest s.items e → Keeps e0.input e0.output (length e0.words) e → e.named.second ≡ column_word (column code t) → e.named.frame ≡ payload t
           → IsGoodThunk code (frames_from s.items) t → Enters t e
@@ -286,61 +289,3 @@ module _ (code : PeCode) (w : Code) (sel : IsSelected code w) where
           looked (Later w n (Q (jumped (escape_at x s.items) s))) shape 2 leave_entry leave_label e lt (omega arith) refl (sel.fixed 5 (omega arith)) second
           (inr (wider w (Q (jumped (escape_at x s.items) s)) 90 n (record { rest = block w leave_label; held = e1 }) enough
           (left_at x e1 (record { newest_is = h.newest_is; top_is = h.top_is; memory = h.memory; bytes = h.bytes }) (record { input_is = keeps.input_is; output_is = keeps.output_is; size_is = keeps.size_is }) f (escape_at x s.items) refl)))
-
-    -- ---- the whole block
-
-    module _ (k shape depth label : ℕ) (here : Option ℕ) (h : HoldsItems code s.newest s.items e0) (f : e0.named.frame ≡ frame_word here) (deep : frames_from s.items here ≡ Some depth) (within : k < depth) (lt : shape < code.shapes)
-        (is : block w label ≡ reach k ++ (Window First 2 ∷ Get Second First 0 ∷ Get Frame First 1 ∷ Set Third (row_address code shape) ∷ Alu reg.Add Second Second Third ∷ Look Second Second ∷ Enter Second ∷ [])) where
-      abbrev Uses : ItemMove → Type 0
-      Uses mv = Reach w (Q mv) 200 (record { rest = block w label; held = e0 })
-
-      used_found : (g : FoundFrame) (t : Thunk) → handed_by g ≡ t → HasEntry t shape → frame_from s.items k here ≡ Some g → Uses (entered code shape t s)
-      used_found g t same he found =
-          let rest = Window First 2 ∷ Get Second First 0 ∷ Get Frame First 1 ∷ Set Third (row_address code shape) ∷ Alu reg.Add Second Second Third ∷ Look Second Second ∷ Enter Second ∷ [] in
-          let e1 = with_value First (word_address g.address) e0 in
-          let e2 = with_value Frame (payload t) (with_value Second (column_word (column code t)) e1) in
-          let hands = hands_on code e0.words s.items k here g found h.memory.laid in
-          let inside = hands.within in
-          let fits = h.memory.fits in
-          let short = reach_length k in
-          let long = length-append (reach k) rest in
-          by_blocks w (Q (entered code shape t s)) label (reach k ++ rest) e0 100 200 is (omega arith)
-          (reached code w (Later w 100 (Q (entered code shape t s))) rest s.items k depth here g e0 h.memory f deep within found (
-            g.address,
-            refl,
-            omega arith,
-            (
-              g.address,
-              column_word (column code t),
-              refl,
-              omega arith,
-              hands.column_is ∙ ap (λ u. column_word (column code u)) same,
-              (
-                g.address,
-                payload t,
-                refl,
-                omega arith,
-                hands.payload_is ∙ ap payload same,
-                enters shape 100 lt (omega arith) t e2 he (record { newest_is = h.newest_is; top_is = h.top_is; memory = h.memory; bytes = h.bytes }) (record { input_is = refl; output_is = refl; size_is = refl }) refl refl
-                    (subst (IsGoodThunk code (frames_from s.items)) same hands.good),
-              ),
-            ),
-          ))
-
-      used_node : (g : FoundFrame) (node : ℕ) (around : Option ℕ) → handed_by g ≡ source node around → (o : Option ℕ) → entry_of code node shape ≡ o → frame_from s.items k here ≡ Some g → Uses (at_entry o around s)
-      used_node g node around same None entry found = nothing 200 (record { rest = block w label; held = e0 }) (omega arith)
-      used_node g node around same (Some a) entry found = subst (λ (o : Option ℕ). Uses (at_entry o around s)) entry (used_found g (source node around) same (a, entry) found)
-
-      used_thunk : (g : FoundFrame) (t : Thunk) → handed_by g ≡ t → frame_from s.items k here ≡ Some g → Uses (entered code shape t s)
-      used_thunk g (source node around) same found = used_node g node around same (entry_of code node shape) refl found
-      used_thunk g (datum v) same found = used_found g (datum v) same tt found
-      used_thunk g (cell_of x) same found = used_found g (cell_of x) same tt found
-      used_thunk g (jump_of x) same found = used_found g (jump_of x) same tt found
-      used_thunk g (sequence_of x) same found = absurd (subst (IsGoodThunk code (frames_from s.items)) same (hands_on code e0.words s.items k here g found h.memory.laid).good)
-
-      used_by : (o : Option FoundFrame) → frame_from s.items k here ≡ o → Uses (with_variable o (λ t. entered code shape t s))
-      used_by None found = nothing 200 (record { rest = block w label; held = e0 }) (omega arith)
-      used_by (Some g) found = used_thunk g (handed_by g) refl found
-
-      pub used : Uses (with_variable (frame_from s.items k here) (λ t. entered code shape t s))
-      used = used_by (frame_from s.items k here) refl

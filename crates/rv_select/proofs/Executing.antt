@@ -12,7 +12,7 @@ use Rattle.fy_base.specs.declared.data.Datum.{Datum as DatumType}
 use Rattle.fy_base.specs.declared.data.UnOp.{UnOp}
 use Rattle.fy_base.specs.declared.data.BinOp.{BinOp}
 use Rattle.fy_base.specs.declared.data.PutKind.{PutKind}
-use Rattle.fy_phrase.specs.Contexts.{op_1, op_l, if_c, case_c, arg_c, pick_c, then_c, assign_c, store_c, while_c, loop_c, new_c, put_c, esc_c}
+use Rattle.fy_phrase.specs.Contexts.{op_1, op_l, if_c, case_c, arg_c, pick_c, then_c, assign_c, store_c, while_c, loop_c, new_c, put_c, esc_c, cells_c}
 use Rattle.fy_phrase.specs.Copy.{byte_or_end}
 use Rattle.pe_code.specs.declared.code.PeInsn.{PeInsn}
 use Rattle.pe_code.specs.declared.code.PeInsn.TheVariants as insn
@@ -44,7 +44,7 @@ use Rattle.rv_select.proofs.Follows.{Helpers, ComesTo, Follows}
 use Rattle.rv_select.proofs.Landing.{AreBytes, Keeps, has_same, has_more, went_code, went_value, went_completed, no_room, opened, pushed, pushed_frame}
 use Rattle.rv_select.proofs.Making.{open_length, framed, bound}
 use Rattle.rv_select.proofs.Reaching.{frame_small, reach_length, reached}
-use Rattle.rv_select.proofs.Entering.{used}
+use Rattle.rv_select.proofs.Indexing.{used}
 
 -- ---- a byte of input
 
@@ -153,6 +153,12 @@ module _ (code : PeCode) (w : Code) (sel : IsSelected code w) (help : Helpers) w
         runs_by (executed code (insn.New x y) d at here s) (main_block code here.address d (insn.New x y)) (sel.main here.address _ stands) (omega arith)
         (pushed_frame code w sel help s.newest s.items (new_c d (record here { address = y })) (record here { address = x }) d (c) (entry_number code here.address + 1) e (omega arith) h f (sound.beside_it 0 0 (omega arith)) deep
         (λ w3. (here.address, x, at, record { entry = record { stands = stands; entry = refl }; deep = deep; frame = refl })))
+
+    runs_cells : (x y : ℕ) → Stands (insn.Cells x y) → Sound (insn.Cells x y) → Runs (executed code (insn.Cells x y) d at here s)
+    runs_cells x y stands sound =
+        runs_by (executed code (insn.Cells x y) d at here s) (main_block code here.address d (insn.Cells x y)) (sel.main here.address _ stands) (omega arith)
+        (pushed_frame code w sel help s.newest s.items (cells_c d (record here { address = y }) at) (record here { address = x }) d (c) (entry_number code here.address + 1) e (omega arith) h f (sound.beside_it 0 0 (omega arith)) deep
+        (λ w3. (here.address, x, record { entry = record { stands = stands; entry = refl }; deep = deep; frame = refl })))
 
     runs_put : (kind : PutKind) (x : ℕ) → Stands (insn.Put kind x) → Sound (insn.Put kind x) → Runs (executed code (insn.Put kind x) d at here s)
     runs_put kind x stands sound =
@@ -591,6 +597,7 @@ module _ (code : PeCode) (w : Code) (sel : IsSelected code w) (help : Helpers) w
               column_is = unwritten n4 n5 x2 2 0 (word_address x1) (column_word escape_column) w5 (λ q. omega (arith, q)) (unwritten n3 n4 x2 1 0 (word_address x2) (column_word escape_column) w4 (λ q. omega (arith, q)) w3.here);
               payload_is = unwritten n4 n5 x2 2 1 (word_address x1) (word_address x2) w5 (λ q. omega (arith, q)) w4.here;
               third = w5.here;
+              below = (let lt : x1 < x2 = omega arith in lt);
               good = tt;
             })
             (frames_more (context (esc_c 0) s.newest) s.items here.frame d deep) most (sound.body y refl) (omega arith) (record { input_is = refl; output_is = refl; size_is = size }) (omega arith)
@@ -599,8 +606,8 @@ module _ (code : PeCode) (w : Code) (sel : IsSelected code w) (help : Helpers) w
 
     pub runs : (i : PeInsn) → Stands i → Sound i → ForSome (value_of i) IsDatum → ((y : ℕ) → body_of i ≡ Some y → 109 + 16 * d ≤ c) → Runs (executed code i d at here s)
     runs (insn.UseVar k shape) stands sound good cost =
-        wider w (Q (executed code (insn.UseVar k shape) d at here s)) 200 (300 + c) (record { rest = block w (label_of code here.address); held = e }) (omega arith)
-        (used code w sel s e k shape d (label_of code here.address) here.frame h f deep (sound.variable k refl) (sound.shape shape refl) (sel.main here.address _ stands))
+        wider w (Q (executed code (insn.UseVar k shape) d at here s)) 400 (300 + c) (record { rest = block w (label_of code here.address); held = e }) (omega arith)
+        (used code w sel help s e k shape d (label_of code here.address) here.frame h f deep (sound.variable k refl) (sound.shape shape refl) (sel.main here.address _ stands))
     runs (insn.Answer v) stands sound good cost =
         runs_by (executed code (insn.Answer v) d at here s) (main_block code here.address d (insn.Answer v)) (sel.main here.address _ stands) (omega arith)
         (inl (went_value code w s.newest s.items v (with_value Datum (word_of v) e) e.input e.output (length e.words) (record { newest_is = h.newest_is; top_is = h.top_is; memory = h.memory; bytes = h.bytes }) refl (good v refl)
@@ -627,7 +634,7 @@ module _ (code : PeCode) (w : Code) (sel : IsSelected code w) (help : Helpers) w
     runs (insn.While x y) stands sound good cost = runs_while x y stands sound
     runs (insn.Loop x) stands sound good cost = runs_loop x stands sound
     runs (insn.New x y) stands sound good cost = runs_new x y stands sound
-    runs (insn.Cells x y) stands sound good cost = absurd (let none = sound.no_cells in cc)
+    runs (insn.Cells x y) stands sound good cost = runs_cells x y stands sound
     runs (insn.Escape y) stands sound good cost = runs_escape y stands sound (cost y refl)
     runs (insn.Accept y) stands sound good cost = runs_accept y (newest_of s) refl stands sound (cost y refl)
     runs (insn.Put kind x) stands sound good cost = runs_put kind x stands sound

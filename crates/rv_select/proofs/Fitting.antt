@@ -1,5 +1,5 @@
 -- The numbers in the blocks of code that can be selected are what the discipline asks for.
-use Rattle.std.proofs.Common.{◌≡◌, ℕ, zero, suc, ◌+◌, ◌*◌, ◌^◌, ◌<◌, ◌≤◌, true, List, [], ◌∷◌, length, take, Some, refl, ap, subst, arith, lt-ltb, length-append, mul-le-mul_right}
+use Rattle.std.proofs.Common.{◌≡◌, ℕ, zero, suc, ◌+◌, ◌*◌, ◌^◌, ◌<◌, ◌≤◌, true, List, [], ◌∷◌, length, take, Some, None, refl, ap, subst, arith, lt-ltb, length-append, mul-le-mul_right}
 use Rattle.std.proofs.lemmas.Bool.{le-leb, cond_both}
 use Rattle.std.proofs.lemmas.List.{length-map}
 use Rattle.std.proofs.lemmas.Option.{same_Some, slice_get_within}
@@ -96,22 +96,30 @@ module _ (code : PeCode) (ok : IsSelectable code) where
       let none : label_of code a + 0 ≡ label_of code a = omega arith in
       subst (IsLabel (bounds code)) none (label_fits a 0 leads.item leads.stands (some_blocks leads.item.insn))
 
-  pub fits : Fits code (bounds code)
-  fits = record {
-    fixed = (let number = blocks_number code in omega arith);
-    words = entry_small code ok.valid;
-    columns = λ node. lt-ltb (column_word (column_of code node)) (2 ^ 64) (column_small code ok node);
-  }
-
-  sound_at : (a : ℕ) (i : PeItem) → item_at code a ≡ Some i → IsSoundItem code i
-  sound_at a i h = all_found (λ j. IsSoundItem code j) code.items a i ok.valid.items h
-
   shape_fits : (shape : ℕ) → shape < code.shapes → (nat_le 1 (length (word_code code).table) ≡ true) × IsWord (row_address code shape)
   shape_fits shape lt =
       let within = row_within code ok.valid shape lt in
       let all = mul-le-mul_right (row_words code) lt in
       let size = rows_length code code.shapes 0 in
       (le-leb 1 (length (word_code code).table) (omega arith), lt-ltb (row_address code shape) (2 ^ 64) (omega arith))
+
+  -- the shape at which an index is entered
+  indexed : ForSome code.sequences.value (λ s. s < code.shapes)
+  indexed = ok.valid.asked 1 None (omega arith)
+
+  pub index_small : ForSome code.sequences.value (λ s. row_address code s < 2 ^ 31)
+  index_small s e = let within = row_within code ok.valid s (indexed s e) in omega arith
+
+  pub fits : Fits code (bounds code)
+  fits = record {
+    fixed = (let number = blocks_number code in omega arith);
+    words = entry_small code ok.valid;
+    columns = λ node. lt-ltb (column_word (column_of code node)) (2 ^ 64) (column_small code ok node);
+    indexed = λ s e. shape_fits s (indexed s e);
+  }
+
+  sound_at : (a : ℕ) (i : PeItem) → item_at code a ≡ Some i → IsSoundItem code i
+  sound_at a i h = all_found (λ j. IsSoundItem code j) code.items a i ok.valid.items h
 
   pub insn_fits : (a : ℕ) (i : PeItem) → item_at code a ≡ Some i → InsnFits code (bounds code) a i.depth i.insn
   insn_fits a i h =

@@ -23,7 +23,7 @@ use Rattle.rv_word.specs.Word.{zeros}
 use Rattle.rv_word.specs.Discipline.{Bounds, is_disciplined_from, are_disciplined, are_below}
 use Rattle.rv_runtime.specs.Routines.{exhausted, make_frame}
 use Rattle.rv_operators.specs.Operators.{word_of, unary_label, binary_label}
-use Rattle.rv_select.specs.Numbers.{meet, first_operator, pop_label, first_item, block_count, label_of, entry_number, entry_word, column_word, column_of, row_address}
+use Rattle.rv_select.specs.Numbers.{meet, first_operator, pop_label, count_label, first_item, block_count, label_of, entry_number, entry_word, column_word, column_of, row_address}
 use Rattle.rv_select.specs.Blocks.{push, push_frame, bind, reach, put_entry, main_block, left_block, if_block, case_block, then_block, assign_block, while_block, again_block, new_block, unary_fault_blocks, binary_fault_blocks, blocks_of, entries_of}
 use Rattle.rv_select.specs.Laws.{value_of}
 use Rattle.rv_select.proofs.Judging.{IsLabel, IsWord, chained, reach_fine, push_fine, push_frame_fine, bind_fine}
@@ -35,6 +35,7 @@ pub record Fits (code : PeCode) (b : Bounds) : Type 0 where
   pub fixed : first_item ≤ b.blocks
   pub words : (a : ℕ) → entry_number code a ≤ 2 ^ 20
   pub columns : (node : ℕ) → IsWord (column_word (column_of code node))
+  pub indexed : ForSome code.sequences.value (λ s. (nat_le 1 b.table_words ≡ true) × IsWord (row_address code s))
 
 -- and those of an instruction at depth d and address a
 pub record InsnFits (code : PeCode) (b : Bounds) (a d : ℕ) (i : PeInsn) : Type 0 where
@@ -158,7 +159,9 @@ module _ (code : PeCode) (b : Bounds) (fits : Fits code b) where
     blocks_fine (insn.LetData v y) h = alone (main_block code a d (insn.LetData v y)) (bound_datum v y h.deep (h.value v refl) (h.body y refl))
     blocks_fine (insn.Knot n y) h = alone (main_block code a d (insn.Let n y)) (bound_node n y h.deep (h.body y refl))
     blocks_fine insn.Done h = simp (low meet (omega arith))
-    blocks_fine (insn.Cells x y) h = simp (low meet (omega arith))
+    blocks_fine (insn.Cells x y) h =
+        pushed x (bind d (label_of code y) (entry_number code y) ∷ (Fault fault.Range a ∷ []) ∷ []) (h.beside 0 0 (omega arith))
+        (and_from (is_disciplined_from b zeros (bind d (label_of code y) (entry_number code y))) (are_disciplined b ((Fault fault.Range a ∷ []) ∷ [])) (bound y h.deep (h.body y refl)) (simp h.place))
     blocks_fine (insn.Seq x y) h = pushed x (then_block code a d y ∷ []) (h.beside 0 0 (omega arith)) (simp (h.beside 1 0 (omega arith)))
     blocks_fine (insn.Assign x y) h = pushed y (assign_block code a d x ∷ []) (h.beside 1 0 (omega arith)) (simp (h.beside 0 0 (omega arith)))
     blocks_fine (insn.While x y) h =
@@ -201,4 +204,5 @@ module _ (code : PeCode) (b : Bounds) (fits : Fits code b) where
     entries_fine (insn.While x y) h = simp (h.own 0 (omega arith), h.own 1 (omega arith), h.own 2 (omega arith))
     entries_fine (insn.Loop x) h = simp (h.own 0 (omega arith), h.own 1 (omega arith))
     entries_fine (insn.New x y) h = simp (h.own 0 (omega arith), h.own 1 (omega arith))
+    entries_fine (insn.Cells x y) h = simp (h.own 0 (omega arith), low count_label (omega arith), h.own 1 (omega arith), low pop_label (omega arith), h.own 2 (omega arith))
     entries_fine i h = simp (h.own 0 (omega arith))

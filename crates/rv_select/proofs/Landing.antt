@@ -5,8 +5,8 @@ use Rattle.fy_base.specs.declared.data.Datum.{Datum}
 use Rattle.rv_insn.specs.declared.events.Event.TheVariants as event
 use Rattle.pe_code.specs.declared.code.PeCode.{PeCode}
 use Rattle.pe_code.specs.Valid.{LeadsTo}
-use Rattle.pe_machine.specs.States.{Pointer, code_at, value, completed, PeContext}
-use Rattle.pe_items.specs.Items.{Item, context, address_on, ItemState}
+use Rattle.pe_machine.specs.States.{Pointer, Sequence, code_at, value, completed, PeContext}
+use Rattle.pe_items.specs.Items.{Item, context, sequence, address_on, ItemState}
 use Rattle.rv_word.specs.declared.micros.Register.TheVariants.{Top, Context, First}
 use Rattle.rv_word.specs.Word.{Data, Code, stops, word_address, block}
 use Rattle.rv_runtime.specs.Routines.{exhausted}
@@ -14,7 +14,7 @@ use Rattle.rv_operators.specs.Operators.{word_of}
 use Rattle.rv_operators.specs.Laws.{IsDatum}
 use Rattle.rv_select.specs.Numbers.{meet, label_of, entry_word}
 use Rattle.rv_select.specs.Blocks.{open_context, push, push_frame}
-use Rattle.rv_select.specs.Layout.{word_in, frame_word, frames_from, HasParts, ContextIsLaid, HasItems, HoldsItems}
+use Rattle.rv_select.specs.Layout.{word_in, frame_word, frames_from, HasParts, ContextIsLaid, SequenceIsLaid, HasItems, HoldsItems}
 use Rattle.rv_select.proofs.Runs.{Later, known, wider}
 use Rattle.rv_select.proofs.Wp.{Wp, at, with_value}
 use Rattle.rv_select.proofs.Values.{moves, moves_on}
@@ -51,12 +51,16 @@ has_more code is c outside m n h e g le =
     let k = has_same code is m n e h in
     record { foot = k.foot; fits = (let z = e.size in omega arith); few = k.few; laid = (g, k.laid) }
 
+-- with the cells of a sequence on the newest context
+pub has_cells : (code : PeCode) (is : List Item) (c : Sequence) (m : List ℕ) → HasItems code m is → SequenceIsLaid code m is c → address_on is + length c.values ≤ length m → HasItems code m (sequence c ∷ is)
+has_cells code is c m h laid le = record { foot = h.foot; fits = omega arith; few = h.few; laid = (laid, h.laid) }
+
 module _ (code : PeCode) (w : Code) where
   pub went_code : (newest : ℕ) (is : List Item) (p : Pointer) (depth : ℕ) (e : Data) (input output : Bytes) (size : ℕ) → HoldsItems code newest is e → e.named.frame ≡ frame_word p.frame
       → LeadsTo code depth p.address → frames_from is p.frame ≡ Some depth → Keeps input output size e
       → IsAt code w (record { focus = code_at p; newest = newest; items = is }) input output size (record { rest = block w (label_of code p.address); held = e })
   went_code newest is p depth e input output size h f leads deep k = record {
-    stands = record { items = h; focus = record { depth = depth; leads = leads; deep = deep; frame = f; at = refl } };
+    stands = inl (record { items = h; focus = record { depth = depth; leads = leads; deep = deep; frame = f; at = refl } });
     input_is = k.input_is;
     output_is = k.output_is;
     size_is = k.size_is;
@@ -65,7 +69,7 @@ module _ (code : PeCode) (w : Code) where
   pub went_value : (newest : ℕ) (is : List Item) (v : Datum) (e : Data) (input output : Bytes) (size : ℕ) → HoldsItems code newest is e → e.named.datum ≡ word_of v → IsDatum v → Keeps input output size e
       → IsAt code w (record { focus = value v; newest = newest; items = is }) input output size (record { rest = block w meet; held = e })
   went_value newest is v e input output size h d good k = record {
-    stands = record { items = h; focus = record { datum = d; good = good; at = refl } };
+    stands = inl (record { items = h; focus = record { datum = d; good = good; at = refl } });
     input_is = k.input_is;
     output_is = k.output_is;
     size_is = k.size_is;
@@ -74,7 +78,7 @@ module _ (code : PeCode) (w : Code) where
   pub went_completed : (newest : ℕ) (is : List Item) (e : Data) (input output : Bytes) (size : ℕ) → HoldsItems code newest is e → Keeps input output size e
       → IsAt code w (record { focus = completed; newest = newest; items = is }) input output size (record { rest = block w meet; held = e })
   went_completed newest is e input output size h k = record {
-    stands = record { items = h; focus = refl };
+    stands = inl (record { items = h; focus = refl });
     input_is = k.input_is;
     output_is = k.output_is;
     size_is = k.size_is;

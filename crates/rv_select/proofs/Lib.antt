@@ -9,8 +9,12 @@ pub mod Landing
 pub mod Making
 pub mod Reaching
 pub mod Entering
+pub mod Asking
+pub mod Indexing
 pub mod Executing
 pub mod Meeting
+pub mod Filling
+pub mod Elements
 pub mod Operating
 pub mod Step
 pub mod Placed

@@ -16,7 +16,7 @@ use Rattle.rv_runtime.specs.Routines.{make_frame}
 use Rattle.rv_runtime.specs.Laws.{IsFrameBegun, Makes}
 use Rattle.rv_select.specs.Numbers.{go, label_of, entry_number, entry_word, column_word}
 use Rattle.rv_select.specs.Blocks.{open_frame, bind}
-use Rattle.rv_select.specs.Layout.{word_in, frame_word, frames_from, address_found, column, payload, IsGoodThunk, IsGoodBinding, HasThird, HasItems, HoldsItems}
+use Rattle.rv_select.specs.Layout.{word_in, frame_word, frames_from, address_found, column, payload, IsGoodThunk, IsGoodBinding, HasThird, LeavesBelow, HasItems, HoldsItems}
 use Rattle.rv_select.proofs.Runs.{Reach, Later, wider, known_later}
 use Rattle.rv_select.proofs.Wp.{Wp, with_value, by_block}
 use Rattle.rv_select.proofs.Values.{moves, moves_on}
@@ -31,6 +31,7 @@ pub record IsBound (code : PeCode) (m : List ℕ) (depths : Option ℕ → Optio
   pub column_is : word_in m x 0 ≡ column_word (column code (handed_on x b))
   pub payload_is : word_in m x 1 ≡ payload (handed_on x b)
   pub third : HasThird b (word_in m x 2)
+  pub below : LeavesBelow b x
   pub good : IsGoodBinding code depths b
 
 -- so does its display
@@ -51,6 +52,7 @@ grown code is b d around m n h bound deep same display room =
           column_is = same.under (address_on is + 0) (omega arith) ∙ bound.column_is;
           payload_is = same.under (address_on is + 1) (omega arith) ∙ bound.payload_is;
           third = subst (HasThird b) (sym (same.under (address_on is + 2) (omega arith))) bound.third;
+          below = bound.below;
           display = display;
           depth_is = deep;
           good = bound.good;
@@ -194,7 +196,7 @@ module _ (code : PeCode) (w : Code) (sel : IsSelected code w) (help : Helpers) w
               same_then (address_on is) e.words n1 n2 (same_wrote (address_on is) e.words n1 (address_on is + 0) e.named.first w1 (omega arith)) (same_wrote (address_on is) n1 n2 (address_on is + 1) e.named.second w2 (omega arith)) in
               framed newest is (to_thunk t) y n e.input e.output (length e.words) d around (record e { words = n2 })
               (record { newest_is = h.newest_is; top_is = h.top_is; memory = has_same code is e.words n2 same h.memory; bytes = h.bytes }) f
-              (record { column_is = unwritten n1 n2 (address_on is) 1 0 e.named.second (column_word (column code t)) w2 (λ q. omega (arith, q)) (w1.here ∙ first); payload_is = w2.here ∙ second; third = tt; good = good })
+              (record { column_is = unwritten n1 n2 (address_on is) 1 0 e.named.second (column_word (column code t)) w2 (λ q. omega (arith, q)) (w1.here ∙ first); payload_is = w2.here ∙ second; third = tt; below = tt; good = good })
               deep most leads (let z = same.size in omega arith) (record { input_is = refl; output_is = refl; size_is = same.size }) cost,
         ),
       ),

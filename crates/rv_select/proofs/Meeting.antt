@@ -63,7 +63,7 @@ pub record IsMet (code : PeCode) (older : List Item) (content : PeContext) (outs
   pub bytes : AreBytes e.input
 
 -- the least integers are -2 ^ 63 and above
-negative_small : (n : ℕ) → is_int (negsuc n) ≡ true → suc n ≤ 2 ^ 63
+pub negative_small : (n : ℕ) → is_int (negsuc n) ≡ true → suc n ≤ 2 ^ 63
 negative_small n h = let le = leb-true n (2 ^ 63 - 1) (and_parts (leb n (2 ^ 63 - 1)) true h).0 in omega arith
 
 -- where it is left
@@ -483,7 +483,7 @@ module _ (code : PeCode) (w : Code) (sel : IsSelected code w) (help : Helpers) (
           let enough = frame_room d in
           let same1 = same_wrote y e.words n1 (y + 0) (entry_word pop_entry) w1 (omega arith) in
           let out = unwritten e.words n1 y 0 1 (entry_word pop_entry) (word_address outside) w1 (λ q. omega (arith, q)) met.here.outside_is in
-          let memory1 = has_more code older (drop_c 0) outside e.words n1 met.memory same1 (record { outside_is = out; parts = w1.here }) met.room in
+          let memory1 = has_more code older (drop_c 0) outside e.words n1 met.memory same1 (record { outside_is = out; parts = inl w1.here }) met.room in
           let same2 = same_wrote z n1 n2 (z + 0) (column_word cell_column) w2 (omega arith) in
           let same3 = same_wrote z n2 n3 (z + 1) (word_address z) w3 (omega arith) in
           let same4 = same_wrote z n3 n4 (z + 2) e.named.datum w4 (omega arith) in
@@ -496,6 +496,7 @@ module _ (code : PeCode) (w : Code) (sel : IsSelected code w) (help : Helpers) (
             column_is = unwritten n3 n4 z 2 0 e.named.datum (column_word cell_column) w4 (λ q. omega (arith, q)) (unwritten n2 n3 z 1 0 (word_address z) (column_word cell_column) w3 (λ q. omega (arith, q)) w2.here);
             payload_is = unwritten n3 n4 z 2 1 e.named.datum (word_address z) w4 (λ q. omega (arith, q)) w3.here;
             third = w4.here ∙ is;
+            below = tt;
             good = good;
           })
           (frames_more (context (drop_c 0) outside) older body.frame d deep) most leads (omega arith) (record { input_is = keeps.input_is; output_is = keeps.output_is; size_is = size ∙ keeps.size_is }) (omega arith)

@@ -5,6 +5,7 @@ use Rattle.std.specs.Option.{ForSome}
 use Rattle.std.specs.List.{list_all}
 use Rattle.std.proofs.lemmas.Bool.{and_from, and_parts, cond_both, lt-ltb, ltb-true}
 use Rattle.std.proofs.lemmas.List.Folds.{list_all-append}
+use Rattle.fy_base.specs.declared.data.FaultKind.TheVariants.{Range}
 use Rattle.fy_base.specs.declared.data.UnOp.{UnOp}
 use Rattle.fy_base.specs.declared.data.UnOp.TheVariants.{Neg, Chr}
 use Rattle.fy_base.specs.declared.data.BinOp.{BinOp}
@@ -16,9 +17,10 @@ use Rattle.pe_code.specs.Code.{variable_of}
 use Rattle.pe_frame.specs.Frames.{display_start}
 use Rattle.rv_word.specs.declared.micros.Register.TheVariants.{Frame, First}
 use Rattle.rv_word.specs.declared.micros.Micro.{Micro}
-use Rattle.rv_word.specs.declared.micros.Micro.TheVariants.{Get}
+use Rattle.rv_word.specs.declared.micros.Micro.TheVariants.{Get, Fault}
 use Rattle.rv_flow.specs.Emission.{is_near, are_near}
-use Rattle.rv_select.specs.Blocks.{behind, reach, open_frame, main_block, left_block, new_block, unary_fault_blocks, binary_fault_blocks, blocks_of}
+use Rattle.rv_select.specs.Numbers.{label_of, entry_number}
+use Rattle.rv_select.specs.Blocks.{behind, reach, open_frame, bind, main_block, left_block, new_block, unary_fault_blocks, binary_fault_blocks, blocks_of}
 
 both_near : (xs ys : List Micro) → are_near xs ≡ true → are_near ys ≡ true → are_near (xs ++ ys) ≡ true
 both_near xs ys h k = list_all-append is_near xs ys ∙ and_from (are_near xs) (are_near ys) h k
@@ -82,6 +84,8 @@ module _ (code : PeCode) (a d : ℕ) where
   all_are_near (insn.Op1 op x) h = unary_faults_are_near op
   all_are_near (insn.Op2 op x y) h = before_others (left_block code a d op y) (binary_fault_blocks code a d op) (left_is_near op y) (binary_faults_are_near op)
   all_are_near (insn.New x y) h = before_others (new_block code a d y) [] (frame_is_near d _ _) refl
+  all_are_near (insn.Cells x y) h =
+      before_others (bind d (label_of code y) (entry_number code y)) ((Fault Range a ∷ []) ∷ []) (frame_is_near d _ _) refl
   all_are_near (insn.Cond x y z) h = refl
   all_are_near (insn.Case x ys) h = refl
   all_are_near (insn.Seq x y) h = refl

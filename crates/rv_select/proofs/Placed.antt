@@ -1,5 +1,5 @@
 -- The code that is selected has the blocks, entries, words of the table and places that its labels and numbers say.
-use Rattle.std.proofs.Common.{◌≡◌, ℕ, zero, suc, ◌+◌, ◌*◌, ◌<◌, ◌≤◌, List, [], ◌∷◌, ◌++◌, length, take, Some, refl, ap, ◌∙◌, arith, length-append, mul-le-mul_right}
+use Rattle.std.proofs.Common.{◌≡◌, ℕ, zero, suc, ◌+◌, ◌*◌, ◌<◌, ◌≤◌, List, [], ◌∷◌, ◌++◌, length, take, Some, None, refl, ap, ◌∙◌, arith, length-append, mul-le-mul_right}
 use Rattle.std.proofs.lemmas.Option.{same_Some, slice_get-map}
 use Rattle.std.proofs.lemmas.List.{get_or_append_left, get_or-append-add, length-map}
 use Rattle.std.specs.Prelude.{slice_get, slice_index, slice_index_or}
@@ -161,7 +161,7 @@ entries_few [] = omega arith
 entries_few (i ∷ is) = let rest = entries_few is in let here = entry_count_few i.insn in omega arith
 
 -- the number of entries
-pub few_entries : (code : PeCode) → IsValid code → length (word_code code).entries ≤ 10 + 6 * length code.items
+pub few_entries : (code : PeCode) → IsValid code → length (word_code code).entries ≤ 15 + 6 * length code.items
 few_entries code valid =
     let total = entries_total code 0 code.items in
     let few = entries_few code.items in
@@ -266,6 +266,7 @@ module _ (code : PeCode) (valid : IsValid code) where
         let here : 0 + shape ≡ shape = omega arith in
         record { inside = omega arith; value = row_word code code.shapes 0 shape k lt inside ∙ ap (λ s. slice_index (row code s) k) here };
     few_rows = (let size = rows_length code code.shapes 0 in let few = valid.words in omega arith);
+    indexed = valid.asked 1 None (omega arith);
     places = λ a i h. slice_get-map (λ (j : PeItem). j.place) code.items a ∙ ap (option_map (λ (j : PeItem). j.place)) h;
     routines = record {
       meet_block = slice_index_or caller_blocks 0 [];

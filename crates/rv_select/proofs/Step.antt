@@ -1,5 +1,5 @@
 -- Each step of the machine of items is made by the word machine.
-use Rattle.std.proofs.Common.{◌≡◌, ℕ, zero, suc, ◌+◌, ◌*◌, ◌≤◌, List, [], ◌∷◌, All, Some, None, refl, sym, ap, ◌∙◌, subst, inr, arith}
+use Rattle.std.proofs.Common.{◌≡◌, ℕ, zero, suc, ◌+◌, ◌*◌, ◌≤◌, List, [], ◌∷◌, All, Some, None, ◌⊎◌, refl, sym, ap, ◌∙◌, subst, inl, inr, arith}
 use Rattle.std.proofs.lemmas.Bool.{cond-true}
 use Rattle.std.proofs.lemmas.Option.{same_Some, slice_get_within, get_or_from_slice_get}
 use Rattle.std.specs.Prelude.{slice_get, slice_index, slice_index_or, is_some}
@@ -27,9 +27,9 @@ use Rattle.rv_word.specs.declared.micros.Micro.TheVariants.{Set, Window, Get, Sa
 use Rattle.rv_word.specs.Word.{Data, Code, State, word_address, block}
 use Rattle.rv_operators.specs.Operators.{word_of, binary_label, unary_label}
 use Rattle.rv_operators.specs.Laws.{IsDatum}
-use Rattle.rv_select.specs.Numbers.{meet, first_operator, right_entries, pop_label, put_int_label, put_char_label, put_bool_label, pop_entry, put_int_entry, put_char_entry, put_bool_entry, label_of, entry_number, entry_word}
+use Rattle.rv_select.specs.Numbers.{meet, first_operator, right_entries, pop_label, count_label, put_int_label, put_char_label, put_bool_label, pop_entry, put_int_entry, put_char_entry, put_bool_entry, element_entry, label_of, entry_number, entry_word}
 use Rattle.rv_select.specs.Blocks.{behind, blocks_of, entries_of}
-use Rattle.rv_select.specs.Layout.{word_in, frame_word, frames_from, HoldsItems, RunsItem, HasFocus, Stands}
+use Rattle.rv_select.specs.Layout.{word_in, frame_word, frames_from, DropsCells, HoldsItems, RunsItem, HasFocus, Stands}
 use Rattle.rv_select.specs.Laws.{value_of, IsSelectable, frame_depth, deepest}
 use Rattle.rv_select.proofs.Runs.{Reach, wider}
 use Rattle.rv_select.proofs.Wp.{with_value, by_blocks}
@@ -38,6 +38,8 @@ use Rattle.rv_select.proofs.SelectedCode.{IsEntry, IsSelected}
 use Rattle.rv_select.proofs.Follows.{Helpers, Follows, step_cost}
 use Rattle.rv_select.proofs.Executing.{runs}
 use Rattle.rv_select.proofs.Meeting.{IsMet, Q, From, Kept, nothing, cut, popped, met_then, met_again, met_if, met_and, met_or, met_case, met_left, met_assign, met_while, met_new, met_put_int, met_put_char, met_put_truth}
+use Rattle.rv_select.proofs.Filling.{met_count, filling_steps}
+use Rattle.rv_select.proofs.Elements.{element_label, element_leads, met_element}
 use Rattle.rv_select.proofs.Operating.{met_op_1, met_op_r}
 
 -- ---- what holds of all holds of one
@@ -232,9 +234,21 @@ module _ (code : PeCode) (w : Code) (sel : IsSelected code w) (help : Helpers) (
           ((sound_of r.0 (record { insn = insn.Assign p.address r.2; depth = r.1; place = r.3 }) r.4.entry.stands).beside_it 0 0 (omega arith))
           r.4.deep r.4.frame is good (met_of (assign_c p) outside k older found) (kept_of k)))
       value_by (put_c kind) outside older found = put_by kind outside older found
-      value_by (cells_c d body at) outside older found = absurd found.here.parts
+      value_by (cells_c d body at) outside older found =
+          let r = found.here.parts in
+          let k = entry_number code r.0 + 1 in
+          let mv = datum_meets code v (cells_c d body at) (cut code w sel help e0 s older outside) in
+          wide mv 227 (omega arith)
+          (met_at mv older k count_label 200 found.spot found.within r.2.entry.entry (sel.entries r.0 (record { insn = insn.Cells r.1 body.address; depth = d; place = at }) 1 r.2.entry.stands (omega arith))
+          (met_count code w sel help e0 s older outside body (with_value First (entry_word k) e0) r.0 d r.1 at r.2.entry.stands r.2.deep r.2.frame refl (met_of (cells_c d body at) outside k older found) (kept_of k) v is good))
       value_by (fill_c n m d body at) outside older found = absurd found.here.parts
-      value_by (element_c wanted) outside older found = absurd found.here.parts
+      value_by (element_c wanted) outside older found =
+          let r = found.here.parts in
+          let k = element_entry wanted.is_written in
+          let mv = datum_meets code v (element_c wanted) (cut code w sel help e0 s older outside) in
+          wide mv 227 (omega arith)
+          (met_at mv older k (element_label wanted.is_written) 200 found.spot found.within r.0 (element_leads code w sel help e0 wanted.is_written)
+          (met_element code w sel help e0 s older outside wanted (with_value First (entry_word k) e0) r.1 (met_of (element_c wanted) outside k older found) (kept_of k) v is good))
       value_by _ outside older found = nothing code w sel help e0 (step_cost (deepest code.items)) meet e0 (omega arith)
 
       pub value_at : (o : Option FoundContext) → newest_of s ≡ o → From code w sel help e0 (answered (datum_meets code v) o s) (step_cost (deepest code.items)) meet e0
@@ -245,6 +259,23 @@ module _ (code : PeCode) (w : Code) (sel : IsSelected code w) (help : Helpers) (
 
     abbrev Ends : PeContext → ℕ → List Item → Type 0
     Ends c outside older = From code w sel help e0 (completion_meets c (cut code w sel help e0 s older outside)) (step_cost (deepest code.items)) meet e0
+
+    -- a cell's context is dropped, or that of a sequence
+    dropped_by : (n outside : ℕ) (older : List Item) → StandsAt code e0.words s.items s.newest (record { content = drop_c n; outside = outside; older = older })
+        → (word_in e0.words (address_on older) 0 ≡ entry_word pop_entry) ⊎ ((at : Place) × DropsCells code at (word_in e0.words (address_on older) 0)) → Ends (drop_c n) outside older
+    dropped_by n outside older found (inl is) =
+        let mv = completion_meets (drop_c n) (cut code w sel help e0 s older outside) in
+        wide mv 67 (omega arith)
+        (met_at mv older pop_entry pop_label 40 found.spot found.within is (sel.fixed 6 (omega arith))
+        (popped code w sel help e0 s older outside (drop_c n) (with_value First (entry_word pop_entry) e0) (met_of (drop_c n) outside pop_entry older found) (kept_of pop_entry)))
+    dropped_by n outside older found (inr p) =
+        let a = p.1.0 in
+        let mine = p.1.4 in
+        let k = entry_number code a + 3 in
+        let mv = completion_meets (drop_c n) (cut code w sel help e0 s older outside) in
+        wide mv 67 (omega arith)
+        (met_at mv older k pop_label 40 found.spot found.within mine.entry (sel.entries a _ 3 mine.stands (omega arith))
+        (popped code w sel help e0 s older outside (drop_c n) (with_value First (entry_word k) e0) (met_of (drop_c n) outside k older found) (kept_of k)))
 
     completed_by : (c : PeContext) (outside : ℕ) (older : List Item) → StandsAt code e0.words s.items s.newest (record { content = c; outside = outside; older = older }) → Ends c outside older
     completed_by (then_c q) outside older found =
@@ -270,11 +301,7 @@ module _ (code : PeCode) (w : Code) (sel : IsSelected code w) (help : Helpers) (
         wide mv 87 (omega arith)
         (met_at mv older k (label_of code loop.address + 1) 60 found.spot found.within r.3.entry.entry (sel.entries loop.address (record { insn = insn.Loop r.1; depth = r.0; place = r.2 }) 1 r.3.entry.stands (omega arith))
         (met_again code w sel help e0 s older outside (loop_c loop) loop (insn.Loop r.1) 1 (with_value First (entry_word k) e0) r.0 r.2 r.3.entry.stands (omega arith) refl r.3.deep r.3.frame (met_of (loop_c loop) outside k older found) (kept_of k)))
-    completed_by (drop_c n) outside older found =
-        let mv = completion_meets (drop_c n) (cut code w sel help e0 s older outside) in
-        wide mv 67 (omega arith)
-        (met_at mv older pop_entry pop_label 40 found.spot found.within found.here.parts (sel.fixed 6 (omega arith))
-        (popped code w sel help e0 s older outside (drop_c n) (with_value First (entry_word pop_entry) e0) (met_of (drop_c n) outside pop_entry older found) (kept_of pop_entry)))
+    completed_by (drop_c n) outside older found = dropped_by n outside older found found.here.parts
     completed_by (esc_c n) outside older found =
         let mv = completion_meets (esc_c n) (cut code w sel help e0 s older outside) in
         wide mv 67 (omega arith)
@@ -316,4 +343,8 @@ module _ (code : PeCode) (w : Code) (sel : IsSelected code w) (help : Helpers) (
       subst (λ (ms : List Micro). Reach w (Follows code w e (step_at code completed s)) (step_cost (deepest code.items)) (record { rest = ms; held = e })) (sym focus) (completed_at s e h (newest_of s) refl)
 
   pub step : (s : ItemState) (t : State) → Stands code w s t → Reach w (Follows code w t.held (item_step code s)) (step_cost (deepest code.items)) t
-  step s t h = step_by s s.focus t.rest t.held h.items h.focus
+  step s t (inl h) = step_by s s.focus t.rest t.held h.items h.focus
+  step s t (inr h) =
+      let i : PeItem = record { insn = insn.Cells h.first h.body.address; depth = h.depth; place = h.place } in
+      let deep : h.depth ≤ deepest code.items = deepest_bounds code.items h.a i h.stands in
+      filling_steps code w sel help s t h (step_cost (deepest code.items)) (omega arith) (sound_of h.a i h.stands)

@@ -1,6 +1,7 @@
 -- What the operations on registers compute where selected code uses them.
-use Rattle.std.proofs.Common.{◌≡◌, ◌≢◌, ℕ, ◌+◌, ◌*◌, ◌^◌, ◌<◌, ◌≤◌, true, false, arith}
+use Rattle.std.proofs.Common.{◌≡◌, ◌≢◌, ℕ, ◌+◌, ◌*◌, ◌^◌, ◌<◌, ◌≤◌, true, false, negsuc, arith}
 use Rattle.std.proofs.lemmas.Bool.{eqb-true, eqb-false, ltb-true, ltb-false, not-true, not-false}
+use Rattle.std.specs.Int.{cast_unsigned, w64}
 use Rattle.rv_insn.specs.Operations.{reg_value, imm_value, shift_value, is_taken}
 use Rattle.rv_insn.specs.declared.instructions.RegOp.TheVariants.{Add}
 use Rattle.rv_insn.specs.declared.instructions.ImmOp.TheVariants.{Addi}
@@ -18,6 +19,16 @@ moves a v is lt = omega arith
 pub moves_on : (a j z c : ℕ) → a ≡ word_address j → 8 * z ≡ 8 * j + c → z ≤ 2 ^ 28 → imm_value Addi a c ≡ word_address z
 unfolding imm_value
 moves_on a j z c is on le = omega arith
+
+-- a number so many more
+pub moves_by : (a c z : ℕ) → a + c ≡ z → z < 2 ^ 64 → imm_value Addi a c ≡ z
+unfolding imm_value
+moves_by a c z is lt = omega arith
+
+-- the address of the word two words before
+pub moves_back : (a z : ℕ) → a ≡ word_address (z + 2) → z ≤ 2 ^ 28 → imm_value Addi a (cast_unsigned w64 (negsuc 15)) ≡ word_address z
+unfolding imm_value
+moves_back a z is le = omega arith
 
 pub adds : (a b c : ℕ) → a + b ≡ c → c < 2 ^ 64 → reg_value Add a b ≡ c
 unfolding reg_value

@@ -68,7 +68,7 @@ module _ (code : PeCode) (help : Helpers) (ok : IsSelectable code) (size : ℕ) 
                   is = refl;
                   tracks = record {
                     standing = refl;
-                    stands = record {
+                    stands = inl (record {
                       items = record {
                         newest_is = refl;
                         top_is = refl;
@@ -76,7 +76,7 @@ module _ (code : PeCode) (help : Helpers) (ok : IsSelectable code) (size : ℕ) 
                         bytes = out.bytes;
                       };
                       focus = record { depth = 0; leads = ok.valid.program; deep = refl; frame = refl; at = refl };
-                    };
+                    });
                     same = record { output = refl; input = refl };
                     size_is = w1.size ∙ words;
                   };

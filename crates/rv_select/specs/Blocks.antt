@@ -1,5 +1,6 @@
 -- The micro-code of push-enter instructions: what each does on the stack of words, and what its contexts do when they are met.
-use Rattle.std.specs.Prelude.{ℕ, zero, suc, ◌+◌, ◌-◌, ◌*◌, pos, nat_lt, if◌then◌else◌, List, [], ◌∷◌, ◌++◌, length, map}
+use Rattle.std.specs.Prelude.{ℕ, zero, suc, ◌+◌, ◌-◌, ◌*◌, ◌^◌, pos, negsuc, true, false, nat_lt, if◌then◌else◌, List, [], ◌∷◌, ◌++◌, length, map, Some, None}
+use Rattle.std.specs.declared.option.Option.{Option}
 use Rattle.fy_base.specs.declared.data.UnOp.{UnOp}
 use Rattle.fy_base.specs.declared.data.UnOp.TheVariants.{Neg, Chr}
 use Rattle.fy_base.specs.declared.data.BinOp.{BinOp}
@@ -22,7 +23,7 @@ use Rattle.rv_word.specs.declared.micros.Micro.{Micro}
 use Rattle.rv_word.specs.declared.micros.Micro.TheVariants.{Set, Imm, Shift, Alu, Window, Get, Save, Look, Room, Test, Jump, Enter, Put, Take, End, Fault}
 use Rattle.rv_runtime.specs.Routines.{exhausted, put_true, put_false, put_int, make_frame}
 use Rattle.rv_operators.specs.Operators.{word_of, unary_label, binary_label}
-use Rattle.rv_select.specs.Numbers.{meet, first_operator, pop_entry, put_int_entry, put_char_entry, put_bool_entry, end_entry, pop_label, label_of, entry_number, entry_word, column_word, datum_column, cell_column, escape_column, column_of, row_address}
+use Rattle.rv_select.specs.Numbers.{meet, first_operator, read_label, write_label, leave_label, pop_label, count_label, no_count_label, fill_label, filled_label, outside_label, no_room_label, pop_entry, put_int_entry, put_char_entry, put_bool_entry, end_entry, element_entry, label_of, entry_number, entry_word, column_word, datum_column, cell_column, escape_column, sequence_column, column_of, row_address}
 
 -- ---- shared parts
 
@@ -131,8 +132,7 @@ module _ (code : PeCode) (a d : ℕ) where
   main_block (insn.LetData v y) = Set First (column_word datum_column) ∷ Set Second (word_of v) ∷ bind_body y
   main_block (insn.Knot n y) = Set First (column_word (column_of code n)) ∷ move Second Frame ∷ bind_body y
   main_block insn.Done = Jump meet ∷ []
-  -- no image makes a sequence of cells
-  main_block (insn.Cells x y) = Jump meet ∷ []
+  main_block (insn.Cells x y) = push_frame (own_entry 1) (label_of code x)
   main_block (insn.Seq x y) = push_frame (own_entry 1) (label_of code x)
   main_block (insn.Assign x y) = push_frame (own_entry 1) (label_of code y)
   main_block (insn.While x y) = push_frame (own_entry 1) (label_of code x)
@@ -213,6 +213,7 @@ module _ (code : PeCode) (a d : ℕ) where
   blocks_of (insn.While x y) = main_block (insn.While x y) ∷ while_block y ∷ again_block ∷ []
   blocks_of (insn.Loop x) = main_block (insn.Loop x) ∷ again_block ∷ []
   blocks_of (insn.New x y) = main_block (insn.New x y) ∷ new_block y ∷ []
+  blocks_of (insn.Cells x y) = main_block (insn.Cells x y) ∷ bind_body y ∷ (Fault fault.Range a ∷ []) ∷ []
   blocks_of i = main_block i ∷ []
 
   abbrev pub unary_entries : UnOp → List ℕ
@@ -240,7 +241,65 @@ module _ (code : PeCode) (a d : ℕ) where
   entries_of (insn.While x y) = block_label 0 ∷ block_label 1 ∷ block_label 2 ∷ []
   entries_of (insn.Loop x) = block_label 0 ∷ block_label 1 ∷ []
   entries_of (insn.New x y) = block_label 0 ∷ block_label 1 ∷ []
+  entries_of (insn.Cells x y) = block_label 0 ∷ count_label ∷ block_label 1 ∷ pop_label ∷ block_label 2 ∷ []
   entries_of i = block_label 0 ∷ []
+
+-- ---- sequences of cells
+
+-- While its cells are made, Second has how many a sequence is to have, Datum how many there are, and the frame around is in use; the cells stand on the
+-- context. A sequence's payload is the address of word 2 of that context, which has their number, so that cell i is word 2 behind word i of it. The entry in
+-- word 0 of the context is an item's own, and one of those behind it tells the item's fault.
+
+-- their number meets the context, whose entry is in First: below 0 it is a word from 2 ^ 63 on
+abbrev pub count_block : List Micro
+count_block =
+    Set Second (2 ^ 63) ∷ Test Bgeu Datum Second no_count_label
+    ∷ Window Context 3 ∷ Get Frame Context 2 ∷ Save Context 2 Datum ∷ behind First First 1 ∷ Save Context 0 First ∷ behind Top Context words_of_context
+    ∷ move Second Datum ∷ move Datum Zero ∷ Test Bne Second Zero fill_label ∷ Jump filled_label ∷ []
+
+abbrev pub no_count_block : List Micro
+no_count_block = behind First First 3 ∷ Enter First ∷ []
+
+-- one cell more
+abbrev pub fill_block : List Micro
+fill_block =
+    Room 1 exhausted ∷ Window Top 1 ∷ Save Top 0 Zero ∷ behind Top Top 1 ∷ Imm Addi Datum Datum (pos 1) ∷ Test Bne Datum Second fill_label ∷ Jump filled_label ∷ []
+
+-- all are there: the context becomes the one that drops them, and the item goes on with the binding of the sequence in First and Second
+abbrev pub filled_block : List Micro
+filled_block =
+    Window Context 1 ∷ Get Third Context 0 ∷ behind First Third 1 ∷ Save Context 0 First ∷ behind Second Context 2 ∷ Set First (column_word sequence_column)
+    ∷ Enter Third ∷ []
+
+-- an index meets the context of the sequence, and the cell is entered at a label as a frame's would be
+abbrev pub element_block : ℕ → List Micro
+element_block label =
+    Window Context 3 ∷ Get First Context 2 ∷ move Top Context ∷ Get Context Context 1 ∷ Window First 1 ∷ Get Second First 0
+    ∷ Test Bgeu Datum Second outside_label ∷ Shift Slli Datum Datum 3 ∷ Alu reg.Add Frame First Datum ∷ Jump label ∷ []
+
+-- there is no such cell
+abbrev pub outside_block : List Micro
+outside_block = Imm Addi First First (negsuc 15) ∷ Window First 1 ∷ Get First First 0 ∷ behind First First 1 ∷ Enter First ∷ []
+
+-- the newest context asks for the length
+abbrev pub length_block : List Micro
+length_block = Window Context 2 ∷ Get Context Context 1 ∷ Window Frame 1 ∷ Get Datum Frame 0 ∷ Jump meet ∷ []
+
+-- an index is taken, and entered through a row of the table under its own context
+abbrev pub indexing : (entry row : ℕ) → List Micro
+indexing entry row =
+    move Datum Frame ∷ Window Context words_of_context ∷ Get Second Context 2 ∷ Get Frame Context 3 ∷ Get Context Context 1
+    ∷ Room words_of_context no_room_label ∷ Window Top words_of_context ∷ Set First (entry_word entry) ∷ Save Top 0 First ∷ Save Top 1 Context ∷ Save Top 2 Datum
+    ∷ move Context Top ∷ behind Top Top words_of_context ∷ Set Third row ∷ Alu reg.Add Second Second Third ∷ Look Second Second ∷ Enter Second ∷ []
+
+-- at a shape; where indices have none, no sequence is entered so
+abbrev pub index_block : PeCode → ℕ → Option ℕ → List Micro
+index_block code entry (Some shape) = indexing entry (row_address code shape)
+index_block code entry None = Jump meet ∷ []
+
+-- without room for that context; an escape leaves it at once, and needs none
+abbrev pub no_room_block : List Micro
+no_room_block = Set First (column_word escape_column) ∷ Test Bne Second First exhausted ∷ Jump leave_label ∷ []
 
 -- ---- the blocks that every program has
 
@@ -253,6 +312,12 @@ start_block code =
 -- a datum or a finished command meets the newest context, by the context's entry; and the code whose entry is in Datum goes on
 abbrev pub caller_blocks : List (List Micro)
 caller_blocks = (Window Context 1 ∷ Get First Context 0 ∷ Enter First ∷ []) ∷ (Enter Datum ∷ []) ∷ []
+
+-- those of sequences of cells
+abbrev pub sequence_blocks : PeCode → List (List Micro)
+sequence_blocks code =
+    count_block ∷ no_count_block ∷ fill_block ∷ filled_block ∷ element_block read_label ∷ element_block write_label ∷ outside_block ∷ length_block ∷ no_room_block
+    ∷ index_block code (element_entry false) code.sequences.value ∷ index_block code (element_entry true) code.sequences.value ∷ []
 
 abbrev pub own_blocks : PeCode → List (List Micro)
 own_blocks code =
@@ -267,4 +332,4 @@ own_blocks code =
     ∷ (answer ++ (Jump put_int ∷ []))
     ∷ (answer ++ (Put Datum ∷ Jump meet ∷ []))
     ∷ (answer ++ (Test Bne Datum Zero put_true ∷ Jump put_false ∷ []))
-    ∷ []
+    ∷ sequence_blocks code

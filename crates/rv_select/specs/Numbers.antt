@@ -1,5 +1,5 @@
 -- The numbers by which micro-code names blocks, entries and words of the table.
-use Rattle.std.specs.Prelude.{ℕ, suc, ◌+◌, ◌*◌, nat_eq, if◌then◌else◌, List, [], ◌∷◌, length, take}
+use Rattle.std.specs.Prelude.{ℕ, suc, ◌+◌, ◌*◌, Bool, true, false, nat_eq, if◌then◌else◌, List, [], ◌∷◌, length, take}
 use Rattle.fy_base.specs.declared.data.UnOp.{UnOp}
 use Rattle.fy_base.specs.declared.data.UnOp.TheVariants.{Neg, Chr}
 use Rattle.fy_base.specs.declared.data.BinOp.{BinOp}
@@ -61,9 +61,45 @@ put_char_label = first_own + 8
 abbrev pub put_bool_label : ℕ
 put_bool_label = first_own + 9
 
+-- of sequences of cells: their number is met, or is below 0; one more cell is made; all are made
+abbrev pub count_label : ℕ
+count_label = first_own + 10
+
+abbrev pub no_count_label : ℕ
+no_count_label = first_own + 11
+
+abbrev pub fill_label : ℕ
+fill_label = first_own + 12
+
+abbrev pub filled_label : ℕ
+filled_label = first_own + 13
+
+-- an index is met, of a cell that is read or written, or of no cell
+abbrev pub read_element_label : ℕ
+read_element_label = first_own + 14
+
+abbrev pub write_element_label : ℕ
+write_element_label = first_own + 15
+
+abbrev pub outside_label : ℕ
+outside_label = first_own + 16
+
+-- a sequence is entered: for its length; for a cell, by an index for whose context there is no room; for a cell that is read or written
+abbrev pub length_label : ℕ
+length_label = first_own + 17
+
+abbrev pub no_room_label : ℕ
+no_room_label = first_own + 18
+
+abbrev pub index_read_label : ℕ
+index_read_label = first_own + 19
+
+abbrev pub index_write_label : ℕ
+index_write_label = first_own + 20
+
 -- the first label of the items
 abbrev pub first_item : ℕ
-first_item = first_own + 10
+first_item = first_own + 21
 
 -- ---- the entries that every program has
 
@@ -97,10 +133,31 @@ put_char_entry = 8
 abbrev pub put_bool_entry : ℕ
 put_bool_entry = 9
 
+abbrev pub read_element_entry : ℕ
+read_element_entry = 10
+
+abbrev pub write_element_entry : ℕ
+write_element_entry = 11
+
+abbrev pub length_entry : ℕ
+length_entry = 12
+
+abbrev pub index_read_entry : ℕ
+index_read_entry = 13
+
+abbrev pub index_write_entry : ℕ
+index_write_entry = 14
+
 -- their labels
 abbrev pub fixed_entries : List ℕ
 fixed_entries =
-    start_label ∷ end_label ∷ datum_label ∷ read_label ∷ write_label ∷ leave_label ∷ pop_label ∷ put_int_label ∷ put_char_label ∷ put_bool_label ∷ []
+    start_label ∷ end_label ∷ datum_label ∷ read_label ∷ write_label ∷ leave_label ∷ pop_label ∷ put_int_label ∷ put_char_label ∷ put_bool_label
+    ∷ read_element_label ∷ write_element_label ∷ length_label ∷ index_read_label ∷ index_write_label ∷ []
+
+-- that of the context of an index, by whether the cell is written
+abbrev pub element_entry : Bool → ℕ
+element_entry true = write_element_entry
+element_entry false = read_element_entry
 
 -- ---- how many blocks and entries an instruction has
 
@@ -135,9 +192,11 @@ block_count (insn.Assign x y) = 2
 block_count (insn.While x y) = 3
 block_count (insn.Loop x) = 2
 block_count (insn.New x y) = 2
+block_count (insn.Cells x y) = 3
 block_count _ = 1
 
--- its own entry first, then those of its contexts, each operator's followed by those of its faults; of a case then those of its parts
+-- its own entry first, then those of its contexts, each operator's followed by those of its faults; of a case then those of its parts.
+-- Of a sequence of cells: of its number's context, of that while its cells are made, of that which drops them, and of its fault
 abbrev pub entry_count : PeInsn → ℕ
 entry_count (insn.Op1 op x) = 2 + unary_faults op
 entry_count (insn.Op2 op x y) = 2 + right_entries op
@@ -148,6 +207,7 @@ entry_count (insn.Assign x y) = 2
 entry_count (insn.While x y) = 3
 entry_count (insn.Loop x) = 2
 entry_count (insn.New x y) = 2
+entry_count (insn.Cells x y) = 5
 entry_count _ = 1
 
 abbrev pub blocks_in : List PeItem → ℕ
@@ -171,7 +231,7 @@ entry_number code a = length fixed_entries + entries_in (take a code.items)
 abbrev pub entry_word : ℕ → ℕ
 entry_word k = 8 * k
 
--- how many words a row of the table has: those of a datum, of a cell, of an escape and of a form to come, and one for each thunk node
+-- how many words a row of the table has: those of a datum, of a cell, of an escape and of a sequence of cells, and one for each thunk node
 abbrev pub row_words : PeCode → ℕ
 row_words code = 4 + length code.thunks
 
@@ -193,6 +253,9 @@ cell_column = 1
 
 abbrev pub escape_column : ℕ
 escape_column = 2
+
+abbrev pub sequence_column : ℕ
+sequence_column = 3
 
 abbrev pub column_of : PeCode → ℕ → ℕ
 column_of code node = 4 + place_in code.thunks node

@@ -9,7 +9,7 @@ use Rattle.rv_word.specs.declared.micros.Micro.{Micro}
 use Rattle.rv_word.specs.Word.{Code}
 use Rattle.rv_runtime.specs.Routines.{routine_blocks}
 use Rattle.rv_operators.specs.Operators.{operator_blocks}
-use Rattle.rv_select.specs.Numbers.{meet, first_operator, fixed_entries, end_entry, datum_entry, read_entry, write_entry, leave_entry, entry_number, entry_word}
+use Rattle.rv_select.specs.Numbers.{meet, first_operator, fixed_entries, end_entry, datum_entry, read_entry, write_entry, leave_entry, length_entry, index_read_entry, index_write_entry, entry_number, entry_word}
 use Rattle.rv_select.specs.Blocks.{blocks_of, entries_of, caller_blocks, own_blocks}
 
 -- the blocks of the items from an address on
@@ -31,10 +31,17 @@ node_word code None = entry_word end_entry
 abbrev pub cell_word : PeCode → ℕ → ℕ
 cell_word code shape = if is_assignment code.assignment shape then entry_word write_entry else entry_word read_entry
 
+-- the entry of a sequence of cells at a shape, by what is asked of it; one of which nothing is asked is never entered there
+abbrev pub sequence_word : PeCode → ℕ → ℕ
+sequence_word code shape =
+    if is_assignment code.sequences.element shape then entry_word index_read_entry
+    else (if is_assignment code.sequences.assigned_element shape then entry_word index_write_entry
+    else (if is_assignment code.sequences.row_length shape then entry_word length_entry else entry_word end_entry))
+
 -- the row of a shape
 abbrev pub row : PeCode → ℕ → List ℕ
 row code shape =
-    entry_word datum_entry ∷ cell_word code shape ∷ entry_word leave_entry ∷ entry_word end_entry
+    entry_word datum_entry ∷ cell_word code shape ∷ entry_word leave_entry ∷ sequence_word code shape
     ∷ map (λ node. node_word code (entry_of code node shape)) code.thunks
 
 -- the rows of so many shapes, from one on

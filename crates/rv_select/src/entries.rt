@@ -8,8 +8,9 @@ ghost use Rattle.rv_select.specs.Emission.{entries_at};
 ghost use Rattle.rv_select.specs.Program.{word_code};
 
 use crate::fixed::{
-    DATUM_LABEL, END_LABEL, FIRST_OPERATOR, LEAVE_LABEL, POP_LABEL, PUT_BOOL_LABEL, PUT_CHAR_LABEL,
-    PUT_INT_LABEL, READ_LABEL, START_LABEL, WRITE_LABEL,
+    COUNT_LABEL, DATUM_LABEL, END_LABEL, FIRST_OPERATOR, INDEX_READ_LABEL, INDEX_WRITE_LABEL,
+    LEAVE_LABEL, LENGTH_LABEL, POP_LABEL, PUT_BOOL_LABEL, PUT_CHAR_LABEL, PUT_INT_LABEL,
+    READ_ELEMENT_LABEL, READ_LABEL, START_LABEL, WRITE_ELEMENT_LABEL, WRITE_LABEL,
 };
 use crate::numbers::Numbers;
 use crate::sites::Site;
@@ -49,6 +50,11 @@ fn fixed_labels(alloc: Global) -> Result<Vec<u32>, OutOfMemory>
         PUT_INT_LABEL,
         PUT_CHAR_LABEL,
         PUT_BOOL_LABEL,
+        READ_ELEMENT_LABEL,
+        WRITE_ELEMENT_LABEL,
+        LENGTH_LABEL,
+        INDEX_READ_LABEL,
+        INDEX_WRITE_LABEL,
     ];
     Ok(labels.to_vec(alloc)?)
 }
@@ -62,6 +68,10 @@ fn add_entries(labels: &mut Vec<u32>, site: &Site<'_, '_>, insn: &PeInsn) -> Res
         PeInsn::Op2(op, _, _) => add_binary(labels, site, *op),
         PeInsn::Case(_, parts) => add_parts(labels, site, parts.as_slice()),
         PeInsn::While(_, _) => add_both(labels, site.label(1), site.label(2)),
+        PeInsn::Cells(_, _) => {
+            add_both(labels, COUNT_LABEL, site.label(1))?;
+            add_both(labels, POP_LABEL, site.label(2))
+        }
         PeInsn::Cond(_, _, _)
         | PeInsn::Seq(_, _)
         | PeInsn::Assign(_, _)

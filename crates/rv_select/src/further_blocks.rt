@@ -6,7 +6,9 @@ ghost use Rattle.rv_select.specs.Blocks.{again_block, answer_frame, assign_block
 ghost use Rattle.rv_select.specs.Emission.{Adds};
 
 use crate::fixed::{CELL_COLUMN, POP_ENTRY, POP_LABEL};
-use crate::parts::{add_answer_frame, add_open_frame, add_renew, word_of_entry, words_behind};
+use crate::parts::{
+    add_answer_frame, add_bind, add_open_frame, add_renew, word_of_entry, words_behind,
+};
 use crate::sites::Site;
 use fy_base::{BinOp, FaultKind, OutOfMemory, UnOp};
 use pe_code::PeInsn;
@@ -47,6 +49,10 @@ pub fn add_further(
         },
         PeInsn::Loop(_) => add_again(block, site),
         PeInsn::New(_, y) => add_new(block, site, *y),
+        PeInsn::Cells(_, y) => match number {
+            1 => add_bind(block, site.depth, site.start(*y)),
+            _ => add_fault(block, site, FaultKind::Range),
+        },
         _ => unreachable!(),
     }
 }

@@ -299,7 +299,8 @@ pub fn add_main(
         | PeInsn::Assign(_, x)
         | PeInsn::While(x, _)
         | PeInsn::Loop(x)
-        | PeInsn::New(x, _) => add_push_frame(block, site.entry(1), site.start(*x).label),
+        | PeInsn::New(x, _)
+        | PeInsn::Cells(x, _) => add_push_frame(block, site.entry(1), site.start(*x).label),
         PeInsn::Bind(body) => add_argument(block, site, *body),
         PeInsn::Pass(node, x) => add_pass(block, site, *node, *x),
         PeInsn::PassVar(variable, x) => add_pass_variable(block, site, *variable, *x),
@@ -309,8 +310,7 @@ pub fn add_main(
         PeInsn::Let(node, body) | PeInsn::Knot(node, body) => add_let(block, site, *node, *body),
         PeInsn::LetVar(variable, body) => add_let_variable(block, site, *variable, *body),
         PeInsn::LetData(value, body) => add_let_datum(block, site, *value, *body),
-        // No image makes a sequence of cells.
-        PeInsn::Done | PeInsn::Cells(..) => add_jump(block, MEET),
+        PeInsn::Done => add_jump(block, MEET),
         PeInsn::Escape(body) => add_escape(block, site, *body),
         PeInsn::Accept(body) => add_accept(block, site, *body),
         PeInsn::Put(kind, x) => add_push(block, put_entry(*kind), site.start(*x).label),

@@ -150,7 +150,7 @@ pub fn block_count(insn: &PeInsn) -> u32
     match insn {
         PeInsn::Op1(op, _) => 1 + unary_faults(*op),
         PeInsn::Op2(op, ..) => 2 + binary_faults(*op),
-        PeInsn::Case(..) | PeInsn::While(..) => 3,
+        PeInsn::Case(..) | PeInsn::While(..) | PeInsn::Cells(..) => 3,
         PeInsn::Cond(..)
         | PeInsn::Seq(..)
         | PeInsn::Assign(..)
@@ -172,6 +172,7 @@ pub fn entry_count(insn: &PeInsn) -> u32
         PeInsn::Op2(op, ..) => 3 + binary_faults(*op),
         PeInsn::Case(_, parts) => 2 + parts.len() as u32,
         PeInsn::While(..) => 3,
+        PeInsn::Cells(..) => 5,
         PeInsn::Cond(..)
         | PeInsn::Seq(..)
         | PeInsn::Assign(..)

@@ -1,10 +1,15 @@
 //! The table: where each thunk node, and each of the other bindings, is entered at each shape.
 
-ghost use Rattle.std.specs.Prelude.{◌≡◌, ◌++◌, IfOk, OnOk};
+ghost use Rattle.std.specs.Prelude.{◌≡◌, ◌++◌, if◌then◌else◌, IfOk, OnOk};
 ghost use Rattle.pe_code.specs.Code.{entry_of};
-ghost use Rattle.rv_select.specs.Program.{cell_word, node_word, row, word_code};
+ghost use Rattle.pe_machine.specs.Step.{is_assignment};
+ghost use Rattle.rv_select.specs.Numbers.{entry_word};
+ghost use Rattle.rv_select.specs.Program.{node_word, row, sequence_word, word_code};
 
-use crate::fixed::{DATUM_ENTRY, END_ENTRY, LEAVE_ENTRY, READ_ENTRY, WRITE_ENTRY};
+use crate::fixed::{
+    DATUM_ENTRY, END_ENTRY, INDEX_READ_ENTRY, INDEX_WRITE_ENTRY, LEAVE_ENTRY, LENGTH_ENTRY,
+    READ_ENTRY, WRITE_ENTRY,
+};
 use crate::numbers::Numbers;
 use crate::parts::word_of_entry;
 use fy_base::{DoubleList, OutOfMemory};
@@ -28,9 +33,14 @@ fn add_row(words: &mut Vec<u64>, numbers: &Numbers<'_>, shape: u32) -> Result<()
     let code = numbers.code();
     words.extend_from_slice(&[
         word_of_entry(DATUM_ENTRY),
-        word_of_cell(code, shape),
+        word_if(
+            code.assignment,
+            shape,
+            WRITE_ENTRY,
+            word_of_entry(READ_ENTRY),
+        ),
         word_of_entry(LEAVE_ENTRY),
-        word_of_entry(END_ENTRY),
+        word_of_sequence(code, shape),
     ])?;
     for node in code.thunks.as_slice() {
         words.push(word_of_node(numbers, *node, shape))?;
@@ -38,13 +48,29 @@ fn add_row(words: &mut Vec<u64>, numbers: &Numbers<'_>, shape: u32) -> Result<()
     Ok(())
 }
 
-// The entry of a cell: it is written where an assignment is asked for, and else read.
-fn word_of_cell(code: &PeCode, shape: u32) -> u64
-    ensures { result ≡ cell_word code.now shape }
+// The entry of a sequence of cells, by what is asked of it. One of which nothing is asked is never
+// entered there.
+fn word_of_sequence(code: &PeCode, shape: u32) -> u64
+    ensures { result ≡ sequence_word code.now shape }
 {
-    match code.assignment {
-        Some(assignment) if assignment == shape => word_of_entry(WRITE_ENTRY),
-        _ => word_of_entry(READ_ENTRY),
+    let shapes = code.sequences;
+    let length = word_if(
+        shapes.row_length,
+        shape,
+        LENGTH_ENTRY,
+        word_of_entry(END_ENTRY),
+    );
+    let written = word_if(shapes.assigned_element, shape, INDEX_WRITE_ENTRY, length);
+    word_if(shapes.element, shape, INDEX_READ_ENTRY, written)
+}
+
+// The word of an entry where the shape is the one that is meant, and else another.
+fn word_if(meant: Option<u32>, shape: u32, entry: u32, other: u64) -> u64
+    ensures { result ≡ (if is_assignment meant shape then entry_word entry else other) }
+{
+    match meant {
+        Some(number) if number == shape => word_of_entry(entry),
+        _ => other,
     }
 }
 

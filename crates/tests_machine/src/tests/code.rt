@@ -159,7 +159,7 @@ const ITEMS: &[(Part, Part, [u32; 3], bool)] = &[
     (Part::Let(7), Part::UseVar(0, 0), [0, 1, 1], false),
     (Part::Case(2), Part::Done, [0, 0, 0], false),
     (Part::New(1), Part::UseVar(0, 0), [0, 1, 0], true),
-    (Part::Cells(1), Part::UseVar(0, 0), [0, 1, 0], false),
+    (Part::Cells(1), Part::UseVar(0, 0), [0, 1, 0], true),
 ];
 
 #[test]

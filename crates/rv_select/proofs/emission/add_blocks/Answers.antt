@@ -12,5 +12,10 @@ returns c =
     (blocks_before c.in_ok-add_operators.ensures
     (blocks_before c.in_ok-add_ends.ensures
     (blocks_before (c.in_ok-add_bindings.ensures numbers)
-    (blocks_before (c.in_ok-add_output.ensures numbers) last (omega arith)) (omega arith)) (omega arith)) (omega arith)) (omega arith)) (omega arith))
+    (blocks_before (c.in_ok-add_output.ensures numbers)
+    (blocks_before (c.in_ok-add_counts.ensures numbers)
+    (blocks_before (c.in_ok-add_filling.ensures numbers)
+    (blocks_before (c.in_ok-add_elements.ensures numbers)
+    (blocks_before c.in_ok-add_index.ensures
+    (blocks_before c.in_ok-add_index-2.ensures last (omega arith)) (omega arith)) (omega arith)) (omega arith)) (omega arith)) (omega arith)) (omega arith)) (omega arith)) (omega arith)) (omega arith)) (omega arith))
     c.add_items.ensures
