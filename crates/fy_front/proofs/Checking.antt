@@ -42,7 +42,7 @@ use Rattle.pe_shapes.specs.Counts.{HasMany, IsCount}
 use Rattle.pe_shapes.specs.Shaping.{most_shapes, most_pairs, IsShapeOf, IsPairOf, IsShaping}
 use Rattle.pe_shapes.specs.declared.error.ShapeError.{ShapeError}
 use Rattle.pe_shapes.specs.declared.error.ShapeError.TheVariants as shaping
-use Rattle.fy_front.specs.Checked.{lex_refusal, parse_refusal, expand_refusal, find_refusal, shapes_refusal, IsProgramText, IsInUse, IsShownBy, IsLeastShape, IsLeastPair, IsAccepted, IsRefusedFor, not_judged, too_large, no_command, many_shapes, many_entries, large_tables, told_as, failure_of, IfRefused, IsOfText, IsPhraseOf, IsUnjudged, IsUnjudgedFrom}
+use Rattle.fy_front.specs.Checked.{lex_refusal, parse_refusal, expand_refusal, find_refusal, shapes_refusal, IsProgramText, IsInUse, IsShownBy, IsLeastShape, IsLeastPair, IsAccepted, IsRefusedFor, not_judged, too_large, no_command, many_shapes, many_entries, large_tables, failure_of, IfRefused, IsOfText, Means, IsMeaningless, IsPhraseOf, IsUnjudged, IsUnjudgedFrom}
 use Rattle.fy_phrase.specs.declared.phrase.Phrase.{Phrase}
 use Rattle.fy_front.specs.declared.texts.Program.{Program as ProgramOfText}
 use Rattle.fy_front.specs.declared.error.FrontError.{FrontError}
@@ -56,9 +56,14 @@ handed (Ok x) error P is shown = absurd is
 handed (Err e) error P is shown = subst P (sym is) shown
 
 -- what is a refusal is one of these
-failed : (R : Refusal → Type 0) (why : Option Refusal) → ((w : Refusal) → why ≡ Some w → R w) → IfRefused R (failure_of why)
+pub failed : (R : Refusal → Type 0) (why : Option Refusal) → ((w : Refusal) → why ≡ Some w → R w) → IfRefused R (failure_of why)
 failed R (Some w) is = is w refl
 failed R None is = tt
+
+-- what is refused for one reason is refused for another that follows
+pub refused_more : (R S : Refusal → Type 0) (error : FrontError) → ((why : Refusal) → R why → S why) → IfRefused R error → IfRefused S error
+refused_more R S (Refused why) f is = f why is
+refused_more R S OutOfMemory f is = tt
 
 -- the predefined names are few
 pub few_first : (names : List Bytes) → names ≡ first_names → length names ≤ 3000000000
@@ -76,7 +81,7 @@ is_allowed tokens tree h = record { spelled = h.spelled; nests = h.within }
 
 -- ---- refusals
 
-lex_told : (error : LexError) (w : Refusal) → lex_refusal error ≡ Some w → error ≢ lexing.OutOfMemory
+pub lex_told : (error : LexError) (w : Refusal) → lex_refusal error ≡ Some w → error ≢ lexing.OutOfMemory
 lex_told (lexing.BadByte p) w e same = cc
 lex_told (lexing.Unclosed p) w e same = cc
 lex_told (lexing.NumberTooLarge p) w e same = cc
@@ -87,11 +92,8 @@ pub not_lexed : (names : List Bytes) (text : Bytes) (error : LexError) → lengt
 not_lexed names text error short fault =
     failed (IsUnjudgedFrom names text) (lex_refusal error) (λ w told. record { cause = tokens_refused error; is_judged = no_tokens short fault (lex_told error w told); told = told })
 
-pub not_parsed : (names : List Bytes) (text : Bytes) (tokens : List Token) (error : ParseError) → HasTokensFrom names text tokens → IsRefusal tokens error
-    → IfRefused (IsUnjudgedFrom names text) (failure_of (parse_refusal error))
-not_parsed names text tokens (parsing.Syntax place) has is = record { cause = syntax_refused place; is_judged = no_program has is; told = refl }
-not_parsed names text tokens (parsing.TooDeep place) has is = record { cause = depth_refused place; is_judged = too_deep has is; told = refl }
-not_parsed names text tokens parsing.OutOfMemory has is = tt
+pub not_parsed : (tokens : List Token) (error : ParseError) → IsRefusal tokens error → IfRefused (IsMeaningless tokens) (failure_of (parse_refusal error))
+not_parsed tokens error is = failed (IsMeaningless tokens) (parse_refusal error) (λ w told. IsMeaningless.no_program error is told)
 
 expand_told : (error : ExpandError) (w : Refusal) → expand_refusal error ≡ Some w → error ≢ expanding.OutOfMemory
 expand_told (expanding.UnknownName p) w e same = cc
@@ -106,18 +108,34 @@ expand_told expanding.TooLarge w e same = cc
 expand_told expanding.TooManyVisits w e same = cc
 expand_told expanding.OutOfMemory w e same = cc
 
-pub not_expanded : (names : List Bytes) (text : Bytes) (tokens : List Token) (tree : written.Tree) (error : ExpandError) → HasTokensFrom names text tokens → IsTheProgram tokens tree
-    → (error ≡ expanding.OutOfMemory) ⊎ (core_of tree ≡ Err error) → IfRefused (IsUnjudgedFrom names text) (failure_of (expand_refusal error))
-not_expanded names text tokens tree error has program refused =
-    failed (IsUnjudgedFrom names text) (expand_refusal error)
+pub not_expanded : (tokens : List Token) (tree : written.Tree) (error : ExpandError) → IsTheProgram tokens tree → (error ≡ expanding.OutOfMemory) ⊎ (core_of tree ≡ Err error)
+    → IfRefused (IsMeaningless tokens) (failure_of (expand_refusal error))
+not_expanded tokens tree error program refused =
+    failed (IsMeaningless tokens) (expand_refusal error)
     (λ w told. elim refused [
       | inl memory ↦ absurd (expand_told error w told memory)
-      | inr is ↦ record { cause = expansion_refused error; is_judged = judged.not_expanded has (is_allowed tokens tree program) is; told = told }
+      | inr is ↦ IsMeaningless.no_core error program is told
     ])
 
+-- a text of such tokens has no core phrase
+unparsed : (names : List Bytes) (text : Bytes) (tokens : List Token) (error : ParseError) (why : Refusal) → HasTokensFrom names text tokens → IsRefusal tokens error
+    → parse_refusal error ≡ Some why → IsUnjudgedFrom names text why
+unparsed names text tokens (parsing.Syntax place) why has is told = record { cause = syntax_refused place; is_judged = no_program has is; told = told }
+unparsed names text tokens (parsing.TooDeep place) why has is told = record { cause = depth_refused place; is_judged = too_deep has is; told = told }
+unparsed names text tokens parsing.OutOfMemory why has is told = absurd cc
+
+unmeant : (names : List Bytes) (text : Bytes) (tokens : List Token) (why : Refusal) → HasTokensFrom names text tokens → IsMeaningless tokens why → IsUnjudgedFrom names text why
+unmeant names text tokens why has (IsMeaningless.no_program error is told) = unparsed names text tokens error why has is told
+unmeant names text tokens why has (IsMeaningless.no_core {tree = tree} error program is told) =
+    record { cause = expansion_refused error; is_judged = judged.not_expanded has (is_allowed tokens tree program) is; told = told }
+
+pub not_meant : (names : List Bytes) (text : Bytes) (tokens : List Token) (error : FrontError) → HasTokensFrom names text tokens → IfRefused (IsMeaningless tokens) error
+    → IfRefused (IsUnjudgedFrom names text) error
+not_meant names text tokens error has is = refused_more (IsMeaningless tokens) (IsUnjudgedFrom names text) error (λ why f. unmeant names text tokens why has f) is
+
 -- two causes are one, and so is what is told
-pub told_one : (cause other : judged.Refusal) (why told : Refusal) → cause ≡ other → told_as cause ≡ Some why → told_as other ≡ Some told → why ≡ told
-told_one cause other why told same is is' = let e : Some why ≡ Some told = sym is ∙ ap told_as same ∙ is' in cc
+pub told_one : {E : Type 0} (tells : E → Option Refusal) (cause other : E) (why told : Refusal) → cause ≡ other → tells cause ≡ Some why → tells other ≡ Some told → why ≡ told
+told_one tells cause other why told same is is' = let e : Some why ≡ Some told = sym is ∙ ap tells same ∙ is' in cc
 
 -- ---- core phrases, and length
 
@@ -125,9 +143,8 @@ told_one cause other why told same is is' = let e : Some why ≡ Some told = sym
 pub depth_within : (p : Tree) → HasDepths p → KeepsCoreLimits p → depth p ≤ 1023
 depth_within p depths within = let h = within.shallow in let k = depth-below 0 p depths in omega arith
 
-pub judged_so : (names : List Bytes) (text : Bytes) (tokens : List Token) (tree : written.Tree) (phrase : Tree) → HasTokensFrom names text tokens → IsTheProgram tokens tree → core_of tree ≡ Ok phrase
-    → IsJudgedFrom names text (Ok phrase)
-judged_so names text tokens tree phrase has program is = expanded has (is_allowed tokens tree program) is
+pub judged_so : (names : List Bytes) (text : Bytes) (tokens : List Token) (phrase : Tree) → HasTokensFrom names text tokens → Means tokens phrase → IsJudgedFrom names text (Ok phrase)
+judged_so names text tokens phrase has means = expanded has (is_allowed tokens means.tree means.program) means.core
 
 -- a list that is that of the predefined names
 pub phrase_first : (names after : List Bytes) (text : Bytes) (phrase : Phrase) → names ≡ first_names → IsPhraseOf names text after phrase → IsPhraseOf first_names text after phrase
@@ -144,8 +161,7 @@ refused_unjudged text why is = not_judged is.cause is.is_judged is.told
 
 -- so is one that has no core phrase for that, or memory was wanting
 pub without_core : (text : Bytes) (error : FrontError) → IfRefused (IsUnjudged text) error → IfRefused (IsRefusedFor text) error
-without_core text (Refused why) is = refused_unjudged text why is
-without_core text OutOfMemory is = tt
+without_core text error is = refused_more (IsUnjudged text) (IsRefusedFor text) error (λ why f. refused_unjudged text why f) is
 
 pub long_text : (text : Bytes) → 1048576 < length text → IsRefusedFor text refusal.Length
 long_text text longer = refused_unjudged text refusal.Length (unjudged_long text longer)

@@ -11,6 +11,8 @@ use Rattle.fy_lexer.specs.declared.error.LexError.{LexError}
 use Rattle.fy_lexer.specs.declared.error.LexError.TheVariants as lexing
 use Rattle.fy_lexer.specs.declared.token.Token.{Token}
 use Rattle.fy_lexer.specs.Tokens.{IsTokensOf}
+use Rattle.fy_syntax.specs.Trees as written
+use Rattle.fy_grammar.specs.Program.{IsTheProgram, IsRefusal}
 use Rattle.fy_grammar.specs.declared.error.ParseError.{ParseError}
 use Rattle.fy_grammar.specs.declared.error.ParseError.TheVariants as parsing
 use Rattle.fy_phrase.specs.Reads.{reads}
@@ -18,6 +20,7 @@ use Rattle.fy_phrase.specs.Sizes.{depth}
 use Rattle.fy_phrase.specs.Tree.{Tree}
 use Rattle.fy_phrase.specs.declared.phrase.Phrase.{Phrase}
 use Rattle.fy_phrase.specs.declared.shapes.ShapeTable.{ShapeTable}
+use Rattle.fy_expand.specs.Expansion.{core_of}
 use Rattle.fy_expand.specs.declared.error.ExpandError.{ExpandError}
 use Rattle.fy_expand.specs.declared.error.ExpandError.TheVariants as expanding
 use Rattle.fy_expand.specs.Judged.{IsJudged, IsJudgedFrom, length_refused, tokens_refused, syntax_refused, depth_refused, expansion_refused}
@@ -155,6 +158,18 @@ abbrev pub HasNames : Bytes → List Bytes → Type 0
 HasNames = HasNamesFrom first_names
 
 -- ---- what is made of a text
+
+-- the tokens are a program that means the core phrase
+pub record Means (tokens : List Token) (p : Tree) : Type 0 where
+  pub tree : written.Tree
+  pub program : IsTheProgram tokens tree
+  pub core : core_of tree ≡ Ok p
+
+-- why tokens mean no core phrase: they are no program of the allowed nesting, or expansion refuses it
+pub data IsMeaningless (tokens : List Token) : Refusal → Type 0 where
+  no_program : {why : Refusal} (cause : ParseError) → IsRefusal tokens cause → parse_refusal cause ≡ Some why → IsMeaningless tokens why
+  no_core : {tree : written.Tree} {why : Refusal} (cause : ExpandError) → IsTheProgram tokens tree → core_of tree ≡ Err cause → expand_refusal cause ≡ Some why
+      → IsMeaningless tokens why
 
 -- the core phrase of a text whose names are numbered by the list, which becomes the other one
 pub record IsPhraseOf (names : List Bytes) (text : Bytes) (after : List Bytes) (phrase : Phrase) : Type 0 where

@@ -11,6 +11,7 @@ use fy_grammar::ParseError;
 use fy_least::FindError;
 use fy_lexer::LexError;
 use pe_shapes::ShapeError;
+use std::alloc::AllocFailed;
 use thiserror::Error;
 
 /// Why no program is made of a text.
@@ -24,8 +25,8 @@ pub enum FrontError {
     OutOfMemory,
 }
 
-/// The refusal of a text without tokens, or `None` where memory was wanting.
-pub fn lex_refusal(error: LexError) -> Option<Refusal>
+// The refusal of a text without tokens, or `None` where memory was wanting.
+fn lex_refusal(error: LexError) -> Option<Refusal>
     ensures { result ≡ lex_refusal error }
 {
     match error {
@@ -37,8 +38,8 @@ pub fn lex_refusal(error: LexError) -> Option<Refusal>
     }
 }
 
-/// The refusal of tokens that are no program, or `None` where memory was wanting.
-pub fn parse_refusal(error: ParseError) -> Option<Refusal>
+// The refusal of tokens that are no program, or `None` where memory was wanting.
+fn parse_refusal(error: ParseError) -> Option<Refusal>
     ensures { result ≡ parse_refusal error }
 {
     match error {
@@ -48,8 +49,8 @@ pub fn parse_refusal(error: ParseError) -> Option<Refusal>
     }
 }
 
-/// The refusal of a program without a core phrase, or `None` where memory was wanting.
-pub fn expand_refusal(error: ExpandError) -> Option<Refusal>
+// The refusal of a program without a core phrase, or `None` where memory was wanting.
+fn expand_refusal(error: ExpandError) -> Option<Refusal>
     ensures { result ≡ expand_refusal error }
 {
     match error {
@@ -67,8 +68,8 @@ pub fn expand_refusal(error: ExpandError) -> Option<Refusal>
     }
 }
 
-/// The refusal of a core phrase without a derivation, or `None` where memory was wanting.
-pub fn find_refusal(error: FindError) -> Option<Refusal>
+// The refusal of a core phrase without a derivation, or `None` where memory was wanting.
+fn find_refusal(error: FindError) -> Option<Refusal>
     ensures { result ≡ find_refusal error }
 {
     match error {
@@ -105,6 +106,14 @@ impl From<OutOfMemory> for FrontError {
     ghost from_gives = { λ _ e. e ≡ NoMemory };
 
     fn from(_error: OutOfMemory) -> FrontError {
+        FrontError::OutOfMemory
+    }
+}
+
+impl<T: Drop> From<AllocFailed<T>> for FrontError {
+    ghost from_gives = { λ _ e. e ≡ NoMemory };
+
+    fn from(_error: AllocFailed<T>) -> FrontError {
         FrontError::OutOfMemory
     }
 }

@@ -5,8 +5,6 @@ mod error;
 mod refusal;
 mod texts;
 
-pub use error::{
-    FrontError, expand_refusal, find_refusal, lex_refusal, parse_refusal, shapes_refusal,
-};
+pub use error::{FrontError, shapes_refusal};
 pub use refusal::Refusal;
-pub use texts::{Core, Program, core_of, phrase_of, program_of};
+pub use texts::{Core, Program, core_of, phrase_of, phrase_of_tokens, program_of};

@@ -1,8 +1,11 @@
 //! All passes of the front, in their order.
 
 ghost use Rattle.std.specs.Prelude.{◌+◌, ◌≤◌, length, IfOk, IfErr};
+ghost use Rattle.fy_grammar.specs.Program.{IsEnded};
+ghost use Rattle.fy_phrase.specs.Reads.{reads};
+ghost use Rattle.fy_phrase.specs.Sizes.{depth};
 ghost use Rattle.fy_expand.specs.Judged.{most_text};
-ghost use Rattle.fy_front.specs.Checked.{IsRefusedFor, IfRefused, IsCore, IsOfText, IsPhraseOf, IsUnjudged, IsUnjudgedFrom};
+ghost use Rattle.fy_front.specs.Checked.{IsRefusedFor, IfRefused, IsCore, IsMeaningless, IsOfText, IsPhraseOf, IsUnjudged, IsUnjudgedFrom, Means};
 ghost use Rattle.fy_lexer.specs.Tokens.{HasAdded};
 
 use crate::error::FrontError;
@@ -10,7 +13,7 @@ use fy_derive::Derivation;
 use fy_expand::expand;
 use fy_grammar::parse;
 use fy_least::find;
-use fy_lexer::lex;
+use fy_lexer::{Token, lex};
 use fy_phrase::{Phrase, ShapeTable};
 use fy_types::Names;
 use pe_shapes::shapes_of;
@@ -33,6 +36,23 @@ pub struct Program {
     pub names: Names,
 }
 
+/// The core phrase that a program of these tokens means.
+///
+/// # Errors
+///
+/// `Refused` where they are no program or it nests too deep, and where its expansion is refused, and
+/// `OutOfMemory`.
+pub fn phrase_of_tokens(alloc: Global, tokens: &[Token]) -> Result<Phrase, FrontError>
+    requires { IsEnded tokens.now }
+    ensures means { IfOk result (λ p. Means tokens.now (reads p)) }
+    ensures shallow { IfOk result (λ p. depth (reads p) ≤ 1023) }
+    ensures refused { IfErr result (IfRefused (IsMeaningless tokens.now)) }
+{
+    let tree = parse(alloc, tokens)?;
+    let phrase = expand(alloc, &tree)?;
+    Ok(phrase)
+}
+
 /// The core phrase of a text, whose names are numbered by the list, which gets those that are new. The
 /// stages are its tokens, its syntax with its nesting, its expansion and the core limits.
 ///
@@ -48,8 +68,7 @@ pub fn phrase_of(alloc: Global, names: &mut Names, text: &[u8]) -> Result<Phrase
     ensures few { length names.new ≤ length names.old + length text.now }
 {
     let tokens = lex(alloc, names, text)?;
-    let tree = parse(alloc, tokens.as_slice())?;
-    let phrase = expand(alloc, &tree)?;
+    let phrase = phrase_of_tokens(alloc, tokens.as_slice())?;
     Ok(phrase)
 }
 

@@ -1,6 +1,6 @@
 -- Values of the code that are units, and refusals of their makers.
-use Rattle.std.proofs.Common.{◌≡◌, ◌⊎◌, inl, inr, ℕ, ◌≤◌, List, length, map, reverse, refl, sym, ap, ◌∙◌, subst, arith}
-use Rattle.std.specs.Prelude.{All, Some, None, Result, Ok, Err, IfErr, IsErrAnd}
+use Rattle.std.proofs.Common.{◌≡◌, ℕ, ◌≤◌, List, length, map, reverse, refl, sym, ap, ◌∙◌, subst, arith}
+use Rattle.std.specs.Prelude.{All, Some, None, Err}
 use Rattle.fy_base.specs.Outside.{Bytes}
 use Rattle.fy_types.specs.Fields.{IsNamed, AllFields, HasFullMeets}
 use Rattle.fy_types.specs.Names.{AreNames}
@@ -22,16 +22,15 @@ use Rattle.fy_derive.specs.Least.{forms_of, visits}
 use Rattle.fy_derive.specs.Limits.{KeepsLimits, most_type_nesting}
 use Rattle.fy_derive.specs.Printable.{IsPrintable}
 use Rattle.fy_least.specs.declared.error.FindError.{FindError}
-use Rattle.fy_least.specs.declared.error.FindError.TheVariants as unfound
 use Rattle.fy_least.specs.Finding.{IsFindingOf}
 use Rattle.fy_least.specs.Limits.{KeepTypeLimits}
-use Rattle.fy_link.specs.declared.error.UnitError.{UnitError}
-use Rattle.fy_link.specs.declared.error.UnitError.TheVariants as refused
+use Rattle.fy_front.specs.Checked.{find_refusal, failure_of, IfRefused}
+use Rattle.fy_front.specs.declared.error.FrontError.{FrontError}
+use Rattle.fy_front.proofs.Checking.{failed, refused_more}
 use Rattle.fy_link.specs.declared.source.Said.{Said}
 use Rattle.fy_link.specs.declared.unit.Unit.{Unit as UnitValue}
-use Rattle.fy_link.specs.Answers.{of_find}
 use Rattle.fy_link.specs.Read.{plain_named, plain_said, source_in}
-use Rattle.fy_link.specs.Sources.{PlainSource, HasEquals, IsSource, IsSourceFault}
+use Rattle.fy_link.specs.Sources.{HasEquals, IsSource, IsSourceFault}
 use Rattle.fy_link.specs.Units.{context_of, IsTyped, IsUnit, IsUnitFault, KeepsTypeLimits, plain_unit}
 use Rattle.fy_link.proofs.Meanings.{source-limits, own-shallow}
 use Rattle.fy_link.proofs.NamedSources.{source-named, len-named}
@@ -117,25 +116,15 @@ unit-later names later value more h = record {
   };
 }
 
--- what holds of what an error was made into
-pub err-made : {T E : Type 0} (r : Result T E) (e : E) (P : E → Type 0) → IsErrAnd r (λ (x : E). x ≡ e) → P e → IfErr r P
-err-made (Ok x) e P h k = absurd h
-err-made (Err y) e P h k = subst P (sym h) k
-
-pub said-fault : (names : List Bytes) (source : Bytes) (e : UnitError) → (e ≡ refused.OutOfMemory) ⊎ IsSourceFault names source e → IsUnitFault names source e
-said-fault names source e (inl is) = subst (IsUnitFault names source) (sym is) IsUnitFault.of_memory
-said-fault names source e (inr h) = IsUnitFault.before_typing h
-
-of-find : (names after : List Bytes) (source : Bytes) (u : PlainSource) (e : FindError) → IsSource names source after u →
-    IsFindingOf (reverse (context_of u.imports)) u.phrase u.own.type (Err e) → IsUnitFault names source (of_find e)
-of-find names after source u (unfound.NoType at) h f = IsUnitFault.of_typing h (λ k. absurd (cc)) f
-of-find names after source u unfound.TypeTooLarge h f = IsUnitFault.of_typing h (λ k. absurd (cc)) f
-of-find names after source u unfound.OutOfMemory h f = IsUnitFault.of_memory
+-- the source is refused
+pub said-fault : (names : List Bytes) (source : Bytes) (e : FrontError) → IfRefused (IsSourceFault names source) e → IfRefused (IsUnitFault names source) e
+said-fault names source e h = refused_more (IsSourceFault names source) (IsUnitFault names source) e (λ why f. IsUnitFault.before_typing f) h
 
 pub find-fault : (names after : List Bytes) (source : Bytes) (said : Said) (context : TyList) (p : Phrase) (e : FindError) → IsSource names source after (plain_said said) →
-    Stands said context p → IsFindingOf (in_scope context) (reads p) (plain_type said.own.ty) (Err e) → IsUnitFault names source (of_find e)
+    Stands said context p → IsFindingOf (in_scope context) (reads p) (plain_type said.own.ty) (Err e) →
+    IfRefused (IsUnitFault names source) (failure_of (find_refusal e))
 find-fault names after source said context p e h s f =
     let own = plain_type said.own.ty in
-    of-find names after source (plain_said said) e h
-    (subst (λ (q : Tree). IsFindingOf (reverse (context_of (plain_said said).imports)) q own (Err e)) s.phrase_is
-    (subst (λ (G : List PlainType). IsFindingOf (reverse G) (reads p) own (Err e)) s.context_is f))
+    let found = subst (λ (q : Tree). IsFindingOf (reverse (context_of (plain_said said).imports)) q own (Err e)) s.phrase_is
+    (subst (λ (G : List PlainType). IsFindingOf (reverse G) (reads p) own (Err e)) s.context_is f) in
+    failed (IsUnitFault names source) (find_refusal e) (λ why told. IsUnitFault.of_typing e h found told)

@@ -26,7 +26,8 @@ use Rattle.fy_phrase.specs.PhraseNames.{AllNames, HasFullTypes}
 use Rattle.fy_expand.specs.Scope.{program_scope}
 use Rattle.fy_expand.proofs.ExpansionLemmas.{core_of-names, core_of-full}
 use Rattle.fy_link.specs.Header.{PlainPiece, PlainHeader, is_sign, piece_from, piece_of, before_others, pieces_of, header_of, inside, pieces_in, abstraction_over, type_program, unit_program}
-use Rattle.fy_link.specs.Sources.{Named, PlainSource, Means, Names, NameAll, IsSource, behind_definitions, below_abstractions, without_prelude, domain_of}
+use Rattle.fy_front.specs.Checked.{Means}
+use Rattle.fy_link.specs.Sources.{Named, PlainSource, Names, NameAll, IsSource, behind_definitions, below_abstractions, without_prelude, domain_of}
 use Rattle.fy_link.specs.Units.{context_of, prelude_types}
 use Rattle.fy_link.proofs.Cuts.{header-cut}
 use Rattle.fy_link.proofs.KnownNames.{AllParts, parts-identifiers, take-identifiers}

@@ -2,7 +2,7 @@
 use Rattle.std.proofs.Common.{List, [], ◌∷◌, ◌++◌, ap, ◌∙◌}
 use Rattle.std.proofs.lemmas.List.{append_assoc}
 use Rattle.fy_base.specs.declared.data.Place.{Place}
-use Rattle.fy_link.specs.declared.error.UnitError.{UnitError}
+use Rattle.fy_front.specs.declared.refusal.Refusal.{Refusal}
 use Rattle.fy_link.specs.Header.{PlainPiece}
 use Rattle.fy_link.specs.Sources.{Named, Names, NameAll, IsTypeFault}
 
@@ -14,7 +14,7 @@ named-push at (y ∷ xs) [] x n h k = absurd h
 named-push at (y ∷ xs) (m ∷ named) x n h k = (h.0, named-push at xs named x n h.1 k)
 
 -- a fault among the first pieces is one among all
-pub fault-more : (at : Place) (xs ys : List PlainPiece) (e : UnitError) → IsTypeFault at xs e → IsTypeFault at (xs ++ ys) e
+pub fault-more : (at : Place) (xs ys : List PlainPiece) (e : Refusal) → IsTypeFault at xs e → IsTypeFault at (xs ++ ys) e
 fault-more at xs ys e f = record {
   before = f.before;
   x = f.x;

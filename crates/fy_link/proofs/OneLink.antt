@@ -13,7 +13,7 @@ use Rattle.fy_derive.specs.Derivations.{PlainDerivation}
 use Rattle.fy_derive.specs.Limits.{KeepsLimits}
 use Rattle.fy_derive.specs.Reading.{plain_derivation}
 use Rattle.fy_read.proofs.FineLemmas.{same_front}
-use Rattle.fy_front.specs.Checked.{IsUnjudgedFrom}
+use Rattle.fy_front.specs.Checked.{told_as, IsUnjudgedFrom}
 use Rattle.fy_front.specs.declared.refusal.Refusal.{Refusal}
 use Rattle.fy_front.proofs.Checking.{told_one}
 use Rattle.fy_link.specs.declared.error.LinkError.{LinkError}
@@ -81,7 +81,7 @@ texts-same names values t u h k = h.is ∙ (ap joined_text (parts-same names val
 -- ---- refusals
 
 refusal-same : (names : List Bytes) (text : Bytes) (a b : Refusal) → IsUnjudgedFrom names text a → IsUnjudgedFrom names text b → a ≡ b
-refusal-same names text a b h k = told_one h.cause k.cause a b (one_refusal {names = names} text h.cause k.cause h.is_judged k.is_judged) h.told k.told
+refusal-same names text a b h k = told_one told_as h.cause k.cause a b (one_refusal {names = names} text h.cause k.cause h.is_judged k.is_judged) h.told k.told
 
 fault-same : (o : Option LinkError) (e f : LinkError) → o ≡ Some e → o ≡ Some f → e ≡ f
 fault-same o e f h k = cc

@@ -1,5 +1,5 @@
 -- A source says one thing, or is refused for one reason.
-use Rattle.std.proofs.Common.{◌≡◌, ◌≢◌, ℕ, List, [], ◌∷◌, ◌++◌, length, refl, sym, ap, ap₂, ◌∙◌, subst}
+use Rattle.std.proofs.Common.{◌≡◌, ℕ, List, [], ◌∷◌, ◌++◌, length, refl, sym, ap, ap₂, ◌∙◌, subst}
 use Rattle.std.specs.Prelude.{Option, Some, None, Result, Ok, Err}
 use Rattle.fy_base.specs.Outside.{Bytes}
 use Rattle.fy_base.specs.declared.data.Place.{Place}
@@ -15,10 +15,12 @@ use Rattle.fy_grammar.specs.Program.{IsTheProgram, IsRefusal, deepest}
 use Rattle.fy_phrase.specs.Tree.{Tree}
 use Rattle.fy_expand.specs.declared.error.ExpandError.{ExpandError}
 use Rattle.fy_expand.specs.Expansion.{core_of}
-use Rattle.fy_link.specs.declared.error.UnitError.{UnitError}
-use Rattle.fy_link.specs.declared.error.UnitError.TheVariants as refused
+use Rattle.fy_front.specs.Checked.{lex_refusal, parse_refusal, expand_refusal, Means, IsMeaningless}
+use Rattle.fy_front.specs.declared.refusal.Refusal.{Refusal}
+use Rattle.fy_front.specs.declared.refusal.Refusal.TheVariants as refusal
+use Rattle.fy_front.proofs.Checking.{lex_told, told_one}
 use Rattle.fy_link.specs.Header.{PlainPiece, PlainHeader, header_of, pieces_in, type_program, unit_program}
-use Rattle.fy_link.specs.Sources.{Named, PlainSource, Means, IsMeaningless, Names, NameAll, IsLexed, IsTypeFault, IsSaid, IsSaidFault, IsSource, IsSourceFault, below_abstractions, domain_of, without_prelude}
+use Rattle.fy_link.specs.Sources.{Named, PlainSource, Names, NameAll, IsLexed, IsTypeFault, IsSaid, IsSaidFault, IsSource, IsSourceFault, below_abstractions, domain_of, without_prelude}
 use Rattle.fy_link.proofs.NamingLemmas.{named-push}
 use Rattle.fy_link.proofs.SameSources.{headed-same}
 
@@ -36,30 +38,31 @@ ok-or-err x p e h k = cc
 means-same : (ts : List Token) (p q : Tree) → Means ts p → Means ts q → p ≡ q
 means-same ts p q h k = ok-same (core_of k.tree) p q (ap core_of (sym (k.program.only h.tree h.program.spelled)) ∙ h.core) k.core
 
-program-or-refusal : (ts : List Token) (t : written.Tree) (e : ParseError) → e ≢ unparsed.OutOfMemory → IsTheProgram ts t → IsRefusal ts e → ⊥
-program-or-refusal ts t (unparsed.Syntax at) m h k = program_not_bad deepest ts k.before k.bad t h.spelled h.within k.first
-program-or-refusal ts t (unparsed.TooDeep at) m h k = program_not_bad deepest ts k.before k.bad t h.spelled h.within k.first
-program-or-refusal ts t unparsed.OutOfMemory m h k = m refl
+program-or-refusal : (ts : List Token) (t : written.Tree) (x : ParseError) (e : Refusal) → parse_refusal x ≡ Some e → IsTheProgram ts t → IsRefusal ts x → ⊥
+program-or-refusal ts t (unparsed.Syntax at) e m h k = program_not_bad deepest ts k.before k.bad t h.spelled h.within k.first
+program-or-refusal ts t (unparsed.TooDeep at) e m h k = program_not_bad deepest ts k.before k.bad t h.spelled h.within k.first
+program-or-refusal ts t unparsed.OutOfMemory e m h k = cc
 
-refusals-same : (ts : List Token) (e f : ParseError) → e ≢ unparsed.OutOfMemory → f ≢ unparsed.OutOfMemory → IsRefusal ts e → IsRefusal ts f → e ≡ f
-refusals-same ts (unparsed.Syntax at) (unparsed.Syntax to) m n h k = ap unparsed.Syntax (syntax_unique deepest ts at to h k)
-refusals-same ts (unparsed.Syntax at) (unparsed.TooDeep to) m n h k = absurd (syntax_or_depth deepest ts at to h k)
-refusals-same ts (unparsed.TooDeep at) (unparsed.Syntax to) m n h k = absurd (syntax_or_depth deepest ts to at k h)
-refusals-same ts (unparsed.TooDeep at) (unparsed.TooDeep to) m n h k = ap unparsed.TooDeep (depth_unique deepest ts at to h k)
-refusals-same ts unparsed.OutOfMemory f m n h k = absurd (m refl)
-refusals-same ts e unparsed.OutOfMemory m n h k = absurd (n refl)
+refusals-same : (ts : List Token) (x y : ParseError) (e f : Refusal) → parse_refusal x ≡ Some e → parse_refusal y ≡ Some f → IsRefusal ts x → IsRefusal ts y → e ≡ f
+refusals-same ts (unparsed.Syntax at) (unparsed.Syntax to) e f m n h k =
+    told_one parse_refusal (unparsed.Syntax at) (unparsed.Syntax to) e f (ap unparsed.Syntax (syntax_unique deepest ts at to h k)) m n
+refusals-same ts (unparsed.Syntax at) (unparsed.TooDeep to) e f m n h k = absurd (syntax_or_depth deepest ts at to h k)
+refusals-same ts (unparsed.TooDeep at) (unparsed.Syntax to) e f m n h k = absurd (syntax_or_depth deepest ts to at k h)
+refusals-same ts (unparsed.TooDeep at) (unparsed.TooDeep to) e f m n h k =
+    told_one parse_refusal (unparsed.TooDeep at) (unparsed.TooDeep to) e f (ap unparsed.TooDeep (depth_unique deepest ts at to h k)) m n
+refusals-same ts unparsed.OutOfMemory y e f m n h k = absurd cc
+refusals-same ts x unparsed.OutOfMemory e f m n h k = absurd cc
 
-means-or-not : (ts : List Token) (p : Tree) (e : UnitError) → Means ts p → IsMeaningless ts e → ⊥
-means-or-not ts p e h (IsMeaningless.no_program {e = x} k m) = program-or-refusal ts h.tree x m h.program k
-means-or-not ts p e h (IsMeaningless.no_core {tree = t} {e = x} k c) =
-    ok-or-err (core_of t) p x (ap core_of (sym (k.only h.tree h.program.spelled)) ∙ h.core) c
+means-or-not : (ts : List Token) (p : Tree) (e : Refusal) → Means ts p → IsMeaningless ts e → ⊥
+means-or-not ts p e h (IsMeaningless.no_program x k m) = program-or-refusal ts h.tree x e m h.program k
+means-or-not ts p e h (IsMeaningless.no_core {tree = t} x k c m) = ok-or-err (core_of t) p x (ap core_of (sym (k.only h.tree h.program.spelled)) ∙ h.core) c
 
-meaningless-same : (ts : List Token) (e f : UnitError) → IsMeaningless ts e → IsMeaningless ts f → e ≡ f
-meaningless-same ts e f (IsMeaningless.no_program {e = x} h m) (IsMeaningless.no_program {e = y} k n) = ap refused.Parse (refusals-same ts x y m n h k)
-meaningless-same ts e f (IsMeaningless.no_program {e = x} h m) (IsMeaningless.no_core {tree = u} k d) = absurd (program-or-refusal ts u x m k h)
-meaningless-same ts e f (IsMeaningless.no_core {tree = t} h c) (IsMeaningless.no_program {e = y} k n) = absurd (program-or-refusal ts t y n h k)
-meaningless-same ts e f (IsMeaningless.no_core {tree = t} {e = x} h c) (IsMeaningless.no_core {tree = u} {e = y} k d) =
-    ap refused.Expand (err-same (core_of u) x y (ap core_of (sym (k.only t h.spelled)) ∙ c) d)
+meaningless-same : (ts : List Token) (e f : Refusal) → IsMeaningless ts e → IsMeaningless ts f → e ≡ f
+meaningless-same ts e f (IsMeaningless.no_program x h m) (IsMeaningless.no_program y k n) = refusals-same ts x y e f m n h k
+meaningless-same ts e f (IsMeaningless.no_program x h m) (IsMeaningless.no_core {tree = u} y k d n) = absurd (program-or-refusal ts u x e m k h)
+meaningless-same ts e f (IsMeaningless.no_core {tree = t} x h c m) (IsMeaningless.no_program y k n) = absurd (program-or-refusal ts t y f n h k)
+meaningless-same ts e f (IsMeaningless.no_core {tree = t} x h c m) (IsMeaningless.no_core {tree = u} y k d n) =
+    told_one expand_refusal x y e f (err-same (core_of u) x y (ap core_of (sym (k.only t h.spelled)) ∙ c) d) m n
 
 -- ---- pieces
 
@@ -81,18 +84,18 @@ all-same at (x ∷ xs) (n ∷ ns) (m ∷ ms) h k =
     ap (λ (l : Named). l ∷ ns) (names-same at x n m h.0 k.0) ∙ ap (λ (ls : List Named). m ∷ ls) (all-same at xs ns ms h.1 k.1)
 
 -- where a piece among others is named, its type isn't refused
-named-or-fault : (at : Place) (before behind : List PlainPiece) (x : PlainPiece) (ns : List Named) (e : UnitError) → NameAll at (before ++ x ∷ behind) ns →
+named-or-fault : (at : Place) (before behind : List PlainPiece) (x : PlainPiece) (ns : List Named) (e : Refusal) → NameAll at (before ++ x ∷ behind) ns →
     IsMeaningless (type_program at x) e → ⊥
 named-or-fault at [] behind x [] e h f = h
 named-or-fault at [] behind x (n ∷ ns) e h f = means-or-not (type_program at x) h.0.phrase e h.0.means f
 named-or-fault at (y ∷ before) behind x [] e h f = h
 named-or-fault at (y ∷ before) behind x (n ∷ ns) e h f = named-or-fault at before behind x ns e h.1 f
 
-all-or-fault : (at : Place) (xs : List PlainPiece) (ns : List Named) (e : UnitError) → NameAll at xs ns → IsTypeFault at xs e → ⊥
+all-or-fault : (at : Place) (xs : List PlainPiece) (ns : List Named) (e : Refusal) → NameAll at xs ns → IsTypeFault at xs e → ⊥
 all-or-fault at xs ns e h f = named-or-fault at f.before f.behind f.x ns e (subst (λ (l : List PlainPiece). NameAll at l ns) f.is h) f.why
 
 -- the first piece whose type is refused is one
-faults-at : (at : Place) (before other bs cs : List PlainPiece) (x y : PlainPiece) (ns ms : List Named) (e f : UnitError) →
+faults-at : (at : Place) (before other bs cs : List PlainPiece) (x y : PlainPiece) (ns ms : List Named) (e f : Refusal) →
     before ++ x ∷ bs ≡ other ++ y ∷ cs → NameAll at before ns → NameAll at other ms → IsMeaningless (type_program at x) e →
     IsMeaningless (type_program at y) f → e ≡ f
 faults-at at [] [] bs cs x y ns ms e f is h k v w =
@@ -114,7 +117,7 @@ faults-at at (z ∷ before) (u ∷ other) bs cs x y (n ∷ ns) (m ∷ ms) e f is
     let rest : before ++ x ∷ bs ≡ other ++ y ∷ cs = cc in
     faults-at at before other bs cs x y ns ms e f rest h.1 k.1 v w
 
-type-faults-same : (at : Place) (xs : List PlainPiece) (e f : UnitError) → IsTypeFault at xs e → IsTypeFault at xs f → e ≡ f
+type-faults-same : (at : Place) (xs : List PlainPiece) (e f : Refusal) → IsTypeFault at xs e → IsTypeFault at xs f → e ≡ f
 type-faults-same at xs e f h k =
     faults-at at h.before k.before h.behind k.behind h.x k.x h.known k.known e f (sym h.is ∙ k.is) h.named k.named h.why k.why
 
@@ -133,24 +136,23 @@ said-same at header u v h k =
     (h.phrase ∙ (ap (λ (is : List Named). below_abstractions (length is) (without_prelude h.whole)) imports
     ∙ (ap (λ (p : Tree). below_abstractions (length v.imports) (without_prelude p)) whole ∙ sym k.phrase)))
 
-said-or-fault : (at : Place) (header : PlainHeader) (u : PlainSource) (e : UnitError) → IsSaid at header u → IsSaidFault at header e → ⊥
+said-or-fault : (at : Place) (header : PlainHeader) (u : PlainSource) (e : Refusal) → IsSaid at header u → IsSaidFault at header e → ⊥
 said-or-fault at header u e h (IsSaidFault.of_type f) =
     all-or-fault at (pieces_in header) (u.imports ++ u.own ∷ []) e (named-push at header.imports u.imports header.own u.own h.imports h.own) f
-said-or-fault at header u e h (IsSaidFault.of_tail known {e = x} all f m) = program-or-refusal header.tail h.alone x m h.program f
+said-or-fault at header u e h (IsSaidFault.of_tail known x all f m) = program-or-refusal header.tail h.alone x e m h.program f
 said-or-fault at header u e h (IsSaidFault.of_phrase known all alone f) = means-or-not (unit_program at header) h.whole e h.means f
 
-said-faults-same : (at : Place) (header : PlainHeader) (e f : UnitError) → IsSaidFault at header e → IsSaidFault at header f → e ≡ f
+said-faults-same : (at : Place) (header : PlainHeader) (e f : Refusal) → IsSaidFault at header e → IsSaidFault at header f → e ≡ f
 said-faults-same at header e f (IsSaidFault.of_type h) (IsSaidFault.of_type k) = type-faults-same at (pieces_in header) e f h k
-said-faults-same at header e f (IsSaidFault.of_type h) (IsSaidFault.of_tail known all k n) = absurd (all-or-fault at (pieces_in header) known e all h)
+said-faults-same at header e f (IsSaidFault.of_type h) (IsSaidFault.of_tail known y all k n) = absurd (all-or-fault at (pieces_in header) known e all h)
 said-faults-same at header e f (IsSaidFault.of_type h) (IsSaidFault.of_phrase known all alone k) = absurd (all-or-fault at (pieces_in header) known e all h)
-said-faults-same at header e f (IsSaidFault.of_tail known all h m) (IsSaidFault.of_type k) = absurd (all-or-fault at (pieces_in header) known f all k)
-said-faults-same at header e f (IsSaidFault.of_tail known {e = x} all h m) (IsSaidFault.of_tail others {e = y} every k n) =
-    ap refused.Parse (refusals-same header.tail x y m n h k)
-said-faults-same at header e f (IsSaidFault.of_tail known {e = x} all h m) (IsSaidFault.of_phrase others {alone = t} every alone k) =
-    absurd (program-or-refusal header.tail t x m alone h)
+said-faults-same at header e f (IsSaidFault.of_tail known x all h m) (IsSaidFault.of_type k) = absurd (all-or-fault at (pieces_in header) known f all k)
+said-faults-same at header e f (IsSaidFault.of_tail known x all h m) (IsSaidFault.of_tail others y every k n) = refusals-same header.tail x y e f m n h k
+said-faults-same at header e f (IsSaidFault.of_tail known x all h m) (IsSaidFault.of_phrase others {alone = t} every alone k) =
+    absurd (program-or-refusal header.tail t x e m alone h)
 said-faults-same at header e f (IsSaidFault.of_phrase known all alone h) (IsSaidFault.of_type k) = absurd (all-or-fault at (pieces_in header) known f all k)
-said-faults-same at header e f (IsSaidFault.of_phrase known {alone = t} all alone h) (IsSaidFault.of_tail others {e = y} every k n) =
-    absurd (program-or-refusal header.tail t y n alone k)
+said-faults-same at header e f (IsSaidFault.of_phrase known {alone = t} all alone h) (IsSaidFault.of_tail others y every k n) =
+    absurd (program-or-refusal header.tail t y f n alone k)
 said-faults-same at header e f (IsSaidFault.of_phrase known all alone h) (IsSaidFault.of_phrase others every other k) =
     meaningless-same (unit_program at header) e f h k
 
@@ -174,9 +176,9 @@ lexed-same names after last source ts us h k = (tokens_same names source ts us a
 no-header : (o : Option PlainHeader) (header : PlainHeader) → o ≡ None → o ≡ Some header → ⊥
 no-header o header e f = cc
 
-pub source-or-fault : (names after : List Bytes) (source : Bytes) (u : PlainSource) (e : UnitError) → IsSource names source after u → IsSourceFault names source e → ⊥
-source-or-fault names after source u e h (IsSourceFault.of_tokens {e = x} f m) =
-    tokens_or_fault names source h.tokens after x m h.headed.lexed.read h.headed.lexed.within f
+pub source-or-fault : (names after : List Bytes) (source : Bytes) (u : PlainSource) (e : Refusal) → IsSource names source after u → IsSourceFault names source e → ⊥
+source-or-fault names after source u e h (IsSourceFault.of_tokens x f m) =
+    tokens_or_fault names source h.tokens after x (lex_told x e m) h.headed.lexed.read h.headed.lexed.within f
 source-or-fault names after source u e h (IsSourceFault.of_header {tokens = us} {after = last} l n) =
     no-header (header_of us) h.header n (ap header_of (sym (lexed-same names after last source h.tokens us h.headed.lexed l)) ∙ h.headed.is)
 source-or-fault names after source u e h (IsSourceFault.behind_header {tokens = us} {after = last} {header = other} k f) =
@@ -184,20 +186,21 @@ source-or-fault names after source u e h (IsSourceFault.behind_header {tokens = 
     let one : IsSaid (front h.tokens) other u = subst (λ (x : PlainHeader). IsSaid (front h.tokens) x u) same.one_header h.said in
     said-or-fault (front us) other u e (subst (λ (ts : List Token). IsSaid (front ts) other u) same.one_list one) f
 
-pub source-faults-same : (names : List Bytes) (source : Bytes) (e f : UnitError) → IsSourceFault names source e → IsSourceFault names source f → e ≡ f
-source-faults-same names source e f (IsSourceFault.of_tokens {e = x} h m) (IsSourceFault.of_tokens {e = y} k n) = ap refused.Lex (faults_same names source x y m n h k)
-source-faults-same names source e f (IsSourceFault.of_tokens {e = x} h m) (IsSourceFault.of_header {tokens = us} {after = last} l n) =
-    absurd (tokens_or_fault names source us last x m l.read l.within h)
-source-faults-same names source e f (IsSourceFault.of_tokens {e = x} h m) (IsSourceFault.behind_header {tokens = us} {after = last} k g) =
-    absurd (tokens_or_fault names source us last x m k.lexed.read k.lexed.within h)
-source-faults-same names source e f (IsSourceFault.of_header {tokens = ts} {after = after} l m) (IsSourceFault.of_tokens {e = y} k n) =
-    absurd (tokens_or_fault names source ts after y n l.read l.within k)
+pub source-faults-same : (names : List Bytes) (source : Bytes) (e f : Refusal) → IsSourceFault names source e → IsSourceFault names source f → e ≡ f
+source-faults-same names source e f (IsSourceFault.of_tokens x h m) (IsSourceFault.of_tokens y k n) =
+    told_one lex_refusal x y e f (faults_same names source x y (lex_told x e m) (lex_told y f n) h k) m n
+source-faults-same names source e f (IsSourceFault.of_tokens x h m) (IsSourceFault.of_header {tokens = us} {after = last} l n) =
+    absurd (tokens_or_fault names source us last x (lex_told x e m) l.read l.within h)
+source-faults-same names source e f (IsSourceFault.of_tokens x h m) (IsSourceFault.behind_header {tokens = us} {after = last} k g) =
+    absurd (tokens_or_fault names source us last x (lex_told x e m) k.lexed.read k.lexed.within h)
+source-faults-same names source e f (IsSourceFault.of_header {tokens = ts} {after = after} l m) (IsSourceFault.of_tokens y k n) =
+    absurd (tokens_or_fault names source ts after y (lex_told y f n) l.read l.within k)
 source-faults-same names source e f (IsSourceFault.of_header {tokens = ts} {after = after} l m) (IsSourceFault.of_header {tokens = us} {after = last} k n) =
-    ap (λ (vs : List Token). refused.Header (front vs)) (lexed-same names after last source ts us l k)
+    ap (λ (vs : List Token). refusal.Header (front vs)) (lexed-same names after last source ts us l k)
 source-faults-same names source e f (IsSourceFault.of_header {tokens = ts} {after = after} l m) (IsSourceFault.behind_header {tokens = us} {after = last} {header = other} k g) =
     absurd (no-header (header_of us) other (ap header_of (sym (lexed-same names after last source ts us l k.lexed)) ∙ m) k.is)
-source-faults-same names source e f (IsSourceFault.behind_header {tokens = ts} {after = after} h g) (IsSourceFault.of_tokens {e = y} k n) =
-    absurd (tokens_or_fault names source ts after y n h.lexed.read h.lexed.within k)
+source-faults-same names source e f (IsSourceFault.behind_header {tokens = ts} {after = after} h g) (IsSourceFault.of_tokens y k n) =
+    absurd (tokens_or_fault names source ts after y (lex_told y f n) h.lexed.read h.lexed.within k)
 source-faults-same names source e f (IsSourceFault.behind_header {tokens = ts} {after = after} {header = header} h g) (IsSourceFault.of_header {tokens = us} {after = last} l n) =
     absurd (no-header (header_of ts) header (ap header_of (lexed-same names after last source ts us h.lexed l) ∙ n) h.is)
 source-faults-same names source e f (IsSourceFault.behind_header {tokens = ts} {after = after} {header = header} h g) (IsSourceFault.behind_header {tokens = us} {after = last} {header = other} k i) =

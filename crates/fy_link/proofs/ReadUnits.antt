@@ -1,5 +1,5 @@
 -- Units that are read from bytes, and bytes that are none.
-use Rattle.std.proofs.Common.{◌≡◌, ◌≢◌, ◌⊎◌, inl, inr, ℕ, ◌≤◌, ◌+◌, List, length, refl, sym, ap, ◌∙◌, subst, arith}
+use Rattle.std.proofs.Common.{◌≡◌, ◌≢◌, ◌⊎◌, inl, inr, ℕ, ◌≤◌, ◌+◌, List, length, refl, sym, ap, subst, arith}
 use Rattle.std.proofs.lemmas.List.{length-append}
 use Rattle.fy_base.specs.Outside.{Bytes}
 use Rattle.fy_derive.specs.declared.derivation.Derivation.{Derivation}
@@ -9,8 +9,9 @@ use Rattle.fy_read.specs.declared.error.ReadError.{ReadError}
 use Rattle.fy_read.specs.declared.error.ReadError.TheVariants as stopped
 use Rattle.fy_read.specs.FieldNames.{NumbersFields}
 use Rattle.fy_read.specs.Refusals.{IsReadFault, KeepsThroughout}
-use Rattle.fy_link.specs.declared.error.UnitError.{UnitError}
-use Rattle.fy_link.specs.declared.error.UnitError.TheVariants as refused
+use Rattle.fy_front.specs.Checked.{IfRefused}
+use Rattle.fy_front.specs.declared.error.FrontError.{FrontError}
+use Rattle.fy_front.specs.declared.error.FrontError.TheVariants as front
 use Rattle.fy_link.specs.declared.error.UnitReadError.{UnitReadError}
 use Rattle.fy_link.specs.declared.error.UnitReadError.TheVariants as unread
 use Rattle.fy_link.specs.declared.source.Said.{Said}
@@ -48,14 +49,13 @@ unit-read names after later bytes source text value holds is said equals numbers
 abbrev pub IsReadRefusal : List Bytes → Bytes → UnitReadError → Type 0
 IsReadRefusal names bytes e = (e ≡ unread.OutOfMemory) ⊎ IsBadUnit names bytes
 
-source-fault : (names : List Bytes) (bytes source text : Bytes) (e : UnitError) → HoldsUnit bytes source text → IsSourceFault names source e → IsReadRefusal names bytes (of_source e)
-source-fault names bytes source text refused.OutOfMemory holds h = inl refl
-source-fault names bytes source text e holds h = inr (bad_source e, IsBadFor.no_source holds h)
+source-fault : (names : List Bytes) (bytes source text : Bytes) (e : FrontError) → HoldsUnit bytes source text → IfRefused (IsSourceFault names source) e → IsReadRefusal names bytes (of_source e)
+source-fault names bytes source text (front.Refused why) holds h = inr (bad_source why, IsBadFor.no_source holds h)
+source-fault names bytes source text front.OutOfMemory holds h = inl refl
 
-pub no-source : (names : List Bytes) (bytes source text : Bytes) (e : UnitError) (r : UnitReadError) → r ≡ of_source e → HoldsUnit bytes source text →
-    (e ≡ refused.OutOfMemory) ⊎ IsSourceFault names source e → IsReadRefusal names bytes r
-no-source names bytes source text e r is holds (inl k) = inl (is ∙ ap of_source k)
-no-source names bytes source text e r is holds (inr h) = subst (IsReadRefusal names bytes) (sym is) (source-fault names bytes source text e holds h)
+pub no-source : (names : List Bytes) (bytes source text : Bytes) (e : FrontError) (r : UnitReadError) → r ≡ of_source e → HoldsUnit bytes source text →
+    IfRefused (IsSourceFault names source) e → IsReadRefusal names bytes r
+no-source names bytes source text e r is holds h = subst (IsReadRefusal names bytes) (sym is) (source-fault names bytes source text e holds h)
 
 bad-other : (k : ℕ) → stopped.BadText k ≢ stopped.OutOfMemory
 bad-other k e = absurd (cc)

@@ -1,110 +1,65 @@
 -- Why sources are refused, from why their stages are.
-use Rattle.std.proofs.Common.{◌≡◌, ◌⊎◌, inl, inr, ℕ, ◌+◌, ◌<◌, length, map, take, drop, get_or, List, [], ◌∷◌, ◌++◌, refl, sym, ap, ◌∙◌, subst}
+use Rattle.std.proofs.Common.{◌≡◌, ℕ, ◌+◌, ◌<◌, length, map, take, drop, get_or, List, [], ◌∷◌, ◌++◌, refl, sym, ap, ◌∙◌, subst}
 use Rattle.std.specs.Prelude.{None, Result, Ok, Err, IfOk, IfErr}
 use Rattle.std.proofs.lemmas.List.{take-append-drop, drop_more, map-append, map_more, map_push}
 use Rattle.fy_base.specs.Outside.{Bytes}
 use Rattle.fy_base.specs.declared.data.Place.{Place}
 use Rattle.fy_lexer.specs.declared.token.Token.{Token}
 use Rattle.fy_lexer.specs.declared.error.LexError.{LexError}
-use Rattle.fy_lexer.specs.declared.error.LexError.TheVariants as unread
 use Rattle.fy_lexer.specs.Tokens.{IsFaultOf}
 use Rattle.fy_syntax.specs.Signs.{front}
 use Rattle.fy_syntax.specs.Trees as written
 use Rattle.fy_grammar.specs.declared.error.ParseError.{ParseError}
-use Rattle.fy_grammar.specs.declared.error.ParseError.TheVariants as unparsed
 use Rattle.fy_grammar.specs.Program.{IsTheProgram, IsRefusal}
-use Rattle.fy_expand.specs.declared.error.ExpandError.{ExpandError}
-use Rattle.fy_expand.specs.declared.error.ExpandError.TheVariants as unexpanded
-use Rattle.fy_expand.specs.Expansion.{core_of}
+use Rattle.fy_front.specs.Checked.{lex_refusal, parse_refusal, failure_of, IfRefused, IsMeaningless}
+use Rattle.fy_front.specs.declared.error.FrontError.{FrontError}
+use Rattle.fy_front.specs.declared.refusal.Refusal.TheVariants as refusal
+use Rattle.fy_front.proofs.Checking.{failed, refused_more}
 use Rattle.fy_link.specs.declared.header.Piece.{Piece}
 use Rattle.fy_link.specs.declared.source.Named as value
-use Rattle.fy_link.specs.declared.error.UnitError.{UnitError}
-use Rattle.fy_link.specs.declared.error.UnitError.TheVariants as refused
-use Rattle.fy_link.specs.Answers.{of_lex, of_parse, of_expand}
 use Rattle.fy_link.specs.Header.{PlainPiece, PlainHeader, type_program, unit_program, header_of, pieces_in}
-use Rattle.fy_link.specs.Sources.{Named, NameAll, Names, IsMeaningless, IsTypeFault, IsSaidFault, IsLexed, HasHeader, IsSourceFault}
+use Rattle.fy_link.specs.Sources.{Named, NameAll, Names, IsTypeFault, IsSaidFault, IsLexed, HasHeader, IsSourceFault}
 use Rattle.fy_link.specs.Read.{plain_piece, plain_named}
 use Rattle.fy_link.proofs.NamingLemmas.{named-push, fault-more}
 
--- want of memory, or the tokens mean nothing for this reason
-abbrev pub HasNoMeaning : List Token → UnitError → Type 0
-HasNoMeaning tokens e = (e ≡ refused.OutOfMemory) ⊎ IsMeaningless tokens e
+-- the type of a piece is refused
+pub type-fault : (at : Place) (xs before behind : List PlainPiece) (x : PlainPiece) (known : List Named) (e : FrontError) →
+    xs ≡ before ++ x ∷ behind → NameAll at before known → IfRefused (IsMeaningless (type_program at x)) e → IfRefused (IsTypeFault at xs) e
+type-fault at xs before behind x known e is h k =
+    refused_more (IsMeaningless (type_program at x)) (IsTypeFault at xs) e (λ why f. record { before = before; x = x; behind = behind; is = is; known = known; named = h; why = f }) k
 
-pub unparsed-meaningless : (tokens : List Token) (e : ParseError) → IsRefusal tokens e → HasNoMeaning tokens (of_parse e)
-unparsed-meaningless tokens (unparsed.Syntax at) h = inr (IsMeaningless.no_program h (λ k. absurd (cc)))
-unparsed-meaningless tokens (unparsed.TooDeep at) h = inr (IsMeaningless.no_program h (λ k. absurd (cc)))
-unparsed-meaningless tokens unparsed.OutOfMemory h = inl refl
+-- a source with this header is refused
+pub imports-fault : (at : Place) (header : PlainHeader) (e : FrontError) → IfRefused (IsTypeFault at header.imports) e → IfRefused (IsSaidFault at header) e
+imports-fault at header e k =
+    refused_more (IsTypeFault at header.imports) (IsSaidFault at header) e (λ why f. IsSaidFault.of_type (fault-more at header.imports (header.own ∷ []) why f)) k
 
-unexpanded-by : (tokens : List Token) (tree : written.Tree) (e : ExpandError) → IsTheProgram tokens tree → core_of tree ≡ Err e → HasNoMeaning tokens (of_expand e)
-unexpanded-by tokens tree unexpanded.OutOfMemory h k = inl refl
-unexpanded-by tokens tree e h k = inr (IsMeaningless.no_core h k)
-
-pub unexpanded-meaningless : (tokens : List Token) (tree : written.Tree) (e : ExpandError) →
-    IsTheProgram tokens tree → (e ≡ unexpanded.OutOfMemory) ⊎ (core_of tree ≡ Err e) → HasNoMeaning tokens (of_expand e)
-unexpanded-meaningless tokens tree e h (inl k) = inl (ap of_expand k)
-unexpanded-meaningless tokens tree e h (inr k) = unexpanded-by tokens tree e h k
-
--- want of memory, or the type of a piece is refused
-abbrev pub HasTypeFault : Place → List PlainPiece → UnitError → Type 0
-HasTypeFault at xs e = (e ≡ refused.OutOfMemory) ⊎ IsTypeFault at xs e
-
-pub type-fault : (at : Place) (xs before behind : List PlainPiece) (x : PlainPiece) (known : List Named) (e : UnitError) →
-    xs ≡ before ++ x ∷ behind → NameAll at before known → HasNoMeaning (type_program at x) e → HasTypeFault at xs e
-type-fault at xs before behind x known e is h (inl k) = inl k
-type-fault at xs before behind x known e is h (inr k) =
-    inr (record { before = before; x = x; behind = behind; is = is; known = known; named = h; why = k })
-
--- want of memory, or a source with this header is refused
-abbrev pub HasSaidFault : Place → PlainHeader → UnitError → Type 0
-HasSaidFault at header e = (e ≡ refused.OutOfMemory) ⊎ IsSaidFault at header e
-
-pub imports-fault : (at : Place) (header : PlainHeader) (e : UnitError) → HasTypeFault at header.imports e → HasSaidFault at header e
-imports-fault at header e (inl k) = inl k
-imports-fault at header e (inr k) = inr (IsSaidFault.of_type (fault-more at header.imports (header.own ∷ []) e k))
-
-own_fault : (at : Place) (header : PlainHeader) (e : UnitError) → HasTypeFault at (pieces_in header) e → HasSaidFault at header e
-own_fault at header e (inl k) = inl k
-own_fault at header e (inr k) = inr (IsSaidFault.of_type k)
-
-pub own-fault : (at : Place) (header : PlainHeader) (known : List Named) (e : UnitError) →
-    NameAll at header.imports known → HasNoMeaning (type_program at header.own) e → HasSaidFault at header e
-own-fault at header known e h k = own_fault at header e (type-fault at (pieces_in header) header.imports [] header.own known e refl h k)
+pub own-fault : (at : Place) (header : PlainHeader) (known : List Named) (e : FrontError) →
+    NameAll at header.imports known → IfRefused (IsMeaningless (type_program at header.own)) e → IfRefused (IsSaidFault at header) e
+own-fault at header known e h k =
+    refused_more (IsTypeFault at (pieces_in header)) (IsSaidFault at header) e (λ why f. IsSaidFault.of_type f) (type-fault at (pieces_in header) header.imports [] header.own known e refl h k)
 
 pub tail-fault : (at : Place) (header : PlainHeader) (known : List Named) (own : Named) (e : ParseError) →
-    NameAll at header.imports known → Names at header.own own → IsRefusal header.tail e → HasSaidFault at header (of_parse e)
-tail-fault at header known own (unparsed.Syntax p) h k f = inr (IsSaidFault.of_tail (known ++ own ∷ []) (named-push at header.imports known header.own own h k) f (λ q. absurd (cc)))
-tail-fault at header known own (unparsed.TooDeep p) h k f = inr (IsSaidFault.of_tail (known ++ own ∷ []) (named-push at header.imports known header.own own h k) f (λ q. absurd (cc)))
-tail-fault at header known own unparsed.OutOfMemory h k f = inl refl
+    NameAll at header.imports known → Names at header.own own → IsRefusal header.tail e → IfRefused (IsSaidFault at header) (failure_of (parse_refusal e))
+tail-fault at header known own e h k f =
+    failed (IsSaidFault at header) (parse_refusal e) (λ why told. IsSaidFault.of_tail (known ++ own ∷ []) e (named-push at header.imports known header.own own h k) f told)
 
-pub phrase-fault : (at : Place) (header : PlainHeader) (known : List Named) (own : Named) (alone : written.Tree) (e : UnitError) →
-    NameAll at header.imports known → Names at header.own own → IsTheProgram header.tail alone → HasNoMeaning (unit_program at header) e → HasSaidFault at header e
-phrase-fault at header known own alone e h k p (inl q) = inl q
-phrase-fault at header known own alone e h k p (inr q) = inr (IsSaidFault.of_phrase (known ++ own ∷ []) (named-push at header.imports known header.own own h k) p q)
+pub phrase-fault : (at : Place) (header : PlainHeader) (known : List Named) (own : Named) (alone : written.Tree) (e : FrontError) → NameAll at header.imports known →
+    Names at header.own own → IsTheProgram header.tail alone → IfRefused (IsMeaningless (unit_program at header)) e → IfRefused (IsSaidFault at header) e
+phrase-fault at header known own alone e h k p q =
+    refused_more (IsMeaningless (unit_program at header)) (IsSaidFault at header) e
+    (λ why f. IsSaidFault.of_phrase (known ++ own ∷ []) (named-push at header.imports known header.own own h k) p f) q
 
--- the exit of a `?`
-pub err-handed : {X : Type 0} (P : UnitError → Type 0) (r : Result X UnitError) (x e : UnitError) → r ≡ Err x → x ≡ e → P e → IfErr r P
-err-handed P r x e h k p = subst (λ s. IfErr s P) (sym h) (subst P (sym k) p)
-
--- want of memory, or the source is refused
-abbrev pub HasSourceFault : List Bytes → Bytes → UnitError → Type 0
-HasSourceFault names source e = (e ≡ refused.OutOfMemory) ⊎ IsSourceFault names source e
-
-pub lex-fault : (names : List Bytes) (source : Bytes) (e : LexError) → IsFaultOf names source e → HasSourceFault names source (of_lex e)
-lex-fault names source unread.OutOfMemory h = inl refl
-lex-fault names source (unread.BadByte at) h = inr (IsSourceFault.of_tokens h (λ q. absurd (cc)))
-lex-fault names source (unread.Unclosed at) h = inr (IsSourceFault.of_tokens h (λ q. absurd (cc)))
-lex-fault names source (unread.NumberTooLarge at) h = inr (IsSourceFault.of_tokens h (λ q. absurd (cc)))
-lex-fault names source unread.TooManyTokens h = inr (IsSourceFault.of_tokens h (λ q. absurd (cc)))
+-- the source is refused
+pub lex-fault : (names : List Bytes) (source : Bytes) (e : LexError) → IsFaultOf names source e → IfRefused (IsSourceFault names source) (failure_of (lex_refusal e))
+lex-fault names source e h = failed (IsSourceFault names source) (lex_refusal e) (λ why told. IsSourceFault.of_tokens e h told)
 
 pub header-fault : (names after : List Bytes) (source : Bytes) (tokens : List Token) (at : Place) →
-    IsLexed names source tokens after → None ≡ header_of tokens → at ≡ front tokens → HasSourceFault names source (refused.Header at)
-header-fault names after source tokens at h e k =
-    subst (λ (p : Place). HasSourceFault names source (refused.Header p)) (sym k) (inr (IsSourceFault.of_header h (sym e)))
+    IsLexed names source tokens after → None ≡ header_of tokens → at ≡ front tokens → IsSourceFault names source (refusal.Header at)
+header-fault names after source tokens at h e k = subst (λ (p : Place). IsSourceFault names source (refusal.Header p)) (sym k) (IsSourceFault.of_header h (sym e))
 
-pub behind-fault : (names after : List Bytes) (source : Bytes) (tokens : List Token) (header : PlainHeader) (e : UnitError) →
-    HasHeader names source after tokens header → HasSaidFault (front tokens) header e → HasSourceFault names source e
-behind-fault names after source tokens header e h (inl k) = inl k
-behind-fault names after source tokens header e h (inr k) = inr (IsSourceFault.behind_header h k)
+pub behind-fault : (names after : List Bytes) (source : Bytes) (tokens : List Token) (header : PlainHeader) (e : FrontError) →
+    HasHeader names source after tokens header → IfRefused (IsSaidFault (front tokens) header) e → IfRefused (IsSourceFault names source) e
+behind-fault names after source tokens header e h k = refused_more (IsSaidFault (front tokens) header) (IsSourceFault names source) e (λ why f. IsSourceFault.behind_header h f) k
 
 pub ok-weaker : {X E : Type 0} (P Q : X → Type 0) (r : Result X E) → ((x : X) → P x → Q x) → IfOk r P → IfOk r Q
 ok-weaker P Q (Ok x) f h = f x h

@@ -13,8 +13,7 @@ use Rattle.fy_derive.specs.Limits.{deepest_type, most_type_nesting}
 use Rattle.fy_derive.specs.Reading.{plain_derivation}
 use Rattle.fy_link.specs.declared.error.LinkError.{LinkError}
 use Rattle.fy_link.specs.declared.error.LinkError.TheVariants as unlinked
-use Rattle.fy_link.specs.declared.error.UnitError.{UnitError}
-use Rattle.fy_link.specs.declared.error.UnitError.TheVariants as refused
+use Rattle.fy_front.specs.declared.refusal.Refusal.{Refusal}
 use Rattle.fy_link.specs.declared.linking.Linked.{Linked}
 use Rattle.fy_link.specs.declared.unit.Unit.{Unit as UnitValue}
 use Rattle.fy_link.specs.Units.{context_of, IsUnitFault, KeepsTypeLimits, PlainUnit, plain_unit}
@@ -39,12 +38,12 @@ pub record IsUnitSource (names : List Bytes) (source : Bytes) (after : List Byte
   pub concluded : judged derivation 0 (reverse (context_of u.imports)) u.phrase ≡ concludes u.own.type
   pub within : KeepsTypeLimits u
 
--- with the list a source says one thing at most, which leaves one list; one of a unit isn't refused, and others are refused for one cause: but for want of memory
+-- with the list a source says one thing at most, which leaves one list; one of a unit isn't refused, and others are refused for one cause
 pub record SourcesAreJudgedOneWay (names : List Bytes) (source : Bytes) : Type 0 where
   pub said : (after last : List Bytes) (u v : PlainSource) → IsSource names source after u → IsSource names source last v → u ≡ v
   pub list : (after last : List Bytes) (u v : PlainSource) → IsSource names source after u → IsSource names source last v → after ≡ last
-  pub apart : (after : List Bytes) (u : PlainSource) (e : UnitError) → e ≢ refused.OutOfMemory → IsUnitSource names source after u → ¬ IsUnitFault names source e
-  pub fault : (e other : UnitError) → e ≢ refused.OutOfMemory → other ≢ refused.OutOfMemory → IsUnitFault names source e → IsUnitFault names source other → e ≡ other
+  pub apart : (after : List Bytes) (u : PlainSource) (e : Refusal) → IsUnitSource names source after u → ¬ IsUnitFault names source e
+  pub fault : (e other : Refusal) → IsUnitFault names source e → IsUnitFault names source other → e ≡ other
 
 -- the values hold one unit: its source, what that says, the derivation, and the place of the header's `==`
 pub record IsSameUnit (value other : UnitValue) : Type 0 where

@@ -1,24 +1,21 @@
 -- What the source of a unit says, and why a source is refused before it is typed.
-use Rattle.std.specs.Prelude.{◌≡◌, ◌≢◌, ℕ, zero, suc, List, [], ◌∷◌, ◌++◌, length, Some, None, Ok, Err}
+use Rattle.std.specs.Prelude.{◌≡◌, ℕ, zero, suc, List, [], ◌∷◌, ◌++◌, length, Some, None}
 use Rattle.fy_base.specs.Outside.{Bytes}
 use Rattle.fy_base.specs.declared.data.Place.{Place}
 use Rattle.fy_types.specs.Types.{PlainType, PlainTypes}
 use Rattle.fy_lexer.specs.declared.error.LexError.{LexError}
-use Rattle.fy_lexer.specs.declared.error.LexError.TheVariants as unread
 use Rattle.fy_lexer.specs.declared.token.Token.{Token}
 use Rattle.fy_lexer.specs.Again.{HaveNoEnd}
 use Rattle.fy_lexer.specs.Tokens.{IsTokensOf, AreWithin, IsFaultOf}
 use Rattle.fy_syntax.specs.Trees as written
 use Rattle.fy_syntax.specs.Signs.{front}
 use Rattle.fy_grammar.specs.declared.error.ParseError.{ParseError}
-use Rattle.fy_grammar.specs.declared.error.ParseError.TheVariants as unparsed
 use Rattle.fy_grammar.specs.Program.{IsEnded, IsTheProgram, IsRefusal}
 use Rattle.fy_phrase.specs.Tree.{Tree, let_in, lam}
-use Rattle.fy_expand.specs.declared.error.ExpandError.{ExpandError}
-use Rattle.fy_expand.specs.Expansion.{core_of}
 use Rattle.fy_expand.specs.Scope.{program_scope}
-use Rattle.fy_link.specs.declared.error.UnitError.{UnitError}
-use Rattle.fy_link.specs.declared.error.UnitError.TheVariants as refused
+use Rattle.fy_front.specs.Checked.{lex_refusal, parse_refusal, Means, IsMeaningless}
+use Rattle.fy_front.specs.declared.refusal.Refusal.{Refusal}
+use Rattle.fy_front.specs.declared.refusal.Refusal.TheVariants as refusal
 use Rattle.fy_link.specs.Header.{PlainPiece, PlainHeader, header_of, pieces_in, type_program, unit_program}
 
 -- a name with its type: an import, or what a unit exports
@@ -57,18 +54,6 @@ domain_of p = PlainType.ns
 pub record IsLexed (names : List Bytes) (source : Bytes) (tokens : List Token) (after : List Bytes) : Type 0 where
   pub read : IsTokensOf names source tokens after
   pub within : AreWithin tokens
-
--- the tokens are a program that means the core phrase
-pub record Means (tokens : List Token) (p : Tree) : Type 0 where
-  pub tree : written.Tree
-  pub program : IsTheProgram tokens tree
-  pub core : core_of tree ≡ Ok p
-
--- why tokens mean no core phrase: they are no program of the allowed nesting, or expansion refuses it
-pub data IsMeaningless : List Token → UnitError → Type 0 where
-  no_program : {tokens : List Token} {e : ParseError} → IsRefusal tokens e → e ≢ unparsed.OutOfMemory → IsMeaningless tokens (refused.Parse e)
-  no_core : {tokens : List Token} {tree : written.Tree} {e : ExpandError} →
-      IsTheProgram tokens tree → core_of tree ≡ Err e → IsMeaningless tokens (refused.Expand e)
 
 -- a piece of the header names this, with the type that is written
 pub record Names (at : Place) (x : PlainPiece) (named : Named) : Type 0 where
@@ -117,7 +102,7 @@ pub record IsSource (names : List Bytes) (source : Bytes) (after : List Bytes) (
   pub said : IsSaid (front tokens) header u
 
 -- the types of the pieces before one are known, and that one's is refused
-pub record IsTypeFault (at : Place) (pieces : List PlainPiece) (e : UnitError) : Type 0 where
+pub record IsTypeFault (at : Place) (pieces : List PlainPiece) (e : Refusal) : Type 0 where
   pub before : List PlainPiece
   pub x : PlainPiece
   pub behind : List PlainPiece
@@ -127,19 +112,19 @@ pub record IsTypeFault (at : Place) (pieces : List PlainPiece) (e : UnitError) :
   pub why : IsMeaningless (type_program at x) e
 
 -- why a source with this header is refused: by a type of a piece, else by what stands behind the `==` alone, else by the whole
-pub data IsSaidFault (at : Place) (header : PlainHeader) : UnitError → Type 0 where
-  of_type : {e : UnitError} → IsTypeFault at (pieces_in header) e → IsSaidFault at header e
-  of_tail : (known : List Named) {e : ParseError} → NameAll at (pieces_in header) known →
-      IsRefusal header.tail e → e ≢ unparsed.OutOfMemory → IsSaidFault at header (refused.Parse e)
-  of_phrase : (known : List Named) {alone : written.Tree} {e : UnitError} → NameAll at (pieces_in header) known →
+pub data IsSaidFault (at : Place) (header : PlainHeader) : Refusal → Type 0 where
+  of_type : {e : Refusal} → IsTypeFault at (pieces_in header) e → IsSaidFault at header e
+  of_tail : (known : List Named) {e : Refusal} (cause : ParseError) → NameAll at (pieces_in header) known →
+      IsRefusal header.tail cause → parse_refusal cause ≡ Some e → IsSaidFault at header e
+  of_phrase : (known : List Named) {alone : written.Tree} {e : Refusal} → NameAll at (pieces_in header) known →
       IsTheProgram header.tail alone → IsMeaningless (unit_program at header) e → IsSaidFault at header e
 
 -- why a source is refused before typing: by the first stage that refuses
-pub data IsSourceFault (names : List Bytes) (source : Bytes) : UnitError → Type 0 where
-  of_tokens : {e : LexError} → IsFaultOf names source e → e ≢ unread.OutOfMemory → IsSourceFault names source (refused.Lex e)
+pub data IsSourceFault (names : List Bytes) (source : Bytes) : Refusal → Type 0 where
+  of_tokens : {e : Refusal} (cause : LexError) → IsFaultOf names source cause → lex_refusal cause ≡ Some e → IsSourceFault names source e
   of_header : {tokens : List Token} {after : List Bytes} →
-      IsLexed names source tokens after → header_of tokens ≡ None → IsSourceFault names source (refused.Header (front tokens))
-  behind_header : {tokens : List Token} {after : List Bytes} {header : PlainHeader} {e : UnitError} →
+      IsLexed names source tokens after → header_of tokens ≡ None → IsSourceFault names source (refusal.Header (front tokens))
+  behind_header : {tokens : List Token} {after : List Bytes} {header : PlainHeader} {e : Refusal} →
       HasHeader names source after tokens header → IsSaidFault (front tokens) header e → IsSourceFault names source e
 
 -- the source is read so, and the `==` of its header has that place

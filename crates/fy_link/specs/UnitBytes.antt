@@ -11,7 +11,7 @@ use Rattle.fy_read.specs.declared.error.ReadError.{ReadError}
 use Rattle.fy_read.specs.declared.error.ReadError.TheVariants as unread
 use Rattle.fy_read.specs.FieldNames.{NumbersFields}
 use Rattle.fy_read.specs.Refusals.{IsReadFault, KeepsThroughout}
-use Rattle.fy_link.specs.declared.error.UnitError.{UnitError}
+use Rattle.fy_front.specs.declared.refusal.Refusal.{Refusal}
 use Rattle.fy_link.specs.Sources.{PlainSource, HasEquals, IsSource, IsSourceFault}
 use Rattle.fy_link.specs.declared.unit.Unit.{Unit as UnitValue}
 use Rattle.fy_link.specs.Units.{context_of, PlainUnit, IsTyped, plain_unit}
@@ -45,7 +45,7 @@ pub record IsRead (names : List Bytes) (source text : Bytes) (later : List Bytes
 -- which part of bytes is none of a unit's
 pub data BadPart : Type 0 where
   bad_form : BadPart
-  bad_source : UnitError → BadPart
+  bad_source : Refusal → BadPart
   bad_text : BadPart
   bad_type : BadPart
 
@@ -54,7 +54,7 @@ pub data IsBadFor (names : List Bytes) (bytes : Bytes) : BadPart → Type 0 wher
   -- they aren't so, or a part is too long
   no_form : ((source text : Bytes) → ¬ HoldsUnit bytes source text) → IsBadFor names bytes bad_form
   -- the source is refused before typing
-  no_source : {source text : Bytes} {e : UnitError} → HoldsUnit bytes source text → IsSourceFault names source e → IsBadFor names bytes (bad_source e)
+  no_source : {source text : Bytes} {e : Refusal} → HoldsUnit bytes source text → IsSourceFault names source e → IsBadFor names bytes (bad_source e)
   -- the text is no derivation's within the limits
   no_derivation : {source text : Bytes} {after : List Bytes} {u : PlainSource} {e : ReadError} →
       HoldsUnit bytes source text → IsSource names source after u → IsReadFault text e → e ≢ unread.OutOfMemory → IsBadFor names bytes bad_text

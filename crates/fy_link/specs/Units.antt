@@ -1,5 +1,5 @@
 -- Units: sources with derivations of their phrases, typed apart.
-use Rattle.std.specs.Prelude.{◌≡◌, ◌≢◌, ◌≤◌, List, [], ◌∷◌, ◌++◌, length, map, reverse, Err}
+use Rattle.std.specs.Prelude.{◌≡◌, ◌≤◌, List, [], ◌∷◌, ◌++◌, length, map, reverse, Some, Err}
 use Rattle.fy_base.specs.Outside.{Bytes}
 use Rattle.fy_types.specs.declared.types.Atom.TheVariants.{Int, Bool as Truth, Char, Comm, IntAcc}
 use Rattle.fy_types.specs.Types.{PlainType, atom, arrow}
@@ -11,11 +11,10 @@ use Rattle.fy_derive.specs.Limits.{KeepsLimits}
 use Rattle.fy_derive.specs.Reading.{plain_derivation}
 use Rattle.fy_expand.specs.Judged.{most_text}
 use Rattle.fy_least.specs.declared.error.FindError.{FindError}
-use Rattle.fy_least.specs.declared.error.FindError.TheVariants as unfound
 use Rattle.fy_least.specs.Finding.{IsFindingOf}
 use Rattle.fy_least.specs.Limits.{KeepTypeLimits}
-use Rattle.fy_link.specs.declared.error.UnitError.{UnitError}
-use Rattle.fy_link.specs.declared.error.UnitError.TheVariants as refused
+use Rattle.fy_front.specs.Checked.{find_refusal}
+use Rattle.fy_front.specs.declared.refusal.Refusal.{Refusal}
 use Rattle.fy_link.specs.declared.unit.Unit.{Unit as UnitValue}
 use Rattle.fy_link.specs.Read.{source_in}
 use Rattle.fy_link.specs.Sources.{Named, PlainSource, HasEquals, IsSource, IsSourceFault}
@@ -62,9 +61,8 @@ pub record IsUnit (names : List Bytes) (value : UnitValue) : Type 0 where
   pub u : PlainUnit
   pub is : IsUnitOf names value u
 
--- why a source is no unit: it is refused before typing, else its phrase hasn't the type; want of memory may come anywhere
-pub data IsUnitFault (names : List Bytes) (source : Bytes) : UnitError → Type 0 where
-  before_typing : {e : UnitError} → IsSourceFault names source e → IsUnitFault names source e
-  of_typing : {after : List Bytes} {u : PlainSource} {e : FindError} → IsSource names source after u → e ≢ unfound.OutOfMemory →
-      IsFindingOf (reverse (context_of u.imports)) u.phrase u.own.type (Err e) → IsUnitFault names source (refused.Find e)
-  of_memory : IsUnitFault names source refused.OutOfMemory
+-- why a source is no unit: it is refused before typing, else its phrase hasn't the type
+pub data IsUnitFault (names : List Bytes) (source : Bytes) : Refusal → Type 0 where
+  before_typing : {e : Refusal} → IsSourceFault names source e → IsUnitFault names source e
+  of_typing : {after : List Bytes} {u : PlainSource} {e : Refusal} (cause : FindError) → IsSource names source after u →
+      IsFindingOf (reverse (context_of u.imports)) u.phrase u.own.type (Err cause) → find_refusal cause ≡ Some e → IsUnitFault names source e

@@ -10,11 +10,12 @@ ghost use Rattle.fy_link.specs.UnitBytes.{HoldsUnit, IsBadUnit, IsUnitRead, magi
 ghost use Rattle.fy_link.specs.Units.{IsUnit};
 ghost use Rattle.fy_link.specs.declared.error.UnitReadError.TheVariants.{OutOfMemory as NoMemory};
 
-use crate::error::{UnitError, UnitReadError};
+use crate::error::UnitReadError;
 use crate::source::{context_of, said_in};
 use crate::unit::{Unit, copied};
 use fy_base::OutOfMemory;
 use fy_derive::{DeriveError, check_as, print_derivation};
+use fy_front::FrontError;
 use fy_read::{ReadError, read_derivation};
 use fy_types::Names;
 use std::alloc::Global;
@@ -87,12 +88,12 @@ fn split(bytes: &[u8]) -> Option<(&[u8], &[u8])>
 }
 
 // What a refusal of the source is as one of the bytes.
-fn source_refused(error: UnitError) -> UnitReadError
+fn source_refused(error: FrontError) -> UnitReadError
     ensures { result ≡ of_source error }
 {
     match error {
-        UnitError::OutOfMemory => UnitReadError::OutOfMemory,
-        _ => UnitReadError::BadUnit,
+        FrontError::Refused(_) => UnitReadError::BadUnit,
+        FrontError::OutOfMemory => UnitReadError::OutOfMemory,
     }
 }
 

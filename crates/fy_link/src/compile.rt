@@ -4,6 +4,7 @@ ghost use Rattle.std.specs.Prelude.{◌≡◌, ◌+◌, ◌≤◌, IfOk, IfErr, 
 ghost use Rattle.fy_derive.specs.Printable.{IsPrintable};
 ghost use Rattle.fy_derive.specs.Reading.{plain_derivation};
 ghost use Rattle.fy_expand.specs.Judged.{most_text};
+ghost use Rattle.fy_front.specs.Checked.{IfRefused};
 ghost use Rattle.fy_lexer.specs.Identifiers.{AreIdentifiers};
 ghost use Rattle.fy_lexer.specs.Tokens.{HasAdded};
 ghost use Rattle.fy_link.specs.Read.{source_in};
@@ -12,9 +13,9 @@ ghost use Rattle.fy_link.specs.UnitBytes.{IsReadBack};
 ghost use Rattle.fy_link.specs.Units.{IsUnit, IsUnitFault, KeepsTypeLimits};
 ghost use Rattle.fy_types.specs.Names.{AreNames};
 
-use crate::error::UnitError;
 use crate::source::{context_of, said_in};
 use crate::unit::{Unit, copied};
+use fy_front::FrontError;
 use fy_least::find_as;
 use fy_types::Names;
 use std::alloc::Global;
@@ -27,12 +28,12 @@ use std::alloc::Global;
 ///
 /// # Errors
 ///
-/// The first stage that refuses decides. `Lex`: the source has no tokens. `Header`, at the first token: no `==` stands in it, or the
+/// The first stage that refuses decides. First the source's tokens. Then `Header`, at the first token: no `==` stands in it, or the
 /// tokens before it aren't pieces between commas, each an identifier, `:` and tokens without `.` and `|`, or a piece's name is
-/// repeated or is one of the prelude's. `Parse` and `Expand`: the type of a piece, the first such, is refused in `\ name : type . skip`;
-/// then what stands behind the `==` is no program; then it is refused in parentheses inside an abstraction for each import. `Find`:
-/// the phrase doesn't have the unit's type, or a type is too large. And `OutOfMemory`.
-pub fn compile_unit(alloc: Global, names: &mut Names, source: &[u8]) -> Result<Unit, UnitError>
+/// repeated or is one of the prelude's. Then syntax and expansion: the type of a piece, the first such, is refused in
+/// `\ name : type . skip`; then what stands behind the `==` is no program; then it is refused in parentheses inside an abstraction for
+/// each import. Then typing: the phrase doesn't have the unit's type, or a type is too large. And `OutOfMemory`.
+pub fn compile_unit(alloc: Global, names: &mut Names, source: &[u8]) -> Result<Unit, FrontError>
     requires text { length source.now ≤ most_text }
     requires names { length names.old ≤ 3000000000 }
     ensures source { IfOk result (λ unit. unit.source ≡ source.now) }
@@ -41,7 +42,7 @@ pub fn compile_unit(alloc: Global, names: &mut Names, source: &[u8]) -> Result<U
     ensures within { IfOk result (λ unit. KeepsTypeLimits (source_in unit)) }
     ensures printable { IfOk result (λ unit. AreNames names.old → AreIdentifiers names.old → IsPrintable names.new (plain_derivation unit.derivation)) }
     ensures read_back { IfOk result (λ unit. AreNames names.old → AreIdentifiers names.old → IsReadBack names.old names.new unit) }
-    ensures err { IfErr result (IsUnitFault names.old source.now) }
+    ensures refused { IfErr result (IfRefused (IsUnitFault names.old source.now)) }
     ensures names { HasAdded names.old names.new }
     ensures few { length names.new ≤ length names.old + length source.now }
 {

@@ -1,102 +1,14 @@
 //! Refusals.
 
 ghost use Rattle.std.specs.Prelude.{◌≡◌};
-ghost use Rattle.fy_link.specs.Answers.{link_of_text, of_expand, of_find, of_lex, of_parse};
-ghost use Rattle.fy_link.specs.declared.error.UnitError.TheVariants as refused;
+ghost use Rattle.fy_link.specs.Answers.{link_of_text};
 ghost use Rattle.fy_link.specs.declared.error.UnitReadError.TheVariants as unread;
 ghost use Rattle.fy_link.specs.declared.error.LinkError.TheVariants as unlinked;
 
-use fy_base::{OutOfMemory, Place};
-use fy_expand::ExpandError;
+use fy_base::OutOfMemory;
 use fy_front::{FrontError, Refusal};
-use fy_grammar::ParseError;
-use fy_least::FindError;
-use fy_lexer::LexError;
 use std::alloc::AllocFailed;
 use thiserror::Error;
-
-/// Why a source is no unit. The first stage that refuses is told.
-#[derive(Clone, Copy, PartialEq, Eq, Debug, Error)]
-pub enum UnitError {
-    /// What stands before the first `==` is no header, at the place of the first token.
-    #[error("header")]
-    Header(Place),
-    /// The source has no tokens.
-    #[error("tokens")]
-    Lex(LexError),
-    /// A type of the header, or the phrase, is no program's part.
-    #[error("syntax")]
-    Parse(ParseError),
-    /// A type of the header, or the phrase, has no core phrase.
-    #[error("expansion")]
-    Expand(ExpandError),
-    /// The phrase doesn't have the unit's type.
-    #[error("type")]
-    Find(FindError),
-    /// Memory was wanting.
-    #[error("out of memory")]
-    OutOfMemory,
-}
-
-impl From<OutOfMemory> for UnitError {
-    ghost from_gives = { λ _ e. e ≡ refused.OutOfMemory };
-
-    fn from(_error: OutOfMemory) -> UnitError {
-        UnitError::OutOfMemory
-    }
-}
-
-impl<T: Drop> From<AllocFailed<T>> for UnitError {
-    ghost from_gives = { λ _ e. e ≡ refused.OutOfMemory };
-
-    fn from(_error: AllocFailed<T>) -> UnitError {
-        UnitError::OutOfMemory
-    }
-}
-
-impl From<LexError> for UnitError {
-    ghost from_gives = { λ error e. e ≡ of_lex error };
-
-    fn from(error: LexError) -> UnitError {
-        match error {
-            LexError::OutOfMemory => UnitError::OutOfMemory,
-            error => UnitError::Lex(error),
-        }
-    }
-}
-
-impl From<ParseError> for UnitError {
-    ghost from_gives = { λ error e. e ≡ of_parse error };
-
-    fn from(error: ParseError) -> UnitError {
-        match error {
-            ParseError::OutOfMemory => UnitError::OutOfMemory,
-            error => UnitError::Parse(error),
-        }
-    }
-}
-
-impl From<ExpandError> for UnitError {
-    ghost from_gives = { λ error e. e ≡ of_expand error };
-
-    fn from(error: ExpandError) -> UnitError {
-        match error {
-            ExpandError::OutOfMemory => UnitError::OutOfMemory,
-            error => UnitError::Expand(error),
-        }
-    }
-}
-
-impl From<FindError> for UnitError {
-    ghost from_gives = { λ error e. e ≡ of_find error };
-
-    fn from(error: FindError) -> UnitError {
-        match error {
-            FindError::OutOfMemory => UnitError::OutOfMemory,
-            error => UnitError::Find(error),
-        }
-    }
-}
 
 /// Why bytes are no unit.
 #[derive(Clone, Copy, PartialEq, Eq, Debug, Error)]

@@ -16,7 +16,7 @@ mod written;
 
 pub use bytes::{read_unit, write_unit};
 pub use compile::compile_unit;
-pub use error::{LinkError, UnitError, UnitReadError};
+pub use error::{LinkError, UnitReadError};
 pub use laws::{units_are_judged_one_way, units_are_linked};
 pub use linking::{Linked, link};
 pub use unit::{Unit, UnitList};

@@ -1,6 +1,6 @@
 //! What sources say.
 
-ghost use Rattle.std.specs.Prelude.{◌≡◌, ◌+◌, ◌≤◌, ◌⊎◌, ◌∷◌, ◌++◌, [], IfOk, IfErr, OnOk, length, map};
+ghost use Rattle.std.specs.Prelude.{◌≡◌, ◌+◌, ◌≤◌, ◌∷◌, ◌++◌, [], IfOk, IfErr, OnOk, length, map};
 ghost use Rattle.fy_phrase.specs.Reads.{reads};
 ghost use Rattle.fy_syntax.specs.Signs.{front};
 ghost use Rattle.fy_types.specs.declared.types.Atom.TheVariants.{Comm};
@@ -8,19 +8,17 @@ ghost use Rattle.fy_types.specs.Reading.{plain_type, types_in};
 ghost use Rattle.fy_types.specs.Types.{arrow, atom as of_atom};
 ghost use Rattle.fy_link.specs.Units.{context_of};
 ghost use Rattle.fy_expand.specs.Judged.{most_text};
-ghost use Rattle.fy_grammar.specs.Program.{IsEnded};
+ghost use Rattle.fy_front.specs.Checked.{IfRefused, IsMeaningless};
 ghost use Rattle.fy_lexer.specs.Tokens.{HasAdded};
 ghost use Rattle.fy_lexer.specs.Again.{HaveNoEnd};
 ghost use Rattle.fy_link.specs.Header.{type_program as type_program_of};
 ghost use Rattle.fy_link.specs.Read.{plain_header, plain_named, plain_piece, plain_said};
-ghost use Rattle.fy_link.specs.Sources.{AreInside, HasEquals, IsInside, IsMeaningless, IsSourceFault, IsSource, IsSaid, IsSaidFault, IsTypeFault, Means, NameAll, Names as NamesOf, behind_definitions, below_abstractions, domain_of, without_prelude};
-ghost use Rattle.fy_link.specs.declared.error.UnitError.TheVariants.{OutOfMemory as NoMemory};
+ghost use Rattle.fy_link.specs.Sources.{AreInside, HasEquals, IsInside, IsSourceFault, IsSource, IsSaid, IsSaidFault, IsTypeFault, NameAll, Names as NamesOf, behind_definitions, below_abstractions, domain_of, without_prelude};
 
-use crate::error::UnitError;
 use crate::header::{Header, Piece, header_in};
 use crate::written::{type_program, unit_program};
 use fy_base::{OutOfMemory, Place};
-use fy_expand::expand;
+use fy_front::{FrontError, Refusal, phrase_of_tokens};
 use fy_grammar::parse;
 use fy_lexer::{Token, lex};
 use fy_phrase::Phrase;
@@ -100,25 +98,14 @@ fn domain_of(alloc: Global, p: &Phrase) -> Result<Ty, OutOfMemory>
     }
 }
 
-// The core phrase that a program of these tokens means.
-fn meaning(alloc: Global, tokens: &[Token]) -> Result<Phrase, UnitError>
-    requires { IsEnded tokens.now }
-    ensures ok { IfOk result (λ p. Means tokens.now (reads p)) }
-    ensures err { IfErr result (λ e. (e ≡ NoMemory) ⊎ IsMeaningless tokens.now e) }
-{
-    let tree = parse(alloc, tokens)?;
-    let phrase = expand(alloc, &tree)?;
-    Ok(phrase)
-}
-
 // What a piece of a header names.
-fn named_by(alloc: Global, at: Place, piece: &Piece<'_>) -> Result<Named, UnitError>
+fn named_by(alloc: Global, at: Place, piece: &Piece<'_>) -> Result<Named, FrontError>
     requires { HaveNoEnd piece.now.ty.now }
     ensures ok { IfOk result (λ named. NamesOf at (plain_piece piece.now) (plain_named named)) }
-    ensures err { IfErr result (λ e. (e ≡ NoMemory) ⊎ IsMeaningless (type_program_of at (plain_piece piece.now)) e) }
+    ensures err { IfErr result (IfRefused (IsMeaningless (type_program_of at (plain_piece piece.now)))) }
 {
     let tokens = type_program(alloc, at, piece)?;
-    let phrase = meaning(alloc, &tokens)?;
+    let phrase = phrase_of_tokens(alloc, &tokens)?;
     let ty = domain_of(alloc, behind_definitions(PROVIDED, &phrase))?;
     Ok(Named {
         name: piece.name,
@@ -127,10 +114,10 @@ fn named_by(alloc: Global, at: Place, piece: &Piece<'_>) -> Result<Named, UnitEr
 }
 
 // What the pieces of a header name, in order.
-fn all_named(alloc: Global, at: Place, pieces: &[Piece<'_>]) -> Result<Vec<Named>, UnitError>
+fn all_named(alloc: Global, at: Place, pieces: &[Piece<'_>]) -> Result<Vec<Named>, FrontError>
     requires { AreInside (map plain_piece pieces.now) }
     ensures ok { IfOk result (λ all. NameAll at (map plain_piece pieces.now) (map plain_named all.items)) }
-    ensures err { IfErr result (λ e. (e ≡ NoMemory) ⊎ IsTypeFault at (map plain_piece pieces.now) e) }
+    ensures err { IfErr result (IfRefused (IsTypeFault at (map plain_piece pieces.now))) }
 {
     let mut all = Vec::new(alloc);
     for piece in pieces {
@@ -140,17 +127,17 @@ fn all_named(alloc: Global, at: Place, pieces: &[Piece<'_>]) -> Result<Vec<Named
 }
 
 // What a source with this header says, whose first token has that place.
-fn said_behind(alloc: Global, at: Place, header: &Header<'_>) -> Result<Said, UnitError>
+fn said_behind(alloc: Global, at: Place, header: &Header<'_>) -> Result<Said, FrontError>
     requires { IsInside (plain_header header.now) }
     ensures ok { IfOk result (λ said. IsSaid at (plain_header header.now) (plain_said said)) }
     ensures equals_at { IfOk result (λ said. said.equals_at ≡ header.now.equals_at) }
-    ensures err { IfErr result (λ e. (e ≡ NoMemory) ⊎ IsSaidFault at (plain_header header.now) e) }
+    ensures err { IfErr result (IfRefused (IsSaidFault at (plain_header header.now))) }
 {
     let imports = all_named(alloc, at, &header.imports)?;
     let own = named_by(alloc, at, &header.own)?;
     parse(alloc, header.tail)?;
     let tokens = unit_program(alloc, at, header)?;
-    let whole = meaning(alloc, &tokens)?;
+    let whole = phrase_of_tokens(alloc, &tokens)?;
     Ok(Said {
         imports,
         own,
@@ -160,12 +147,12 @@ fn said_behind(alloc: Global, at: Place, header: &Header<'_>) -> Result<Said, Un
 }
 
 /// What a source says, or why it is refused before typing. The names get those of its names that are new.
-pub(crate) fn said_in(alloc: Global, names: &mut Names, source: &[u8]) -> Result<Said, UnitError>
+pub(crate) fn said_in(alloc: Global, names: &mut Names, source: &[u8]) -> Result<Said, FrontError>
     requires text { length source.now ≤ most_text }
     requires names { length names.old ≤ 3000000000 }
     ensures ok { IfOk result (λ said. IsSource names.old source.now names.new (plain_said said)) }
     ensures equals_at { IfOk result (λ said. HasEquals names.old source.now names.new said.equals_at) }
-    ensures err { IfErr result (λ e. (e ≡ NoMemory) ⊎ IsSourceFault names.old source.now e) }
+    ensures err { IfErr result (IfRefused (IsSourceFault names.old source.now)) }
     ensures names { HasAdded names.old names.new }
     ensures few { length names.new ≤ length names.old + length source.now }
 {
@@ -173,7 +160,7 @@ pub(crate) fn said_in(alloc: Global, names: &mut Names, source: &[u8]) -> Result
     let at = front(&tokens);
     match header_in(alloc, &tokens)? {
         Some(header) => said_behind(alloc, at, &header),
-        None => Err(UnitError::Header(at)),
+        None => Err(FrontError::Refused(Refusal::Header(at))),
     }
 }
 

@@ -132,7 +132,7 @@ refused_one_way text why other refused refused' = both (staged text why refused)
   where
     both : ((cause : judged.Refusal) × IsJudged text (Err cause) × (told_as cause ≡ Some why)) ⊎ ((p : Tree) × IsJudged text (Ok p) × StageOf text p why)
         → ((cause : judged.Refusal) × IsJudged text (Err cause) × (told_as cause ≡ Some other)) ⊎ ((p : Tree) × IsJudged text (Ok p) × StageOf text p other) → why ≡ other
-    both (inl (cause, is, told)) (inl (cause', is', told')) = told_one cause cause' why other (one_refusal text cause cause' is is') told told'
+    both (inl (cause, is, told)) (inl (cause', is', told')) = told_one told_as cause cause' why other (one_refusal text cause cause' is is') told told'
     both (inl (cause, is, told)) (inr (p, is', at)) = absurd (phrase_or_refusal text p cause is' is)
     both (inr (p, is, at)) (inl (cause, is', told)) = absurd (phrase_or_refusal text p cause is is')
     both (inr (p, is, at)) (inr (q, is', at')) = one_stage text p why other at (subst (λ (x : Tree). StageOf text x other) (one_phrase text q p is' is) at')

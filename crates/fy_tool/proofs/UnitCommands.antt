@@ -1,7 +1,6 @@
 -- From the parts of the commands of units to what is due for the words.
-use Rattle.std.proofs.Common.{◌≡◌, ◌≢◌, ℕ, [], ◌∷◌, ◌++◌, ◌≤◌, List, length, sym, ap, ◌∙◌, refl, subst, inl, inr, Some, None, Ok, Err}
+use Rattle.std.proofs.Common.{◌≡◌, ◌≢◌, ℕ, [], ◌∷◌, ◌++◌, ◌≤◌, List, length, sym, ap, ◌∙◌, refl, subst, inl, inr, Some, None, Err}
 use Rattle.std.proofs.lemmas.List.{append-nil}
-use Rattle.std.specs.Prelude.{IfOk, MatchResult}
 use Rattle.std.specs.declared.option.Option.{Option}
 use Rattle.std.specs.declared.result.Result.{Result}
 use Rattle.fy_base.specs.Outside.{Bytes, FileCalls, Folder, Tells}
@@ -14,7 +13,6 @@ use Rattle.fy_lexer.proofs.IdentifierLemmas.{identifiers_named}
 use Rattle.fy_link.specs.Read.{source_in}
 use Rattle.fy_link.specs.UnitBytes.{unit_bytes, IsReadBack}
 use Rattle.fy_link.specs.Units.{IsUnit, IsUnitFault, KeepsTypeLimits}
-use Rattle.fy_link.specs.declared.error.UnitError.{UnitError}
 use Rattle.fy_link.specs.declared.unit.Unit.{Unit as UnitValue}
 use Rattle.fy_link.specs.declared.error.LinkError.{LinkError}
 use Rattle.fy_link.specs.declared.error.LinkError.TheVariants as linking
@@ -28,12 +26,15 @@ use Rattle.fy_world.specs.Did.{Did, IsOwn}
 use Rattle.fy_world.specs.Working.{KeepsSuch, Keeps}
 use Rattle.fy_world.specs.declared.note.Note.{Note}
 use Rattle.fy_world.specs.declared.note.Note.TheVariants as note
+use Rattle.fy_front.specs.Checked.{IfRefused}
+use Rattle.fy_front.specs.declared.error.FrontError.{FrontError}
 use Rattle.fy_front.specs.declared.refusal.Refusal.{Refusal}
+use Rattle.fy_front.proofs.Checking.{refused_more}
 use Rattle.fy_world.specs.declared.unlinked.Unlinked.TheVariants as unlinked
 use Rattle.fy_world.specs.declared.world.Stop.{Stop}
 use Rattle.fy_world.specs.declared.world.Stop.TheVariants.{Memory}
 use Rattle.fy_world.proofs.Counting.{called_none, faulted_keeps}
-use Rattle.fy_tool.specs.Units.{Listed, names_of, IsNoUnit, not_compiled, unit_refusal, IsLinkedBy, IsNotLinked, no_list, no_object, not_linked as not_linked_units, PassesShapes, link_note}
+use Rattle.fy_tool.specs.Units.{Listed, names_of, IsNoUnit, not_compiled, IsLinkedBy, IsNotLinked, no_list, no_object, not_linked as not_linked_units, PassesShapes, link_note}
 use Rattle.fy_tool.specs.Due.{IsImageBy, Sources, TellsSources, AreTold, AreListed, list_of, compiles, no_unit, not_linked, joins, misshapes, links, reads_of, keeps_of}
 use Rattle.fy_tool.specs.Fetched.{HasFetched, HasFetchedDue, LastRose, LastDueRose}
 use Rattle.fy_tool.specs.Answers.{Serves}
@@ -44,12 +45,9 @@ use Rattle.fy_tool.proofs.Serving.{After, called_fetched, done_quietly, none_don
 
 -- ---- `unit`
 
--- what compiling a unit answers of a text that is the source of none; a refusal was found, or memory was wanting
-pub not_unit : {T : Type 0} (P : T → Type 0) (names : List Bytes) (text : Bytes) (error : UnitError) (result : Result (Result T Refusal) Stop) → length text ≤ 1048576 → names ≡ first_names → IsUnitFault names text error
-    → IfOk result (λ found. MatchResult found (λ _. ⊥) (λ w. unit_refusal error ≡ Some w)) → IfOk result (λ found. MatchResult found P (IsNoUnit text))
-not_unit P names text error (Err stop) short e fault found = tt
-not_unit P names text error (Ok (Ok x)) short e fault found = absurd found
-not_unit P names text error (Ok (Err w)) short e fault found = not_compiled error w short (subst (λ n. IsUnitFault n text error) e fault) found
+-- a text that is the source of none
+pub not_unit : (names : List Bytes) (text : Bytes) (error : FrontError) → length text ≤ 1048576 → names ≡ first_names → IfRefused (IsUnitFault names text) error → IfRefused (IsNoUnit text) error
+not_unit names text error short e is = refused_more (IsUnitFault names text) (IsNoUnit text) error (λ why f. not_compiled why short (subst (λ n. IsUnitFault n text why) e f)) is
 
 are_first : AreNames first_names
 are_first = record { later = []; begins = sym (append-nil first_names); distinct = refl }

@@ -13,8 +13,6 @@ use Rattle.fy_link.specs.UnitBytes.{IsUnitRead, IsBadUnit, IsReadBack}
 use Rattle.fy_link.specs.Units.{IsUnit, IsUnitFault, KeepsTypeLimits}
 use Rattle.fy_link.specs.declared.error.LinkError.{LinkError}
 use Rattle.fy_link.specs.declared.error.LinkError.TheVariants as linking
-use Rattle.fy_link.specs.declared.error.UnitError.{UnitError}
-use Rattle.fy_link.specs.declared.error.UnitError.TheVariants as compiling
 use Rattle.fy_link.specs.declared.linking.Linked.{Linked}
 use Rattle.fy_link.specs.declared.unit.Unit.{Unit as UnitValue}
 use Rattle.pe_shapes.specs.Shaping.{IsShaping}
@@ -25,23 +23,14 @@ use Rattle.fy_world.specs.declared.note.Note.TheVariants as note
 use Rattle.fy_front.specs.declared.refusal.Refusal.{Refusal}
 use Rattle.fy_front.specs.declared.refusal.Refusal.TheVariants as refusal
 use Rattle.fy_world.specs.declared.unlinked.Unlinked.TheVariants as unlinked
-use Rattle.fy_front.specs.Checked.{lex_refusal, parse_refusal, expand_refusal, find_refusal, shapes_refusal}
+use Rattle.fy_front.specs.Checked.{shapes_refusal}
 
 -- ---- the unit of a text
-
--- the refusal that each error is; none where memory was wanting
-abbrev pub unit_refusal : UnitError → Option Refusal
-unit_refusal (compiling.Header place) = Some (refusal.Header place)
-unit_refusal (compiling.Lex error) = lex_refusal error
-unit_refusal (compiling.Parse error) = parse_refusal error
-unit_refusal (compiling.Expand error) = expand_refusal error
-unit_refusal (compiling.Find error) = find_refusal error
-unit_refusal compiling.OutOfMemory = None
 
 -- why a text is the source of no unit
 pub data IsNoUnit (text : Bytes) : Refusal → Type 0 where
   too_long : most_text < length text → IsNoUnit text refusal.Length
-  not_compiled : (error : UnitError) (why : Refusal) → length text ≤ most_text → IsUnitFault first_names text error → unit_refusal error ≡ Some why → IsNoUnit text why
+  not_compiled : (why : Refusal) → length text ≤ most_text → IsUnitFault first_names text why → IsNoUnit text why
 
 -- the unit whose source the text is, with these names; the least types of its phrase keep their limits, and what is kept of it is read back
 pub record IsUnitOfText (text : Bytes) (names : List Bytes) (value : UnitValue) : Type 0 where

@@ -15,7 +15,6 @@ mod list;
 mod listed;
 mod migrate;
 mod objects;
-mod refused;
 mod run;
 mod sample;
 mod serve;

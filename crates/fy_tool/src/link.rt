@@ -4,17 +4,17 @@ ghost use Rattle.std.specs.Prelude.{◌≡◌, ◌≤◌, ◌<◌, length, All, 
 ghost use Rattle.fy_link.specs.Units.{IsUnit};
 ghost use Rattle.fy_words.specs.Order.{IsStackInRange, join, link};
 ghost use Rattle.fy_tool.specs.Answers.{Serves};
+ghost use Rattle.fy_tool.specs.Units.{link_note};
 ghost use Rattle.fy_tool.specs.Working.{CountsList, IsLinkedFrom, IsSomeLinked, LinksList, ShapesLinked};
 
 use crate::build::build_program;
 use crate::given::{TurnedDown, table_of};
 use crate::listed::names_on;
 use crate::objects::{Objects, objects_in};
-use crate::refused::link_note;
 use crate::wanted::stack_wanted;
 use fy_base::OutOfMemory;
 use fy_front::{Program, Refusal};
-use fy_link::{Linked, link};
+use fy_link::{LinkError, Linked, link};
 use fy_types::Names;
 use fy_world::{Note, Stop, Unlinked, World, keep_bytes, refuse};
 use std::alloc::Global;
@@ -36,6 +36,21 @@ fn unlinked(why: Unlinked) -> TurnedDown
     TurnedDown {
         status: 11,
         note: Note::Link(why),
+    }
+}
+
+// The status and the note of units that aren't linked, or `None` where memory was wanting.
+fn link_note(error: LinkError) -> Option<(u8, Note)>
+    ensures { result ≡ link_note error }
+{
+    match error {
+        LinkError::Double(unit) => Some((11, Note::Link(Unlinked::Double(unit)))),
+        LinkError::Missing(unit) => Some((11, Note::Link(Unlinked::Missing(unit)))),
+        LinkError::Interface(unit) => Some((11, Note::Link(Unlinked::Interface(unit)))),
+        LinkError::NotMain => Some((11, Note::Link(Unlinked::Main))),
+        LinkError::Text(why) => Some((2, Note::Refused(why))),
+        LinkError::TooLarge => Some((11, Note::Link(Unlinked::Size))),
+        LinkError::OutOfMemory => None,
     }
 }
 

@@ -9,10 +9,9 @@ ghost use Rattle.fy_tool.specs.Answers.{Serves};
 ghost use Rattle.fy_tool.specs.Units.{IsNoUnit};
 ghost use Rattle.fy_tool.specs.Working.{AreUnitBytes, Compiles};
 
-use crate::refused::{refused, unit_refusal};
 use crate::texts::TEXT_LIMIT;
 use fy_base::OutOfMemory;
-use fy_front::Refusal;
+use fy_front::{FrontError, Refusal};
 use fy_link::{compile_unit, write_unit};
 use fy_types::Names;
 use fy_world::{Note, Stop, World, keep_bytes, refuse};
@@ -30,7 +29,8 @@ fn unit_of(alloc: Global, text: &[u8]) -> Result<Result<Vec<u8>, Refusal>, Stop>
     };
     let unit = match compile_unit(alloc, &mut names, text) {
         Ok(unit) => unit,
-        Err(error) => return refused(unit_refusal(error)),
+        Err(FrontError::Refused(why)) => return Ok(Err(why)),
+        Err(FrontError::OutOfMemory) => return Err(Stop::Memory),
     };
     match write_unit(alloc, &names, &unit) {
         Ok(bytes) => Ok(Ok(bytes)),

@@ -1,11 +1,12 @@
 use Rattle.std.proofs.Common.{◌∙◌, ap, map}
 use Rattle.fy_lexer.proofs.NamesLemmas.{HasAdded-none}
 use Rattle.fy_derive.specs.Reading.{plain_derivation}
-use Rattle.fy_link.specs.declared.error.UnitError.TheVariants as refused
-use Rattle.fy_link.specs.Answers.{of_find}
+use Rattle.fy_front.specs.Checked.{find_refusal, failure_of, IfRefused}
+use Rattle.fy_front.specs.declared.error.FrontError.TheVariants.{OutOfMemory}
+use Rattle.fy_front.proofs.Checking.{handed}
 use Rattle.fy_link.specs.Read.{plain_named}
 use Rattle.fy_link.specs.Units.{context_of, IsUnitFault}
-use Rattle.fy_link.proofs.Made.{Stands, stands-concludes, found-limits, found-within, found-printable, unit-made, err-made, said-fault, find-fault}
+use Rattle.fy_link.proofs.Made.{Stands, stands-concludes, found-limits, found-within, found-printable, unit-made, said-fault, find-fault}
 use Rattle.fy_link.proofs.NamedSources.{tokens-names}
 use Rattle.fy_link.proofs.ReadBack.{read-back}
 use Rattle.fy_link.proofs.compile.compile_unit.Goals as goal
@@ -58,26 +59,26 @@ returns-clause-read_back c = λ valid identifiers.
     })
     (found-printable c.args.names.now after c.args.source.now said context p d c.in_ok-said.ensures.ok stands names identifiers c.in_ok-derivation.ensures.printable)
 
-pub returns-in_err-said-clause-err : goal.returns-in_err-said-clause-err
-returns-in_err-said-clause-err c =
-    err-made c.from_residual.result c.in_err-said.field-0.0 (IsUnitFault c.args.names.now c.args.source.now) c.from_residual.ensures.1
+pub returns-in_err-said-clause-refused : goal.returns-in_err-said-clause-refused
+returns-in_err-said-clause-refused c =
+    handed c.from_residual.result c.in_err-said.field-0.0 (IfRefused (IsUnitFault c.args.names.now c.args.source.now)) c.from_residual.ensures.1
     (said-fault c.args.names.now c.args.source.now c.in_err-said.field-0.0 c.in_err-said.ensures.err)
 
-pub returns-in_err-derivation-clause-err : goal.returns-in_err-derivation-clause-err
-returns-in_err-derivation-clause-err c =
+pub returns-in_err-derivation-clause-refused : goal.returns-in_err-derivation-clause-refused
+returns-in_err-derivation-clause-refused c =
     let said = c.in_ok-said.said in
     let context = c.in_ok-context.context in
     let p = c.phrase.result.now in
     let e = c.in_err-derivation.field-0.0 in
     let after = c.said_in.new.names in
     let stands : Stands said context p = record { context_is = c.in_ok-context.ensures ∙ ap (λ xs. context_of (map plain_named xs)) c.deref.ensures.value; phrase_is = c.phrase.ensures } in
-    err-made c.from_residual-in_err-derivation.result (of_find e) (IsUnitFault c.args.names.now c.args.source.now) c.from_residual-in_err-derivation.ensures.1
+    handed c.from_residual-in_err-derivation.result (failure_of (find_refusal e)) (IfRefused (IsUnitFault c.args.names.now c.args.source.now)) c.from_residual-in_err-derivation.ensures.1
     (find-fault c.args.names.now after c.args.source.now said context p e c.in_ok-said.ensures.ok stands c.in_err-derivation.ensures.found)
 
-pub returns-in_err-context-clause-err : goal.returns-in_err-context-clause-err
-returns-in_err-context-clause-err c =
-    err-made c.from_residual-in_err-context.result refused.OutOfMemory (IsUnitFault c.args.names.now c.args.source.now) c.from_residual-in_err-context.ensures.1 IsUnitFault.of_memory
+pub returns-in_err-context-clause-refused : goal.returns-in_err-context-clause-refused
+returns-in_err-context-clause-refused c =
+    handed c.from_residual-in_err-context.result OutOfMemory (IfRefused (IsUnitFault c.args.names.now c.args.source.now)) c.from_residual-in_err-context.ensures.1 tt
 
-pub returns-in_err-source-clause-err : goal.returns-in_err-source-clause-err
-returns-in_err-source-clause-err c =
-    err-made c.from_residual-in_err-source.result refused.OutOfMemory (IsUnitFault c.args.names.now c.args.source.now) c.from_residual-in_err-source.ensures.1 IsUnitFault.of_memory
+pub returns-in_err-source-clause-refused : goal.returns-in_err-source-clause-refused
+returns-in_err-source-clause-refused c =
+    handed c.from_residual-in_err-source.result OutOfMemory (IfRefused (IsUnitFault c.args.names.now c.args.source.now)) c.from_residual-in_err-source.ensures.1 tt

@@ -1,24 +1,29 @@
 use Rattle.std.proofs.Common.{◌≡◌, sym, ap, ◌∙◌, subst}
 use Rattle.std.specs.Prelude.{Some, None}
 use Rattle.std.specs.Option.{option_map}
-use Rattle.std.proofs.lemmas.Result.{err_from_is_err_and}
 use Rattle.fy_base.specs.declared.data.Place.{Place}
 use Rattle.fy_syntax.specs.Signs.{front}
 use Rattle.fy_grammar.proofs.Lexed.{lexed_ended}
+use Rattle.fy_front.specs.Checked.{lex_refusal, failure_of, IfRefused}
+use Rattle.fy_front.specs.declared.error.FrontError.TheVariants.{OutOfMemory}
+use Rattle.fy_front.proofs.Checking.{handed}
 use Rattle.fy_link.specs.declared.source.Said.{Said}
-use Rattle.fy_link.specs.Answers.{of_lex}
 use Rattle.fy_link.specs.Header.{header_of}
 use Rattle.fy_link.specs.Read.{plain_header, plain_said}
-use Rattle.fy_link.specs.Sources.{HasHeader, IsSaid, IsSource, HasEquals}
+use Rattle.fy_link.specs.Sources.{HasHeader, IsSaid, IsSaidFault, IsSource, IsSourceFault, HasEquals}
 use Rattle.fy_link.proofs.Ends.{header-inside}
-use Rattle.fy_link.proofs.SourceLemmas.{HasSaidFault, HasSourceFault, lex-fault, header-fault, behind-fault, ok-weaker, err-weaker, err-handed}
+use Rattle.fy_link.proofs.SourceLemmas.{lex-fault, header-fault, behind-fault, ok-weaker, err-weaker}
 use Rattle.fy_link.proofs.source.said_in.Goals as goal
 
 pub returns-in_err-tokens-clause-err : goal.returns-in_err-tokens-clause-err
 returns-in_err-tokens-clause-err c =
-    let p = err_from_is_err_and c.from_residual.result c.from_residual.ensures.1 in
-    err-handed (HasSourceFault c.args.names.now c.args.source.now) c.from_residual.result p.0 (of_lex c.in_err-tokens.field-0.0) p.1 p.2
-    (lex-fault c.args.names.now c.args.source.now c.in_err-tokens.field-0.0 c.in_err-tokens.ensures.err)
+    let e = c.in_err-tokens.field-0.0 in
+    handed c.from_residual.result (failure_of (lex_refusal e)) (IfRefused (IsSourceFault c.args.names.now c.args.source.now)) c.from_residual.ensures.1
+    (lex-fault c.args.names.now c.args.source.now e c.in_err-tokens.ensures.err)
+
+pub returns-in_err-header-clause-err : goal.returns-in_err-header-clause-err
+returns-in_err-header-clause-err c =
+    handed c.from_residual-in_err-header.result OutOfMemory (IfRefused (IsSourceFault c.args.names.now c.args.source.now)) c.from_residual-in_err-header.ensures.1 tt
 
 pub said_behind-requires : goal.said_behind-requires
 said_behind-requires c =
@@ -60,8 +65,8 @@ returns-in-Some-clause-err c =
     let headed : HasHeader c.args.names.now c.args.source.now c.lex.new.names ts h =
     record { lexed = record { read = c.in_ok-tokens.ensures.ok; within = c.in_ok-tokens.ensures.within }; is = is } in
     let at : c.front-at.result ≡ front ts = c.front-at.ensures ∙ ap front c.deref.ensures.value in
-    err-weaker (HasSaidFault c.front-at.result h) (HasSourceFault c.args.names.now c.args.source.now) c.said_behind.result
-    (λ e k. behind-fault c.args.names.now c.lex.new.names c.args.source.now ts h e headed (subst (λ (p : Place). HasSaidFault p h e) at k)) c.said_behind.ensures.err
+    err-weaker (IfRefused (IsSaidFault c.front-at.result h)) (IfRefused (IsSourceFault c.args.names.now c.args.source.now)) c.said_behind.result
+    (λ e k. behind-fault c.args.names.now c.lex.new.names c.args.source.now ts h e headed (subst (λ (p : Place). IfRefused (IsSaidFault p h) e) at k)) c.said_behind.ensures.err
 
 pub returns-clause-err : goal.returns-clause-err
 returns-clause-err c =

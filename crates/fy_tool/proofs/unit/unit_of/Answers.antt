@@ -1,15 +1,13 @@
 use Rattle.fy_front.proofs.Checking.{few_first}
 use Rattle.fy_tool.proofs.UnitCommands.{not_unit, unit_written}
-use Rattle.fy_tool.specs.Working.{AreUnitBytes}
 use Rattle.fy_tool.proofs.unit.unit_of.Goals as goal
 
 pub compile_unit-requires-clause-names : goal.compile_unit-requires-clause-names
 compile_unit-requires-clause-names c = few_first _ c.in-Ok.ensures
 
-pub returns-in-Err-compile_unit-clause-unit : goal.returns-in-Err-compile_unit-clause-unit
-returns-in-Err-compile_unit-clause-unit c =
-    not_unit (λ bytes. AreUnitBytes c.args.text.now bytes.items) _ c.args.text.now c.in-Err-compile_unit.error c.refused.result c.requires c.in-Ok.ensures c.in-Err-compile_unit.ensures.err
-    (rw (← c.unit_refusal.ensures) c.refused.ensures.why)
+pub returns-in-Err-Refused-clause-unit : goal.returns-in-Err-Refused-clause-unit
+returns-in-Err-Refused-clause-unit c =
+    let none = not_unit _ c.args.text.now _ c.requires c.in-Ok.ensures c.in-Err-Refused.ensures.refused in rw c.in-Err-Refused.field-0-is (rw c.in-Err-Refused.field-0-is at none)
 
 pub returns-in-Ok-write_unit-clause-unit : goal.returns-in-Ok-write_unit-clause-unit
 returns-in-Ok-write_unit-clause-unit c =
