@@ -2,7 +2,7 @@
 # Measures runs of images beside runs of the copy rule and of push-enter code:
 #     bench/runs.sh
 # Prints for each example the steps of `copy`, those of `trace`, the instructions of `run`, and how many of these come to each step; then the user
-# time of `run` and of `copy` on longer programs, and of `build` on the largest. FORSYTHE names another built program than bin/forsythe.
+# time of `run` and of `copy` on longer programs, and of `build` on the largest; and what cells of sequences take. FORSYTHE names another built program than bin/forsythe.
 set -eu
 . "$(dirname "$0")/measured.sh"
 
@@ -53,3 +53,22 @@ for size in 4000 8000 16300; do
     { printf 'skip'; repeated '; putint 7' "$size"; } >"$work/text.fy"
     printf '%-44s build %s s\n' "$size outputs in sequence" "$(user_time build "$work/text.fy" --image="$work/image")"
 done
+
+# What cells of sequences take, by the instructions of two programs: one makes a thousand cells more, or names a cell a hundred times where the other
+# names a variable.
+executed() {
+    cat >"$work/text.fy"
+    "$program" run "$work/text.fy" --image="$work/image" --steps=1000000000000 >"$work/output" 2>"$work/notes" </dev/null || true
+    noted instructions
+}
+made() {
+    printf 'newintseq %s (\\a: intvarseq. skip)' "$1" | executed
+}
+named() {
+    { printf 'newintseq 9 (\\a: intvarseq. new v: int := 0 in (skip'; repeated "; $1" 100; printf '))'; } | executed
+}
+echo
+printf '%-44s %s instructions\n' 'a cell that is made' "$(quotient $(($(made 2000) - $(made 1000))) 1000)" \
+    'a cell that is read, more than a variable' "$(quotient $(($(named 'v := a 8') - $(named 'v := v'))) 100)" \
+    'a cell that is written, more than a variable' "$(quotient $(($(named 'a 8 := 7') - $(named 'v := 7'))) 100)"
+printf 'newintseq 1000000 (\\a: intvarseq. (a 999999 := 7; putint (a 999999)))' | measure 'a sequence of 1,000,000 cells'

@@ -126,9 +126,9 @@ Takes-asked rest W P (new_c d b) t = value_asked t.0 t.1
 Takes-asked rest W P (drop_c n) t = run_asked t.3
 Takes-asked rest W P (put_c kind) t = end_asked P (put_atom kind) a_value t.0 (put_atom-shape kind)
 Takes-asked rest W P (esc_c n) t = command_asked t.2
-Takes-asked rest W P (cells_c d b at) t = absurd t
+Takes-asked rest W P (cells_c d b at) t = value_asked data_type.Int t.0
 Takes-asked rest W P (fill_c n v d b at) t = absurd t
-Takes-asked rest W P (element_c n) t = absurd t
+Takes-asked rest W P (element_c n) t = value_asked data_type.Int t.1
 
 -- ---- merges
 

@@ -12,8 +12,8 @@ use Rattle.fy_types.specs.Paths.{paths}
 use Rattle.fy_types.specs.Reading.{types_from}
 use Rattle.fy_phrase.specs.declared.phrase.DataTy.{DataTy}
 use Rattle.fy_phrase.specs.declared.phrase.DataTy.TheVariants as data_type
-use Rattle.fy_phrase.specs.Tree.{Tree, Trees, no_trees, and_tree, var, lit, unary, binary, cond as conditional, case, app, field, sel, let_in, rec, skip, seq, assign, while_do, forever, new, escape, accept, put, read}
-use Rattle.fy_derive.specs.Atoms.{data_atom, acceptor_atom, cell_type, datum_atom, operand_atom, unary_atom, takes, binary_atom, put_atom, is_command}
+use Rattle.fy_phrase.specs.Tree.{Tree, Trees, no_trees, and_tree, var, lit, unary, binary, cond as conditional, case, app, field, sel, let_in, rec, skip, seq, assign, while_do, forever, new, cells, escape, accept, put, read}
+use Rattle.fy_derive.specs.Atoms.{data_atom, acceptor_atom, cell_type, sequence_type, datum_atom, operand_atom, unary_atom, takes, binary_atom, put_atom, is_command}
 use Rattle.fy_derive.specs.Kinds.{Kind, none_begins}
 use Rattle.fy_derive.specs.Typing as typing
 use Rattle.fy_derive.specs.Typing.{HasType, HasEach, EachHasType, of_data}
@@ -274,6 +274,13 @@ mutual
         rule (and_derivation x.0 (and_derivation y.0 no_derivations)),
         λ n.
             two-premises G (new d D e b at) e b nothing (given (cell_type D)) x.0 y.0 (of_data D) (atom R) (atom R) n refl (x.1 (n + 1)) (y.1 (n + 1 + nodes x.0)) (command-concludes (data_atom D) R c),
+      )
+  typed-derived (typing.by_cells {G = G} {d = d} {e = e} {b = b} {at = at} {R = R} c h k) =
+      let x = typed-derived h in
+      let y = typed-derived k in (
+        rule (and_derivation x.0 (and_derivation y.0 no_derivations)),
+        λ n.
+            two-premises G (cells d e b at) e b nothing (given sequence_type) x.0 y.0 (atom Int) (atom R) (atom R) n refl (x.1 (n + 1)) (y.1 (n + 1 + nodes x.0)) (command-concludes Int R c),
       )
   typed-derived (typing.by_escape {G = G} {d = d} {b = b} {at = at} h) =
       let x = typed-derived h in

@@ -9,7 +9,7 @@ use Rattle.fy_phrase.specs.declared.phrase.MarkKind.{MarkKind}
 use Rattle.fy_phrase.specs.declared.phrase.MarkKind.TheVariants as marks
 use Rattle.fy_phrase.specs.Tree.{Tree, Trees, no_trees, and_tree, var, lit, unary, binary, cond, case, lam, app, field, sel, merge, let_in, rec, skip, seq, assign, while_do, forever, new, cells, escape, accept, put, read, mark}
 use Rattle.fy_phrase.specs.Closing.{closed_at, all_closed_at, closed_with}
-use Rattle.fy_derive.specs.Atoms.{data_atom, cell_type}
+use Rattle.fy_derive.specs.Atoms.{data_atom, cell_type, sequence_type}
 use Rattle.fy_derive.specs.Kinds.{Kind, kind_of}
 use Rattle.fy_derive.proofs.PathTyping.{World, paths_at, EachPath, EachPath-map, only, Answers, EachAnswers, answers-up, answers-above}
 
@@ -74,7 +74,8 @@ module _ (W : World) (a : Tree) where
     answers-closed (forever c at) n H G P f h = (h.0, answers-closed c n H G _ f h.1)
     answers-closed (new d D e b at) n H G P f h =
         (h.0, answers-closed e n H G _ f h.1, answers-closed b (n + 1) (paths (cell_type D) ∷ H) (paths (cell_type D) ∷ G) P (fits-under n (paths (cell_type D)) H G f) h.2)
-    answers-closed (cells d e b at) n H G P f h = absurd h
+    answers-closed (cells d e b at) n H G P f h =
+        (h.0, answers-closed e n H G _ f h.1, answers-closed b (n + 1) (paths sequence_type ∷ H) (paths sequence_type ∷ G) P (fits-under n (paths sequence_type) H G f) h.2)
     answers-closed (escape d b at) n H G P f h =
         (h.0, answers-closed b (n + 1) (only Compl ∷ H) (only Compl ∷ G) _ (fits-under n (only Compl) H G f) h.1)
     answers-closed (accept d D b at) n H G P f h =

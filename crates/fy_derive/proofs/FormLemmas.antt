@@ -4,7 +4,7 @@ use Rattle.fy_base.specs.declared.data.Place.{Place}
 use Rattle.fy_base.specs.declared.data.UnOp.{UnOp}
 use Rattle.fy_base.specs.declared.data.BinOp.{BinOp}
 use Rattle.fy_base.specs.declared.data.PutKind.{PutKind}
-use Rattle.fy_types.specs.declared.types.Atom.TheVariants.{Bool as Truth, Comm, Compl, IntAcc}
+use Rattle.fy_types.specs.declared.types.Atom.TheVariants.{Int, Bool as Truth, Comm, Compl, IntAcc}
 use Rattle.fy_types.specs.declared.types.Ty.{Ty}
 use Rattle.fy_types.specs.declared.types.TyList.{TyList}
 use Rattle.fy_types.specs.Types.{PlainType, atom, field as field_type}
@@ -192,6 +192,14 @@ pub New-concludes : (t : TypeTable) (G : List PlainType) (p : Phrase) (n : ℕ) 
     command_behind (data_atom D) (shown t (get_or ks 0 0)) (shown t (get_or ks 1 0)) ≡ conclusion G (reads p) (all_shown t ks)
 New-concludes t G p n D a b at ks e h =
     let s = New-tree p n D a b at e in
+    let l : length ks ≡ 2 = subst (λ T. IfSome (premises T) (λ Ps. length ks ≡ length Ps)) s h in
+    rw (s, type_at-shown t ks 0 (omega arith), type_at-shown t ks 1 (omega arith)) refl
+
+pub Cells-concludes : (t : TypeTable) (G : List PlainType) (p : Phrase) (n : ℕ) (a b : Box Phrase Global) (at : Place) (ks : List ℕ) → p ≡ form.Cells n a b at →
+    IfSome (premises (reads p)) (λ Ps. length ks ≡ length Ps) →
+    command_behind Int (shown t (get_or ks 0 0)) (shown t (get_or ks 1 0)) ≡ conclusion G (reads p) (all_shown t ks)
+Cells-concludes t G p n a b at ks e h =
+    let s = Cells-tree p n a b at e in
     let l : length ks ≡ 2 = subst (λ T. IfSome (premises T) (λ Ps. length ks ≡ length Ps)) s h in
     rw (s, type_at-shown t ks 0 (omega arith), type_at-shown t ks 1 (omega arith)) refl
 

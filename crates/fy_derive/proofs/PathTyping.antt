@@ -1,6 +1,6 @@
--- Which demands a phrase answers, one path at a time, where cells and jumps stand. Subsumption, meets and `ns` are gone: a row for each
+-- Which demands a phrase answers, one path at a time, where cells, sequences of cells and jumps stand. Subsumption, meets and `ns` are gone: a row for each
 -- form says what a path asks of the form's parts. Whatever answers a path answers each path above it.
-use Rattle.std.proofs.Common.{ℕ, zero, suc, ◌≡◌, true, false, List, [], ◌∷◌, Some, refl, sym, ap, ◌∙◌, subst, ◌⊎◌, inl, inr}
+use Rattle.std.proofs.Common.{ℕ, zero, suc, ◌<◌, ◌≡◌, true, false, List, [], ◌∷◌, Some, refl, sym, ap, ◌∙◌, subst, ◌⊎◌, inl, inr}
 use Rattle.fy_base.specs.declared.data.Datum.{Datum}
 use Rattle.fy_base.specs.declared.data.Datum.TheVariants as datum
 use Rattle.fy_base.specs.declared.data.UnOp.{UnOp}
@@ -16,13 +16,26 @@ use Rattle.fy_phrase.specs.declared.phrase.DataTy.{DataTy}
 use Rattle.fy_phrase.specs.declared.phrase.DataTy.TheVariants as data_type
 use Rattle.fy_phrase.specs.declared.phrase.MarkKind.TheVariants as marks
 use Rattle.fy_phrase.specs.Tree.{Tree, Trees, no_trees, and_tree, var, lit, unary, binary, cond, case, lam, app, field, sel, merge, let_in, rec, skip, seq, assign, while_do, forever, new, cells, escape, accept, put, read, mark}
-use Rattle.fy_derive.specs.Atoms.{data_atom, acceptor_atom, cell_type, datum_atom, operand_atom, unary_atom, takes, binary_atom, put_atom, is_command}
+use Rattle.fy_derive.specs.Atoms.{data_atom, acceptor_atom, cell_type, sequence_type, datum_atom, operand_atom, unary_atom, takes, binary_atom, put_atom, is_command}
 use Rattle.fy_derive.specs.Kinds.{Kind, of_call, of_field, of_assignment, kind_of, begins}
 
--- a mark that stands: a cell with its data type, or a jump
+-- what a row of the store is: a cell of the data type, or a sequence of so many cells of integers
+pub data RowType : Type 0 where
+  one : (D : DataTy) → RowType
+  many : (k : ℕ) → RowType
+
+-- a mark that stands: a row, or a jump
 pub data Entry : Type 0 where
-  cell : (n : ℕ) (D : DataTy) → Entry
+  row : (n : ℕ) (t : RowType) → Entry
   jump : (n : ℕ) → Entry
+
+-- a cell with its data type
+abbrev pub cell : ℕ → DataTy → Entry
+cell n D = row n (one D)
+
+-- a sequence of k cells
+abbrev pub sequence : ℕ → ℕ → Entry
+sequence n k = row n (many k)
 
 -- the marks that stand, the newest first
 abbrev pub World : Type 0
@@ -76,15 +89,15 @@ abbrev mutual
   Answers W G (while_do b c at) P = (P ≡ end Comm) × Answers W G b (end Truth) × Answers W G c (end Comm)
   Answers W G (forever c at) P = IsRun P × Answers W G c (end Comm)
   Answers W G (new d D e b at) P = IsRun P × Answers W G e (end (data_atom D)) × Answers W (paths (cell_type D) ∷ G) b P
-  Answers W G (cells d e b at) P = ⊥
+  Answers W G (cells d e b at) P = IsRun P × Answers W G e (end Int) × Answers W (paths sequence_type ∷ G) b P
   Answers W G (escape d b at) P = (P ≡ end Comm) × Answers W (only Compl ∷ G) b (end Comm)
   Answers W G (accept d D b at) P = (P ≡ end (acceptor_atom D)) × Answers W (only (data_atom D) ∷ G) b (end Comm)
   Answers W G (put kind p at) P = (P ≡ end Comm) × Answers W G p (end (put_atom kind))
   Answers W G (read p at) P = (P ≡ end Comm) × Answers W G p (end IntAcc)
   Answers W G (mark (marks.Cell n) at) P = (D : DataTy) × Stands (cell n D) W × HasBelow (paths (cell_type D)) P
   Answers W G (mark (marks.Jump n) at) P = Stands (jump n) W × IsRun P
-  Answers W G (mark (marks.Sequence n) at) P = ⊥
-  Answers W G (mark (marks.Element n i) at) P = ⊥
+  Answers W G (mark (marks.Sequence n) at) P = (k : ℕ) × Stands (sequence n k) W × HasBelow (paths sequence_type) P
+  Answers W G (mark (marks.Element n i) at) P = (k : ℕ) × (i < k) × Stands (sequence n k) W × HasBelow (paths (cell_type data_type.Int)) P
 
   -- each of the parts does
   pub EachAnswers : World → List PlainPaths → Trees → PlainPath → Type 0
@@ -231,7 +244,8 @@ module _ (W V : World) (grow : (m : Entry) → Stands m W → Stands m V) where
     answers-up (forever p at) G H P Q c l h = (run-up h.0 l, answers-up p G H _ _ c (IsPathBelow-refl _) h.1)
     answers-up (new d D e b at) G H P Q c l h =
         (run-up h.0 l, answers-up e G H _ _ c (IsPathBelow-refl _) h.1, answers-up b (paths (cell_type D) ∷ G) (paths (cell_type D) ∷ H) P Q (under-same (paths (cell_type D)) H G c) l h.2)
-    answers-up (cells d e b at) G H P Q c l h = absurd h
+    answers-up (cells d e b at) G H P Q c l h =
+        (run-up h.0 l, answers-up e G H _ _ c (IsPathBelow-refl _) h.1, answers-up b (paths sequence_type ∷ G) (paths sequence_type ∷ H) P Q (under-same (paths sequence_type) H G c) l h.2)
     answers-up (escape d b at) G H P Q c l h =
         (fixed-up Comm tt h.0 l, answers-up b (only Compl ∷ G) (only Compl ∷ H) _ _ (under-same (only Compl) H G c) (IsPathBelow-refl _) h.1)
     answers-up (accept d D b at) G H P Q c l h = (
@@ -242,8 +256,8 @@ module _ (W V : World) (grow : (m : Entry) → Stands m W → Stands m V) where
     answers-up (read p at) G H P Q c l h = (fixed-up Comm tt h.0 l, answers-up p G H _ _ c (IsPathBelow-refl _) h.1)
     answers-up (mark (marks.Cell n) at) G H P Q c l h = (h.0, grow (cell n h.0) h.1, HasBelow-up h.2 l)
     answers-up (mark (marks.Jump n) at) G H P Q c l h = (grow (jump n) h.0, run-up h.1 l)
-    answers-up (mark (marks.Sequence n) at) G H P Q c l h = absurd h
-    answers-up (mark (marks.Element n i) at) G H P Q c l h = absurd h
+    answers-up (mark (marks.Sequence n) at) G H P Q c l h = (h.0, grow (sequence n h.0) h.1, HasBelow-up h.2 l)
+    answers-up (mark (marks.Element n i) at) G H P Q c l h = (h.0, h.1, grow (sequence n h.0) h.2, HasBelow-up h.3 l)
 
     each-up : (ps : Trees) (G H : List PlainPaths) (P Q : PlainPath) → Covers H G → IsPathBelow P Q → EachAnswers W G ps P → EachAnswers V H ps Q
     each-up no_trees G H P Q c l h = tt

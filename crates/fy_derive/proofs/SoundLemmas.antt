@@ -15,7 +15,7 @@ use Rattle.fy_types.proofs.OnceLemmas.{both_true}
 use Rattle.fy_phrase.specs.declared.phrase.DataTy.{DataTy}
 use Rattle.fy_phrase.specs.declared.phrase.DataTy.TheVariants as data_type
 use Rattle.fy_phrase.specs.Tree.{Tree, Trees, no_trees, and_tree, var, lit, unary, binary, cond as conditional, case, lam, app, field, sel, merge, let_in, rec, skip, seq, assign, while_do, forever, new, cells, escape, accept, put, read, mark}
-use Rattle.fy_derive.specs.Atoms.{data_atom, acceptor_atom, cell_type, datum_atom, operand_atom, unary_atom, takes, binary_atom, put_atom, is_command}
+use Rattle.fy_derive.specs.Atoms.{data_atom, acceptor_atom, cell_type, sequence_type, datum_atom, operand_atom, unary_atom, takes, binary_atom, put_atom, is_command}
 use Rattle.fy_derive.specs.Kinds.{Kind, kind_of, none_begins}
 use Rattle.fy_derive.specs.Typing as typing
 use Rattle.fy_derive.specs.Typing.{HasType, HasEach, EachHasType, of_data}
@@ -196,6 +196,13 @@ conclusion-sound G (new d D p b at) (A ∷ B ∷ []) C t e =
     typed-as G (new d D p b at) B C x.1 (typed-as G (new d D p b at) (atom x.2.0) B (sym x.2.2)
     (typing.by_new x.2.1 (atom-typed G p (data_atom D) A x.0 t.0) (typed-as (cell_type D ∷ G) b B (atom x.2.0) x.2.2 t.1.0)))
 conclusion-sound G (new d D p b at) (A ∷ B ∷ E ∷ Es) C t e = absurd t.1.1
+conclusion-sound G (cells d p b at) [] C t e = absurd t
+conclusion-sound G (cells d p b at) (A ∷ []) C t e = absurd t.1
+conclusion-sound G (cells d p b at) (A ∷ B ∷ []) C t e =
+    let x = command-typed Int A B C e in
+    typed-as G (cells d p b at) B C x.1 (typed-as G (cells d p b at) (atom x.2.0) B (sym x.2.2)
+    (typing.by_cells x.2.1 (atom-typed G p Int A x.0 t.0) (typed-as (sequence_type ∷ G) b B (atom x.2.0) x.2.2 t.1.0)))
+conclusion-sound G (cells d p b at) (A ∷ B ∷ E ∷ Es) C t e = absurd t.1.1
 conclusion-sound G (escape d b at) [] C t e = absurd t
 conclusion-sound G (escape d b at) (A ∷ []) C t e =
     let x = provided-some (is_atom Comm A) (atom Comm) C e in
@@ -216,7 +223,6 @@ conclusion-sound G (read p at) (A ∷ []) C t e =
     let x = provided-some (is_atom IntAcc A) (atom Comm) C e in
     typed-as G (read p at) (atom Comm) C x.1 (typing.by_read (atom-typed G p IntAcc A x.0 t.0))
 conclusion-sound G (read p at) (A ∷ B ∷ Bs) C t e = absurd t.1
-conclusion-sound G (cells d p b at) Bs C t e = absurd cc
 conclusion-sound G (mark m at) Bs C t e = absurd cc
 
 -- what judging went on with

@@ -9,7 +9,7 @@ use Rattle.fy_types.proofs.Laws.{IsSubtype-paths}
 use Rattle.fy_types.proofs.OnceLemmas.{both_true}
 use Rattle.fy_phrase.specs.Tree.{Tree, Trees}
 use Rattle.fy_derive.specs.Kinds.{Kind, begins, none_begins}
-use Rattle.fy_derive.specs.Typing.{HasType, HasEach, EachHasType, by_ns, by_subsumption, by_meet, by_var, by_lit, by_unary, by_binary, by_cond, by_case, by_lam, by_app, by_field, by_sel, by_left, by_right, by_let, by_rec, by_skip, by_seq, by_assign, by_while, by_forever, by_new, by_escape, by_accept, by_put, by_read, no_more, and_has, no_parts, and_part}
+use Rattle.fy_derive.specs.Typing.{HasType, HasEach, EachHasType, by_ns, by_subsumption, by_meet, by_var, by_lit, by_unary, by_binary, by_cond, by_case, by_lam, by_app, by_field, by_sel, by_left, by_right, by_let, by_rec, by_skip, by_seq, by_assign, by_while, by_forever, by_new, by_cells, by_escape, by_accept, by_put, by_read, no_more, and_has, no_parts, and_part}
 use Rattle.fy_derive.proofs.PathTyping.{World, paths_at, EachPath, EachPath-map, Answers, EachAnswers, answers-above}
 
 -- ---- each path of a list
@@ -113,6 +113,7 @@ module _ (W : World) where
     typed-answers (by_while t u) = ((refl, (typed-answers t).0, (typed-answers u).0), tt)
     typed-answers (by_forever t) = (((Compl, refl, refl), (typed-answers t).0), tt)
     typed-answers (by_new {R = R} is t u) = (((R, is, refl), (typed-answers t).0, (typed-answers u).0), tt)
+    typed-answers (by_cells {R = R} is t u) = (((R, is, refl), (typed-answers t).0, (typed-answers u).0), tt)
     typed-answers (by_escape t) = ((refl, (typed-answers t).0), tt)
     typed-answers (by_accept t) = ((refl, (typed-answers t).0), tt)
     typed-answers (by_put t) = ((refl, (typed-answers t).0), tt)

@@ -10,7 +10,7 @@ use Rattle.fy_base.specs.declared.data.PutKind.{PutKind}
 use Rattle.fy_base.specs.declared.data.PutKind.TheVariants as put_kind
 use Rattle.fy_types.specs.declared.types.Atom.{Atom}
 use Rattle.fy_types.specs.declared.types.Atom.TheVariants.{Int, Bool as Truth, Char, Comm, Compl, IntAcc, BoolAcc, CharAcc}
-use Rattle.fy_types.specs.Types.{PlainType, atom}
+use Rattle.fy_types.specs.Types.{PlainType, atom, arrow, field}
 use Rattle.fy_types.specs.Subtyping.{both_of}
 use Rattle.fy_phrase.specs.declared.phrase.DataTy.{DataTy}
 use Rattle.fy_phrase.specs.declared.phrase.DataTy.TheVariants as data_type
@@ -30,6 +30,10 @@ acceptor_atom data_type.Char = CharAcc
 -- the type of a cell's variable
 abbrev pub cell_type : DataTy → PlainType
 cell_type D = both_of (atom (data_atom D)) (atom (acceptor_atom D))
+
+-- the type of a sequence's variable: a cell of integers for each index, and the length as the field `len`, whose name has the number 0
+abbrev pub sequence_type : PlainType
+sequence_type = both_of (arrow (atom Int) (cell_type data_type.Int)) (field 0 (atom Int))
 
 -- the data type of a datum
 abbrev pub datum_atom : Datum → Atom

@@ -12,7 +12,7 @@ use Rattle.fy_phrase.specs.declared.phrase.DataTy.{DataTy}
 use Rattle.fy_phrase.specs.declared.phrase.DataTy.TheVariants as data_type
 use Rattle.fy_phrase.specs.Tree.{Tree, Trees, no_trees, and_tree, var, lit, unary, binary, cond, case, lam, app, field, sel, merge, let_in, rec, skip, seq, assign, while_do, forever, new, cells, escape, accept, put, read, mark}
 use Rattle.fy_phrase.specs.Sizes.{nodes}
-use Rattle.fy_derive.specs.Atoms.{data_atom, acceptor_atom, cell_type, datum_atom, operand_atom, unary_atom, takes, binary_atom, put_atom}
+use Rattle.fy_derive.specs.Atoms.{data_atom, acceptor_atom, cell_type, sequence_type, datum_atom, operand_atom, unary_atom, takes, binary_atom, put_atom}
 use Rattle.fy_derive.specs.Kinds.{Kind, kind_of, begins}
 use Rattle.fy_derive.specs.Subsumption.{some_below, paths_below}
 use Rattle.fy_derive.specs.Shapes.{PlainShape, erase, HasPath}
@@ -112,7 +112,7 @@ abbrev mutual
   least_type G (forever c at) = if_passed (has (least_type G c) Comm) (one_end Compl)
   least_type G (new d D e b at) =
       if_passed (has (least_type G e) (data_atom D)) (command_of (least_type (paths (cell_type D) ∷ G) b))
-  least_type G (cells d e b at) = no_paths
+  least_type G (cells d e b at) = if_passed (has (least_type G e) Int) (command_of (least_type (paths sequence_type ∷ G) b))
   least_type G (escape d b at) = if_passed (has (least_type (one_end Compl ∷ G) b) Comm) (one_end Comm)
   least_type G (accept d D b at) = if_passed (has (least_type (one_end (data_atom D) ∷ G) b) Comm) (one_end (acceptor_atom D))
   least_type G (put kind p at) = if_passed (has (least_type G p) (put_atom kind)) (one_end Comm)
@@ -164,7 +164,8 @@ abbrev mutual
   visits m G (forever c at) = visit m G (forever c at) ∷ visits (m + 1) G c
   visits m G (new d D e b at) =
       visit m G (new d D e b at) ∷ visits (m + 1) G e ++ visits (m + 1 + nodes e) (paths (cell_type D) ∷ G) b
-  visits m G (cells d e b at) = visit m G (cells d e b at) ∷ []
+  visits m G (cells d e b at) =
+      visit m G (cells d e b at) ∷ visits (m + 1) G e ++ visits (m + 1 + nodes e) (paths sequence_type ∷ G) b
   visits m G (escape d b at) = visit m G (escape d b at) ∷ visits (m + 1) (one_end Compl ∷ G) b
   visits m G (accept d D b at) = visit m G (accept d D b at) ∷ visits (m + 1) (one_end (data_atom D) ∷ G) b
   visits m G (put kind p at) = visit m G (put kind p at) ∷ visits (m + 1) G p

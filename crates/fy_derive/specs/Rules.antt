@@ -8,7 +8,7 @@ use Rattle.fy_types.specs.Once.{place}
 use Rattle.fy_phrase.specs.declared.phrase.DataTy.{DataTy}
 use Rattle.fy_phrase.specs.declared.phrase.DataTy.TheVariants as data_type
 use Rattle.fy_phrase.specs.Tree.{Tree, Trees, no_trees, and_tree, var, lit, unary, binary, cond, case, lam, app, field, sel, merge, let_in, rec, skip, seq, assign, while_do, forever, new, cells, escape, accept, put, read, mark}
-use Rattle.fy_derive.specs.Atoms.{data_atom, acceptor_atom, cell_type, datum_atom, operand_atom, unary_atom, takes, binary_atom, put_atom}
+use Rattle.fy_derive.specs.Atoms.{data_atom, acceptor_atom, cell_type, sequence_type, datum_atom, operand_atom, unary_atom, takes, binary_atom, put_atom}
 use Rattle.fy_derive.specs.Tables.{type_at}
 
 -- whether two types are the same tree
@@ -41,7 +41,7 @@ abbrev pub of_parts : Trees → List Premise
 of_parts no_trees = []
 of_parts (and_tree p ps) = (nothing, p) ∷ of_parts ps
 
--- the premises of a phrase's rule, in order; abstractions and merges have rules of their own, and marks and sequences of cells have none
+-- the premises of a phrase's rule, in order; abstractions and merges have rules of their own, and marks have none
 abbrev pub premises : Tree → Option (List Premise)
 premises (var k at) = Some []
 premises (lit v at) = Some []
@@ -62,7 +62,7 @@ premises (assign p q at) = Some ((nothing, p) ∷ (nothing, q) ∷ [])
 premises (while_do b c at) = Some ((nothing, b) ∷ (nothing, c) ∷ [])
 premises (forever c at) = Some ((nothing, c) ∷ [])
 premises (new d D e b at) = Some ((nothing, e) ∷ (given (cell_type D), b) ∷ [])
-premises (cells d e b at) = None
+premises (cells d e b at) = Some ((nothing, e) ∷ (given sequence_type, b) ∷ [])
 premises (escape d b at) = Some ((given (atom Compl), b) ∷ [])
 premises (accept d D b at) = Some ((given (atom (data_atom D)), b) ∷ [])
 premises (put kind p at) = Some ((nothing, p) ∷ [])
@@ -137,7 +137,7 @@ conclusion G (assign p q at) As = provided (fits_assignment (type_at As 0) (type
 conclusion G (while_do b c at) As = provided (is_atom Truth (type_at As 0) && is_atom Comm (type_at As 1)) (atom Comm)
 conclusion G (forever c at) As = provided (is_atom Comm (type_at As 0)) (atom Compl)
 conclusion G (new d D e b at) As = command_behind (data_atom D) (type_at As 0) (type_at As 1)
-conclusion G (cells d e b at) As = None
+conclusion G (cells d e b at) As = command_behind Int (type_at As 0) (type_at As 1)
 conclusion G (escape d b at) As = provided (is_atom Comm (type_at As 0)) (atom Comm)
 conclusion G (accept d D b at) As = provided (is_atom Comm (type_at As 0)) (atom (acceptor_atom D))
 conclusion G (put kind p at) As = provided (is_atom (put_atom kind) (type_at As 0)) (atom Comm)

@@ -218,6 +218,8 @@ pub data Passes : ℕ → Tree → PlainShape → ℕ → PlainShape → Type 0 
   of_while_body : {m : ℕ} {b c : Tree} {at : Place} {s : PlainShape} → Passes m (while_do b c at) s (m + 1 + nodes b) (at_end a_run)
   of_new_value : {m d : ℕ} {D : DataTy} {e b : Tree} {at : Place} {s : PlainShape} → Passes m (new d D e b at) s (m + 1) (at_end a_value)
   of_new_body : {m d : ℕ} {D : DataTy} {e b : Tree} {at : Place} {s : PlainShape} → Passes m (new d D e b at) s (m + 1 + nodes e) (at_end a_run)
+  of_cells_count : {m d : ℕ} {e b : Tree} {at : Place} {s : PlainShape} → Passes m (cells d e b at) s (m + 1) (at_end a_value)
+  of_cells_body : {m d : ℕ} {e b : Tree} {at : Place} {s : PlainShape} → Passes m (cells d e b at) s (m + 1 + nodes e) (at_end a_run)
 
 -- the program's own node is run, and what a pair's form passes is in the table
 pub record IsClosed (p : Tree) (table : ℕ → PlainShape → Type 0) : Type 0 where

@@ -11,8 +11,8 @@ use Rattle.fy_types.specs.Types.{PlainType, PlainTypes, ns, atom, arrow, field a
 use Rattle.fy_types.specs.Subtyping.{IsMember, IsSubtype}
 use Rattle.fy_types.specs.Paths.{paths}
 use Rattle.fy_phrase.specs.declared.phrase.DataTy.{DataTy}
-use Rattle.fy_phrase.specs.Tree.{Tree, Trees, no_trees, and_tree, var, lit, unary, binary, cond, case, lam, app, field, sel, merge, let_in, rec, skip, seq, assign, while_do, forever, new, escape, accept, put, read}
-use Rattle.fy_derive.specs.Atoms.{data_atom, acceptor_atom, cell_type, datum_atom, operand_atom, unary_atom, takes, binary_atom, put_atom, is_command}
+use Rattle.fy_phrase.specs.Tree.{Tree, Trees, no_trees, and_tree, var, lit, unary, binary, cond, case, lam, app, field, sel, merge, let_in, rec, skip, seq, assign, while_do, forever, new, cells, escape, accept, put, read}
+use Rattle.fy_derive.specs.Atoms.{data_atom, acceptor_atom, cell_type, sequence_type, datum_atom, operand_atom, unary_atom, takes, binary_atom, put_atom, is_command}
 use Rattle.fy_derive.specs.Kinds.{Kind, kind_of, none_begins}
 
 -- a data type, as a type
@@ -63,6 +63,8 @@ mutual
     by_forever : {G : List PlainType} {c : Tree} {at : Place} → HasType G c (atom Comm) → HasType G (forever c at) (atom Compl)
     by_new : {G : List PlainType} {d : ℕ} {D : DataTy} {e b : Tree} {at : Place} {R : Atom} →
         is_command R ≡ true → HasType G e (of_data D) → HasType (cell_type D ∷ G) b (atom R) → HasType G (new d D e b at) (atom R)
+    by_cells : {G : List PlainType} {d : ℕ} {e b : Tree} {at : Place} {R : Atom} →
+        is_command R ≡ true → HasType G e (atom Int) → HasType (sequence_type ∷ G) b (atom R) → HasType G (cells d e b at) (atom R)
     by_escape : {G : List PlainType} {d : ℕ} {b : Tree} {at : Place} →
         HasType (atom Compl ∷ G) b (atom Comm) → HasType G (escape d b at) (atom Comm)
     by_accept : {G : List PlainType} {d : ℕ} {D : DataTy} {b : Tree} {at : Place} →

@@ -3,7 +3,7 @@
 ghost use Rattle.std.specs.Prelude.{◌≡◌, ◌<◌, ◌∷◌, IfOk, OnOk, IfSome, option_map, replicate};
 ghost use Rattle.fy_phrase.specs.Reads.{reads, reads_parts};
 ghost use Rattle.fy_derive.specs.Rules.{premises, nothing, of_parts};
-ghost use Rattle.fy_derive.specs.Atoms.{cell_type};
+ghost use Rattle.fy_derive.specs.Atoms.{cell_type, sequence_type};
 ghost use Rattle.fy_derive.specs.Shown.{total, shown, Extends};
 ghost use Rattle.fy_derive.specs.Standing.{premises_shown, ArePremisesIn};
 
@@ -13,8 +13,11 @@ use crate::reading::number_of_type;
 use crate::table::TypeTable;
 use fy_base::OutOfMemory;
 use fy_phrase::{DataTy, Parts, Phrase};
-use fy_types::Atom;
+use fy_types::{Atom, Name};
 use std::alloc::Global;
+
+// The number of the name `len`.
+const LENGTH: Name = 0;
 
 /// What is bound over a premise.
 #[derive(Clone, Copy, Drop)]
@@ -71,7 +74,7 @@ pub fn rule_premises<'a>(
     ensures extends { OnOk result (Extends table.old table.new) }
 {
     match p {
-        Phrase::Lam(..) | Phrase::Merge(..) | Phrase::Cells(..) | Phrase::Mark(..) => Ok(None),
+        Phrase::Lam(..) | Phrase::Merge(..) | Phrase::Mark(..) => Ok(None),
         Phrase::Var(..) => Ok(Some(Vec::new(alloc))),
         Phrase::Lit(..) => Ok(Some(Vec::new(alloc))),
         Phrase::Skip(_) => Ok(Some(Vec::new(alloc))),
@@ -114,6 +117,11 @@ pub fn rule_premises<'a>(
             let all = Vec::from_array(alloc, [plain(e), given(number, body)])?;
             Ok(Some(all))
         }
+        Phrase::Cells(_, e, body, _) => {
+            let number = number_of_sequence(table)?;
+            let all = Vec::from_array(alloc, [plain(e), given(number, body)])?;
+            Ok(Some(all))
+        }
         Phrase::Escape(_, body, _) => {
             let number = table.number(TypeNode::Atom(Atom::Compl))?;
             let all = Vec::from_array(alloc, [given(number, body)])?;
@@ -138,6 +146,21 @@ fn number_of_cell(table: &mut TypeTable, ty: DataTy) -> Result<usize, OutOfMemor
     let end = table.number(TypeNode::NoTypes)?;
     let rest = table.number(TypeNode::AndType(acceptor, end))?;
     table.number(TypeNode::AndType(value, rest))
+}
+
+// The number of the type of a sequence's variable.
+fn number_of_sequence(table: &mut TypeTable) -> Result<usize, OutOfMemory>
+    ensures within { IfOk result (λ k. k < total table.new) }
+    ensures stands { IfOk result (λ k. shown table.new k ≡ sequence_type) }
+    ensures extends { OnOk result (Extends table.old table.new) }
+{
+    let cell = number_of_cell(table, DataTy::Int)?;
+    let index = table.number(TypeNode::Atom(Atom::Int))?;
+    let indexed = table.number(TypeNode::Arrow(index, cell))?;
+    let length = table.number(TypeNode::Field(LENGTH, index))?;
+    let end = table.number(TypeNode::NoTypes)?;
+    let rest = table.number(TypeNode::AndType(length, end))?;
+    table.number(TypeNode::AndType(indexed, rest))
 }
 
 // The premises on an index and on each part.

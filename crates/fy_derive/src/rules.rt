@@ -51,7 +51,7 @@ pub fn conclusion(
         }
         Phrase::Cond(..) => Ok(chosen(table, done[0], done[1], done[2])),
         Phrase::Case(..) => Ok(picked(table, done)),
-        Phrase::Lam(..) | Phrase::Merge(..) | Phrase::Cells(..) | Phrase::Mark(..) => Ok(None),
+        Phrase::Lam(..) | Phrase::Merge(..) | Phrase::Mark(..) => Ok(None),
         Phrase::App(..) => Ok(applied(table, done[0], done[1])),
         Phrase::Field(i, _, _) => {
             let number = table.number(TypeNode::Field(*i, done[0]))?;
@@ -77,6 +77,7 @@ pub fn conclusion(
         Phrase::New(_, ty, _, _, _) => {
             Ok(command_behind(table, done[0], data_atom(*ty), done[1]))
         }
+        Phrase::Cells(..) => Ok(command_behind(table, done[0], Atom::Int, done[1])),
         Phrase::Escape(..) => {
             let fits = is_atom(table, done[0], Atom::Comm);
             provided_atom(table, fits, Atom::Comm)

@@ -1,5 +1,5 @@
 -- Scopes in which a phrase means the same but for the numbers of its variables.
-use Rattle.std.proofs.Common.{ℕ, zero, suc, ◌-◌, ◌<◌, ◌≡◌, Bool, true, false, List, [], ◌∷◌, cond, eqb, Option, Some, None, refl, sym, ap, ◌∙◌, arith}
+use Rattle.std.proofs.Common.{ℕ, suc, ◌-◌, ◌<◌, ◌≡◌, Bool, true, false, List, [], ◌∷◌, cond, eqb, Option, Some, None, refl, sym, ap, ◌∙◌, arith}
 use Rattle.fy_base.specs.declared.data.Place.{Place}
 use Rattle.fy_types.specs.Types.{PlainType, PlainTypes}
 use Rattle.fy_syntax.specs.Trees.{TypeTree, TypeTrees, DeclTree, Defs}

@@ -1,15 +1,15 @@
 -- A phrase without a fault under its imports has none under the earlier names.
-use Rattle.std.proofs.Common.{ℕ, zero, suc, ◌≡◌, Bool, true, false, not, ◌&&◌, nat_lt, List, [], ◌∷◌, ◌++◌, cond, eqb, Option, Some, None, is_none, refl, sym, ap, ◌∙◌, subst}
+use Rattle.std.proofs.Common.{ℕ, suc, ◌≡◌, Bool, true, false, not, nat_lt, List, [], ◌∷◌, ◌++◌, cond, eqb, Option, Some, None, is_none, refl, sym, ap, ◌∙◌, subst}
 use Rattle.fy_base.specs.declared.data.Place.{Place}
-use Rattle.fy_types.specs.Types.{PlainType, PlainTypes}
+use Rattle.fy_types.specs.Types.{PlainType}
 use Rattle.fy_syntax.specs.Trees.{TypeTree, TypeTrees, DeclTree, Tree, Trees, Defs, Links}
 use Rattle.fy_syntax.specs.Places.{no_place, type_without_places, types_without_places, decls_without_places, without_places, trees_without_places, defs_without_places, links_without_places}
 use Rattle.fy_expand.specs.declared.error.ExpandError.{ExpandError}
 use Rattle.fy_expand.specs.declared.error.ExpandError.TheVariants as errors
 use Rattle.fy_expand.specs.declared.frame.Standing.{Standing}
 use Rattle.fy_expand.specs.declared.frame.Standing.TheVariants.{Variable, Member}
-use Rattle.fy_expand.specs.Types.{with, type_of, is_large_type, type_front}
-use Rattle.fy_expand.specs.Scope.{Scope, under, with_defs, depth_under, under_defs, with_members, under_members, with_type, program_scope}
+use Rattle.fy_expand.specs.Types.{with, type_of, is_large_type}
+use Rattle.fy_expand.specs.Scope.{Scope, under, with_defs, depth_under, under_defs, with_members, under_members, with_type}
 use Rattle.fy_expand.specs.Front.{front}
 use Rattle.fy_expand.specs.Faults.{◌before◌, fault_if, is_among, unknown, all_unknown, type_fault, types_fault, types_count, decls_fault, is_operand, goes_first, operand_fault, fault, all_faults, links_fault, members_fault, operands_fault, defs_fault, fields_fault}
 use Rattle.fy_expand.specs.Imports.{scope_in, AreAmong, HideNothing, PhrasesMeanTheSame}

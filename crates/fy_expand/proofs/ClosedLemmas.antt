@@ -1,11 +1,11 @@
 -- The core phrase of a program has no variable without its binder.
-use Rattle.std.proofs.Common.{ℕ, zero, suc, ◌-◌, ◌/◌, ◌<◌, ◌≤◌, ◌==◌, if◌then◌else◌, true, false, List, [], ◌∷◌, length, take, drop, Option, Some, None, arith}
+use Rattle.std.proofs.Common.{ℕ, zero, suc, ◌/◌, ◌<◌, ◌≤◌, ◌==◌, if◌then◌else◌, true, false, List, [], ◌∷◌, length, take, drop, Option, Some, None, arith}
 use Rattle.fy_base.specs.Outside.{Bytes}
 use Rattle.fy_base.specs.declared.data.Place.{Place}
 use Rattle.fy_syntax.specs.declared.surface.Prefixed.{Prefixed}
 use Rattle.fy_syntax.specs.Trees.{DeclTree, Defs, Links}
 use Rattle.fy_syntax.specs.Trees as written
-use Rattle.fy_phrase.specs.Tree.{Tree, Trees, binary, app, merge, field, sel, no_trees, and_tree}
+use Rattle.fy_phrase.specs.Tree.{Tree, binary, app, merge, field, sel}
 use Rattle.fy_expand.specs.declared.frame.Standing.{Standing}
 use Rattle.fy_expand.specs.declared.frame.Standing.TheVariants.{Variable, Member}
 use Rattle.fy_expand.specs.Types.{with}
@@ -114,6 +114,9 @@ closed-text n at (byte ∷ bytes) = closed-letters n at (byte ∷ bytes)
 below_next : (n : ℕ) → 0 < suc n
 below_next n = omega arith
 
+below_second : (n : ℕ) → 1 < suc (suc n)
+below_second n = omega arith
+
 mutual
   closed-core : (s : Scope) (p : written.Tree) → IsBound s.depth s.phrases → IsClosedUnder s.depth (core s p)
   closed-core s (written.Tree.merge members at) h = closed-merged_all s at members h
@@ -183,10 +186,10 @@ mutual
 
 bound-program : IsBound program_scope.depth program_scope.phrases
 bound-program =
-    IsBound-under 4 3 _ (IsBound-under 3 2 _ (IsBound-under 2 1 _ (IsBound-under 1 0 (λ n. None) (record { below = λ n. tt }))))
+    IsBound-under 11 4 _ (IsBound-under 4 3 _ (IsBound-under 3 2 _ (IsBound-under 2 1 _ (IsBound-under 1 0 (λ n. None) (record { below = λ n. tt })))))
 
 -- the whole inside the prelude
 pub closed-whole : (tree : written.Tree) → IsClosed (in_prelude (front tree) (core program_scope tree))
 closed-whole tree =
     let body = closed-core program_scope tree bound-program in
-    (below_next 0, (below_next 1, (below_next 2, (below_next 3, body))))
+    (below_next 0, (below_next 1, (below_next 2, (below_next 3, ((below_second 4, (below_second 5, below_next 6)), body)))))

@@ -1,5 +1,5 @@
 -- Each binder of a program's core phrase carries the number of binders around it.
-use Rattle.std.proofs.Common.{◌≡◌, ℕ, zero, suc, ◌+◌, ◌/◌, ◌<◌, ◌≤◌, List, [], ◌∷◌, length, take, drop, Option, Some, None, refl, arith}
+use Rattle.std.proofs.Common.{ℕ, zero, suc, ◌+◌, ◌/◌, ◌<◌, ◌≤◌, List, [], ◌∷◌, length, take, drop, Option, Some, None, refl, arith}
 use Rattle.fy_base.specs.Outside.{Bytes}
 use Rattle.fy_base.specs.declared.data.Place.{Place}
 use Rattle.fy_syntax.specs.declared.surface.Prefixed.{Prefixed}
@@ -12,7 +12,7 @@ use Rattle.fy_expand.specs.declared.frame.Standing.TheVariants.{Variable, Member
 use Rattle.fy_expand.specs.Scope.{Scope, behind, under, under_defs, under_members, with_type, depth_under, program_scope}
 use Rattle.fy_expand.specs.Front.{front}
 use Rattle.fy_phrase.specs.Sizes.{nesting, all_nesting}
-use Rattle.fy_expand.specs.Core.{core, linked, applied, items_of, merged_all, merged, lets, all_fields, with_fields, parts_of, prefixed, selected, used, Item, one_after, no_item, by_halves, letters, text_parts, in_prelude}
+use Rattle.fy_expand.specs.Core.{core, linked, applied, items_of, merged_all, merged, lets, all_fields, with_fields, parts_of, prefixed, selected, used, Item, one_after, no_item, by_halves, letters, text_parts, cell_maker, in_prelude}
 use Rattle.fy_phrase.specs.WellMade.{HasDepthsUnder, HaveDepthsUnder, HasDepths}
 
 -- a name where it is used
@@ -131,7 +131,8 @@ mutual
 pub depths-whole : (tree : written.Tree) → HasDepths (in_prelude (front tree) (core program_scope tree))
 depths-whole tree =
     let body = depths-core program_scope tree in
-    (refl, (refl, tt), (refl, (refl, tt), (refl, (refl, tt), (refl, (refl, tt), body))))
+    let maker : HasDepthsUnder 4 (cell_maker (front tree)) = (refl, (refl, (refl, tt, (tt, tt)))) in
+    (refl, (refl, tt), (refl, (refl, tt), (refl, (refl, tt), (refl, (refl, tt), (refl, maker, body)))))
 
 -- ---- depths are below the nesting
 

@@ -13,10 +13,10 @@ use Rattle.fy_phrase.specs.Tree.{Tree, Trees, binary, app, merge, field, sel}
 use Rattle.fy_phrase.specs.PhraseNames.{HasFullTypes, HaveFullTypes}
 use Rattle.fy_expand.specs.declared.frame.Standing.{Standing}
 use Rattle.fy_expand.specs.declared.frame.Standing.TheVariants.{Variable, Member}
-use Rattle.fy_expand.specs.Types.{with, named_type, fields, type_of, types_of, sequence_of, predefined}
+use Rattle.fy_expand.specs.Types.{with, named_type, fields, type_of, types_of, sequence_of, integer_variable, variable_sequence, predefined}
 use Rattle.fy_expand.specs.Scope.{Scope, behind, under, under_defs, under_members, with_type, program_scope}
 use Rattle.fy_expand.specs.Front.{front}
-use Rattle.fy_expand.specs.Core.{core, linked, applied, items_of, merged_all, merged, lets, all_fields, with_fields, parts_of, prefixed, selected, used, Item, one_after, no_item, by_halves, letters, text_parts, indexed, trees_count, declared, meet_of, in_prelude}
+use Rattle.fy_expand.specs.Core.{core, linked, applied, items_of, merged_all, merged, lets, all_fields, with_fields, parts_of, prefixed, selected, used, Item, one_after, no_item, by_halves, letters, text_parts, indexed, trees_count, declared, meet_of, cell_maker, in_prelude}
 
 -- ---- written types
 
@@ -103,19 +103,24 @@ full-choice false A o h k = k
 full-with : (x : ℕ) (A : PlainType) (types : ℕ → Option PlainType) → HasFullMeets A → NamesAreFull types → NamesAreFull (with x A types)
 full-with x A types h k = λ n. full-choice (n == x) A (types n) h (k n)
 
+full-sequence : HasFullMeets variable_sequence
+full-sequence = (tt, ((tt, (tt, (tt, (tt, tt)))), (tt, tt)))
+
 full-predefined : NamesAreFull predefined
 full-predefined = λ n.
-    let six : Option PlainType = if n == 10 then Some (sequence_of (PlainType.atom atom.Char)) else None in
+    let seven : Option PlainType = if n == 12 then Some variable_sequence else None in
+    let six : Option PlainType = if n == 10 then Some (sequence_of (PlainType.atom atom.Char)) else seven in
     let five : Option PlainType = if n == 9 then Some (sequence_of (PlainType.atom atom.Bool)) else six in
     let four : Option PlainType = if n == 8 then Some (sequence_of (PlainType.atom atom.Int)) else five in
     let three : Option PlainType = if n == 7 then Some (both_of (PlainType.atom atom.Char) (PlainType.atom atom.CharAcc)) else four in
     let two : Option PlainType = if n == 6 then Some (both_of (PlainType.atom atom.Bool) (PlainType.atom atom.BoolAcc)) else three in
-    full-choice (n == 5) (both_of (PlainType.atom atom.Int) (PlainType.atom atom.IntAcc)) two (tt, (tt, (tt, tt)))
+    full-choice (n == 5) integer_variable two (tt, (tt, (tt, tt)))
     (full-choice (n == 6) (both_of (PlainType.atom atom.Bool) (PlainType.atom atom.BoolAcc)) three (tt, (tt, (tt, tt)))
     (full-choice (n == 7) (both_of (PlainType.atom atom.Char) (PlainType.atom atom.CharAcc)) four (tt, (tt, (tt, tt)))
     (full-choice (n == 8) (sequence_of (PlainType.atom atom.Int)) five (tt, ((tt, tt), (tt, tt)))
     (full-choice (n == 9) (sequence_of (PlainType.atom atom.Bool)) six (tt, ((tt, tt), (tt, tt)))
-    (full-choice (n == 10) (sequence_of (PlainType.atom atom.Char)) None (tt, ((tt, tt), (tt, tt))) tt)))))
+    (full-choice (n == 10) (sequence_of (PlainType.atom atom.Char)) seven (tt, ((tt, tt), (tt, tt)))
+    (full-choice (n == 12) variable_sequence None full-sequence tt))))))
 
 full-fields : (names : List ℕ) (A : PlainType) → HasFullMeets A → HasFullMeets (fields names A)
 full-fields [] A h = h
@@ -273,4 +278,5 @@ mutual
 pub full-whole : (tree : written.Tree) → IsFull tree → HasFullTypes (in_prelude (front tree) (core program_scope tree))
 full-whole tree h =
     let body = full-core program_scope full-predefined tree h in
-    (((tt, tt), tt), (((tt, tt), tt), (((tt, tt), tt), (((tt, tt), tt), body))))
+    let maker : HasFullTypes (cell_maker (front tree)) = ((tt, tt), (((full-sequence, tt), tt), (tt, (tt, tt)))) in
+    (((tt, tt), tt), (((tt, tt), tt), (((tt, tt), tt), (((tt, tt), tt), (maker, body)))))

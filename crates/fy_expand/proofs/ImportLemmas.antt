@@ -68,7 +68,8 @@ same-program c =
     let s1 = under 1 outermost in
     let s2 = under 2 s1 in
     let s3 = under 3 s2 in
-    same-under c s3 4 (same-under c s2 3 (same-under c s1 2 (same-under c outermost 1 (record { types = refl; phrases = λ n. none c }))))
+    let s4 = under 4 s3 in
+    same-under c s4 11 (same-under c s3 4 (same-under c s2 3 (same-under c s1 2 (same-under c outermost 1 (record { types = refl; phrases = λ n. none c })))))
   where
     none : (c : Bool) → IsSameStanding c (λ k. k) 0 0 None None
     none true = tt

@@ -5,7 +5,7 @@ use Rattle.fy_base.specs.declared.data.Place.{Place}
 use Rattle.fy_syntax.specs.declared.surface.Prefixed.{Prefixed}
 use Rattle.fy_syntax.specs.Trees.{DeclTree, Defs, Links}
 use Rattle.fy_syntax.specs.Trees as written
-use Rattle.fy_phrase.specs.Tree.{Tree, Trees, binary, app, merge, field, sel, no_trees, and_tree}
+use Rattle.fy_phrase.specs.Tree.{Tree, binary, app, merge, field, sel}
 use Rattle.fy_expand.specs.declared.error.ExpandError.{ExpandError}
 use Rattle.fy_expand.specs.declared.error.ExpandError.TheVariants.{DoubleName, LetrecName, MergeRight, TooManyAlternatives}
 use Rattle.fy_expand.specs.declared.frame.Standing.{Standing}
@@ -257,4 +257,4 @@ mutual
 
 -- the whole inside the prelude
 pub made-whole : (tree : written.Tree) → IsFilled tree → None ≡ fault program_scope tree → IsWellMade (in_prelude (front tree) (core program_scope tree))
-made-whole tree f h = (tt, (tt, (tt, (tt, made-core program_scope program_scope tree f h))))
+made-whole tree f h = (tt, (tt, (tt, (tt, ((tt, (tt, tt)), made-core program_scope program_scope tree f h)))))

@@ -2,17 +2,19 @@
 use Rattle.std.proofs.Common.{◌≡◌, ℕ, suc, ◌+◌, ◌-◌, ◌≤◌, if◌then◌else◌, max, List, [], ◌∷◌, length, map, refl, sym, ap, ◌∙◌, arith}
 use Rattle.fy_base.specs.Outside.{Bytes}
 use Rattle.fy_base.specs.declared.data.Place.{Place}
+use Rattle.fy_base.specs.declared.data.PutKind.TheVariants as kind
+use Rattle.fy_types.specs.declared.types.Atom.TheVariants as atom
 use Rattle.fy_types.specs.Types.{PlainType, PlainTypes}
 use Rattle.fy_syntax.specs.declared.surface.Prefixed.{Prefixed}
 use Rattle.fy_syntax.specs.Trees.{Defs, Links}
 use Rattle.fy_syntax.specs.Trees as written
-use Rattle.fy_phrase.specs.Tree.{Tree, Trees, binary, app, merge, field, sel, lam, rec}
+use Rattle.fy_phrase.specs.Tree.{Tree, Trees, var, binary, app, merge, field, sel, lam, let_in, rec, put, read}
 use Rattle.fy_expand.specs.declared.size.Size.{Size}
 use Rattle.fy_expand.specs.Scope.{Scope, behind}
-use Rattle.fy_expand.specs.Core.{core, linked, applied, merged, merged_all, lets, all_fields, with_fields, prefixed, selected, parts_of, letters, text_parts, indexed, Item, items_of, one_after, no_item, by_halves, sequence, in_prelude}
+use Rattle.fy_expand.specs.Core.{core, linked, applied, merged, merged_all, lets, all_fields, with_fields, prefixed, selected, parts_of, letters, text_parts, indexed, Item, items_of, one_after, no_item, by_halves, sequence, one_type, provided, cell_maker, in_prelude}
 use Rattle.fy_phrase.specs.Sizes.{nesting, all_nesting}
 use Rattle.fy_phrase.specs.CoreLimits.{size_of, parts_size}
-use Rattle.fy_expand.specs.Measures.{capped_size, measure, parts_measure, under_nodes, over, grouped, grouped_all, trees_measures, links_measures, fields_measures, defs_measures, nested, text_measure, indexed_measure, halved, leaf, all_beside, beside, with_nodes, types_measure, type_measure, prelude_measure}
+use Rattle.fy_expand.specs.Measures.{capped_size, measure, parts_measure, under_nodes, over, grouped, grouped_all, trees_measures, links_measures, fields_measures, defs_measures, nested, text_measure, indexed_measure, halved, leaf, all_beside, beside, with_nodes, types_measure, type_measure, procedure, maker, prelude_measure}
 use Rattle.fy_expand.proofs.HalvesLemmas.{by_halves-map}
 use Rattle.std.proofs.lemmas.Bool.{ne_eqb}
 use Rattle.std.proofs.lemmas.List.{length-map}
@@ -137,9 +139,22 @@ measure-lam d As p at = same_size _ _ _ _ (omega arith) (omega arith)
 pub measure-rec : (d : ℕ) (A : PlainType) (p : Tree) (at : Place) → measure (rec d A p at) ≡ with_nodes (type_measure A).nodes (under_nodes 1 (measure p))
 measure-rec d A p at = same_size _ _ _ _ (omega arith) (omega arith)
 
+-- a definition around a phrase
+measure-defined : (d : ℕ) (p q : Tree) (at : Place) (a : Size) → measure p ≡ a → measure (let_in d p q at) ≡ over a (measure q)
+measure-defined d p q at a h = sym (over-capped (size_of p) (nesting p) (size_of q) (nesting q)) ∙ ap (λ m. over m (measure q)) h
+
 -- a program inside the prelude
 pub measure-in_prelude : (at : Place) (p : Tree) → measure (in_prelude at p) ≡ prelude_measure (measure p)
-measure-in_prelude at p = same_size _ _ _ _ (omega arith) (omega arith)
+measure-in_prelude at p =
+    let q4 : Tree = let_in 4 (cell_maker at) p at in
+    let q3 : Tree = provided 3 atom.IntAcc (read (var 0 at) at) q4 at in
+    let q2 : Tree = provided 2 atom.Bool (put kind.Bool (var 0 at) at) q3 at in
+    let q1 : Tree = provided 1 atom.Char (put kind.Char (var 0 at) at) q2 at in
+    measure-defined 0 (lam 0 (one_type atom.Int) (put kind.Int (var 0 at) at) at) q1 at procedure (same_size _ _ _ _ (omega arith) (omega arith))
+    ∙ ap (over procedure) (measure-defined 1 (lam 1 (one_type atom.Char) (put kind.Char (var 0 at) at) at) q2 at procedure (same_size _ _ _ _ (omega arith) (omega arith))
+    ∙ ap (over procedure) (measure-defined 2 (lam 2 (one_type atom.Bool) (put kind.Bool (var 0 at) at) at) q3 at procedure (same_size _ _ _ _ (omega arith) (omega arith))
+    ∙ ap (over procedure) (measure-defined 3 (lam 3 (one_type atom.IntAcc) (read (var 0 at) at) at) q4 at procedure (same_size _ _ _ _ (omega arith) (omega arith))
+    ∙ ap (over procedure) (measure-defined 4 (cell_maker at) p at maker (same_size _ _ _ _ (omega arith) (omega arith))))))
 
 pub measure-selected : (at : Place) (names : List ℕ) (p : Tree) → measure (selected at p names) ≡ under_nodes (length names) (measure p)
 measure-selected at [] p = same_size _ _ _ _ (omega arith) (omega arith)

@@ -15,10 +15,10 @@ use Rattle.fy_phrase.specs.Tree.{Tree, Trees, binary, app, merge, field, sel}
 use Rattle.fy_phrase.specs.PhraseNames.{AllNames, AllNamesOf}
 use Rattle.fy_expand.specs.declared.frame.Standing.{Standing}
 use Rattle.fy_expand.specs.declared.frame.Standing.TheVariants.{Variable, Member}
-use Rattle.fy_expand.specs.Types.{with, named_type, fields, type_of, types_of, sequence_of, predefined}
+use Rattle.fy_expand.specs.Types.{with, named_type, fields, type_of, types_of, sequence_of, integer_variable, variable_sequence, predefined}
 use Rattle.fy_expand.specs.Scope.{Scope, behind, under, under_defs, under_members, with_type, program_scope}
 use Rattle.fy_expand.specs.Front.{front}
-use Rattle.fy_expand.specs.Core.{core, linked, applied, items_of, merged_all, merged, lets, all_fields, with_fields, parts_of, prefixed, selected, used, Item, one_after, no_item, by_halves, letters, text_parts, indexed, trees_count, declared, meet_of, in_prelude}
+use Rattle.fy_expand.specs.Core.{core, linked, applied, items_of, merged_all, merged, lets, all_fields, with_fields, parts_of, prefixed, selected, used, Item, one_after, no_item, by_halves, letters, text_parts, indexed, trees_count, declared, meet_of, cell_maker, in_prelude}
 
 -- ---- written types
 
@@ -33,22 +33,27 @@ names-choice P false A o h k = k
 names-with : (P : ℕ → Type 0) (x : ℕ) (A : PlainType) (types : ℕ → Option PlainType) → AllFields P A → NamesHave P types → NamesHave P (with x A types)
 names-with P x A types h k = λ n. names-choice P (n == x) A (types n) h (k n)
 
+names-sequence : (P : ℕ → Type 0) → P 0 → AllFields P variable_sequence
+names-sequence P z = ((tt, (tt, (tt, tt))), ((z, tt), tt))
+
 -- the predefined types have the field `len` alone
 names-predefined : (P : ℕ → Type 0) → P 0 → NamesHave P predefined
 names-predefined P z = λ n.
     let at : (b : Bool) (A : PlainType) (o : Option PlainType) → AllFields P A → AllFields P (named_type o) → AllFields P (named_type (if b then Some A else o)) = names-choice P in
     let seq : PlainType → PlainType = λ A. sequence_of A in
-    let six : Option PlainType = if n == 10 then Some (seq (PlainType.atom atom.Char)) else None in
+    let seven : Option PlainType = if n == 12 then Some variable_sequence else None in
+    let six : Option PlainType = if n == 10 then Some (seq (PlainType.atom atom.Char)) else seven in
     let five : Option PlainType = if n == 9 then Some (seq (PlainType.atom atom.Bool)) else six in
     let four : Option PlainType = if n == 8 then Some (seq (PlainType.atom atom.Int)) else five in
     let three : Option PlainType = if n == 7 then Some (both_of (PlainType.atom atom.Char) (PlainType.atom atom.CharAcc)) else four in
     let two : Option PlainType = if n == 6 then Some (both_of (PlainType.atom atom.Bool) (PlainType.atom atom.BoolAcc)) else three in
-    at (n == 5) (both_of (PlainType.atom atom.Int) (PlainType.atom atom.IntAcc)) two (tt, (tt, tt))
+    at (n == 5) integer_variable two (tt, (tt, tt))
     (at (n == 6) (both_of (PlainType.atom atom.Bool) (PlainType.atom atom.BoolAcc)) three (tt, (tt, tt))
     (at (n == 7) (both_of (PlainType.atom atom.Char) (PlainType.atom atom.CharAcc)) four (tt, (tt, tt))
     (at (n == 8) (seq (PlainType.atom atom.Int)) five ((tt, tt), ((z, tt), tt))
     (at (n == 9) (seq (PlainType.atom atom.Bool)) six ((tt, tt), ((z, tt), tt))
-    (at (n == 10) (seq (PlainType.atom atom.Char)) None ((tt, tt), ((z, tt), tt)) tt)))))
+    (at (n == 10) (seq (PlainType.atom atom.Char)) seven ((tt, tt), ((z, tt), tt))
+    (at (n == 12) variable_sequence None (names-sequence P z) tt))))))
 
 names-fields : (P : ℕ → Type 0) (names : List ℕ) (A : PlainType) → AllListed P names → AllFields P A → AllFields P (fields names A)
 names-fields P [] A h k = k
@@ -201,4 +206,5 @@ mutual
 pub names-whole : (P : ℕ → Type 0) → P 0 → (tree : written.Tree) → of_tree.AllNames P tree → AllNames P (in_prelude (front tree) (core program_scope tree))
 names-whole P z tree h =
     let body = names-core P z program_scope (names-predefined P z) tree h in
-    (((tt, tt), tt), (((tt, tt), tt), (((tt, tt), tt), (((tt, tt), tt), body))))
+    let maker : AllNames P (cell_maker (front tree)) = ((tt, tt), (((names-sequence P z, tt), tt), (z, tt, (tt, tt)))) in
+    (((tt, tt), tt), (((tt, tt), tt), (((tt, tt), tt), (((tt, tt), tt), (maker, body)))))

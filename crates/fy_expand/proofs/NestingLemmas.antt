@@ -3,7 +3,7 @@ use Rattle.std.proofs.Common.{◌≤◌, arith}
 use Rattle.fy_base.specs.declared.data.Place.{Place}
 use Rattle.fy_syntax.specs.Trees.{Defs, Links}
 use Rattle.fy_syntax.specs.Trees as written
-use Rattle.fy_phrase.specs.Tree.{Tree, Trees, binary, app, merge, field}
+use Rattle.fy_phrase.specs.Tree.{Tree, binary, app, merge, field}
 use Rattle.fy_expand.specs.Scope.{Scope}
 use Rattle.fy_expand.specs.Core.{core, linked, applied, merged, with_fields}
 use Rattle.fy_phrase.specs.Sizes.{nesting}

@@ -6,7 +6,7 @@ use Rattle.fy_base.specs.declared.data.Datum.TheVariants as datum
 use Rattle.fy_syntax.specs.declared.surface.Surface.{Surface}
 use Rattle.fy_syntax.specs.Reading as written
 use Rattle.fy_syntax.specs.Trees as plain
-use Rattle.fy_phrase.specs.Tree.{Tree, Trees, lit, and_tree}
+use Rattle.fy_phrase.specs.Tree.{lit, and_tree}
 use Rattle.fy_phrase.specs.Reads.{phrases_in, reads, reads_parts, trees_from}
 use Rattle.fy_phrase.specs.declared.phrase.Phrase.{Phrase}
 use Rattle.fy_phrase.specs.declared.phrase.Parts.{Parts}

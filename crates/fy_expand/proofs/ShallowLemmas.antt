@@ -1,11 +1,11 @@
 -- Where a whole is shallow, so are its parts, with the binders around them.
-use Rattle.std.proofs.Common.{ℕ, zero, suc, ◌+◌, ◌-◌, ◌/◌, ◌≤◌, max, List, [], ◌∷◌, length, take, drop, arith, length-drop}
+use Rattle.std.proofs.Common.{ℕ, zero, suc, ◌+◌, ◌/◌, ◌≤◌, max, List, [], ◌∷◌, length, take, drop, arith, length-drop}
 use Rattle.std.proofs.lemmas.List.{length-take}
 use Rattle.fy_base.specs.declared.data.Place.{Place}
 use Rattle.fy_syntax.specs.declared.surface.Prefixed.{Prefixed}
 use Rattle.fy_syntax.specs.Trees.{Defs, Links}
 use Rattle.fy_syntax.specs.Trees as written
-use Rattle.fy_phrase.specs.Tree.{Tree, Trees, sel}
+use Rattle.fy_phrase.specs.Tree.{Tree, sel}
 use Rattle.fy_expand.specs.Scope.{Scope, behind, depth_under, under_defs}
 use Rattle.fy_expand.specs.Core.{core, linked, applied, lets, prefixed, selected, sequence, Item, one_after, no_item, by_halves}
 use Rattle.fy_phrase.specs.Sizes.{nesting}

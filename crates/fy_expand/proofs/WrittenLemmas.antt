@@ -9,7 +9,7 @@ use Rattle.fy_syntax.specs.declared.surface.Prefixed.{Prefixed}
 use Rattle.fy_syntax.specs.Trees.{TypeTree, DeclTree, Defs, Links}
 use Rattle.fy_syntax.specs.Trees as written
 use Rattle.fy_phrase.specs.CoreLimits.{deepest_written, deepest_of_parts}
-use Rattle.fy_phrase.specs.Tree.{Tree, Trees, binary, app, merge, field, sel, no_trees, and_tree}
+use Rattle.fy_phrase.specs.Tree.{Tree, binary, app, merge, field, sel}
 use Rattle.fy_expand.specs.declared.error.ExpandError.{ExpandError}
 use Rattle.fy_expand.specs.declared.error.ExpandError.TheVariants.{DoubleName, LetrecName, TooManyAlternatives, TypeTooLarge}
 use Rattle.fy_expand.specs.declared.frame.Standing.{Standing}
@@ -17,7 +17,7 @@ use Rattle.fy_expand.specs.declared.frame.Standing.TheVariants.{Variable, Member
 use Rattle.fy_expand.specs.Types.{with, type_of, type_front, is_large_type}
 use Rattle.fy_expand.specs.Scope.{Scope, behind, under, under_defs, under_members, with_type, program_scope}
 use Rattle.fy_expand.specs.Front.{front}
-use Rattle.fy_expand.specs.Core.{core, linked, applied, items_of, merged_all, merged, lets, all_fields, with_fields, parts_of, prefixed, selected, used, Item, one_after, no_item, by_halves, letters, text_parts, declared, meet_of, in_prelude}
+use Rattle.fy_expand.specs.Core.{core, linked, applied, items_of, merged_all, merged, lets, all_fields, with_fields, parts_of, prefixed, selected, used, Item, one_after, no_item, by_halves, letters, text_parts, declared, meet_of, cell_maker, in_prelude}
 use Rattle.fy_expand.specs.Faults.{fault, all_faults, links_fault, members_fault, operands_fault, defs_fault, decls_fault, fields_fault, unknown, type_fault, types_fault, types_count, fault_if, is_among, operand_fault, is_operand, ◌before◌}
 use Rattle.fy_expand.proofs.MadeLemmas.{before-left, before-right, first_fine, tested_fine, operand-inside}
 
@@ -218,4 +218,6 @@ mutual
 
 -- the whole inside the prelude
 pub written-whole : (tree : written.Tree) → None ≡ fault program_scope tree → deepest_written (in_prelude (front tree) (core program_scope tree)) ≤ 258
-written-whole tree h = both nothing (both nothing (both nothing (both nothing (written-core program_scope program_scope tree refl h))))
+written-whole tree h =
+    let maker : deepest_written (cell_maker (front tree)) ≤ 258 = omega arith in
+    both nothing (both nothing (both nothing (both nothing (both maker (written-core program_scope program_scope tree refl h)))))

@@ -13,8 +13,8 @@ use Rattle.fy_syntax.specs.Trees.{DeclTree, Defs, Links}
 use Rattle.fy_syntax.specs.Trees as written
 use Rattle.fy_phrase.specs.declared.phrase.DataTy.{DataTy}
 use Rattle.fy_phrase.specs.declared.phrase.DataTy.TheVariants as data_type
-use Rattle.fy_phrase.specs.Tree.{Tree, Trees, var, lit, unary, binary, cond, case, lam, app, field, sel, merge, let_in, rec, skip, seq, assign, while_do, forever, new, escape, accept, put, read, no_trees, and_tree}
-use Rattle.fy_expand.specs.Types.{type_of, types_of}
+use Rattle.fy_phrase.specs.Tree.{Tree, Trees, var, lit, unary, binary, cond, case, lam, app, field, sel, merge, let_in, rec, skip, seq, assign, while_do, forever, new, cells, escape, accept, put, read, no_trees, and_tree}
+use Rattle.fy_expand.specs.Types.{type_of, types_of, variable_sequence}
 use Rattle.fy_expand.specs.declared.frame.Standing.{Standing}
 use Rattle.fy_expand.specs.declared.frame.Standing.TheVariants.{Variable, Member}
 use Rattle.fy_expand.specs.Scope.{Scope, behind, under, under_defs, under_members, with_type}
@@ -188,10 +188,17 @@ abbrev mutual
 abbrev pub provided : ℕ → Atom → Tree → Tree → Place → Tree
 provided d a does p at = let_in d (lam d (one_type a) does at) p at
 
+-- rule 9: what `newintseq` stands for: a procedure of a sequence of new cells, as many as a number says
+abbrev pub cell_maker : Place → Tree
+cell_maker at =
+    lam 4 (one_type atom.Int)
+    (lam 5 (PlainTypes.and_type (PlainType.arrow variable_sequence (PlainType.atom atom.Comm)) PlainTypes.no_types)
+    (cells 6 (var 1 at) (app (var 1 at) (var 0 at) at) at) at) at
+
 -- rule 9: the whole inside the prelude
 abbrev pub in_prelude : Place → Tree → Tree
 in_prelude at p =
     provided 0 atom.Int (put kind.Int (var 0 at) at)
     (provided 1 atom.Char (put kind.Char (var 0 at) at)
     (provided 2 atom.Bool (put kind.Bool (var 0 at) at)
-    (provided 3 atom.IntAcc (read (var 0 at) at) p at) at) at) at
+    (provided 3 atom.IntAcc (read (var 0 at) at) (let_in 4 (cell_maker at) p at) at) at) at) at

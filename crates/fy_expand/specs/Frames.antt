@@ -1,5 +1,5 @@
 -- What the program's frames of names stand for.
-use Rattle.std.specs.Prelude.{◌≡◌, ℕ, zero, suc, Bool, true, false, ◌==◌, if◌then◌else◌, Option, Some, None, Result, Ok, Err, List, map}
+use Rattle.std.specs.Prelude.{◌≡◌, ℕ, zero, suc, Bool, true, false, Option, Some, None, Result, Ok, Err, List, map}
 use Rattle.std.specs.Option.{option_map}
 use Rattle.fy_syntax.specs.declared.surface.Def.{Def, out-Def}
 use Rattle.fy_syntax.specs.declared.types.Decl.{Decl}

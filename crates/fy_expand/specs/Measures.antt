@@ -1,5 +1,5 @@
 -- How large things are, as far as numbers of 64 bits tell it, and what the core phrases of written ones measure.
-use Rattle.std.specs.Prelude.{ℕ, ◌+◌, ◌-◌, max, Bool, ◌==◌, if◌then◌else◌, Option, Some, None, List, [], ◌∷◌, length}
+use Rattle.std.specs.Prelude.{ℕ, ◌+◌, ◌-◌, max, ◌==◌, if◌then◌else◌, List, [], ◌∷◌, length}
 use Rattle.fy_types.specs.Types.{PlainType, PlainTypes}
 use Rattle.fy_types.specs.Nested.{type_nodes, types_nodes, type_nesting, types_nesting}
 use Rattle.fy_syntax.specs.Trees.{Defs, Links}
@@ -102,6 +102,10 @@ text_measure n = if n == 0 then under_nodes 1 leaf else with_nodes (n - 1) leaf
 abbrev pub procedure : Size
 procedure = record { nodes = 4; nesting = 3 }
 
+-- what `newintseq` stands for: an abstraction of one type over one of a type of 10 nodes, over the cells of a number, over a variable applied to another
+abbrev pub maker : Size
+maker = record { nodes = 18; nesting = 5 }
+
 -- a program inside the prelude
 abbrev pub prelude_measure : Size → Size
-prelude_measure a = over procedure (over procedure (over procedure (over procedure a)))
+prelude_measure a = over procedure (over procedure (over procedure (over procedure (over maker a))))

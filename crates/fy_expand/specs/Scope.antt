@@ -50,6 +50,6 @@ with_type name a s = record { depth = s.depth; phrases = s.phrases; types = with
 abbrev pub outermost : Scope
 outermost = record { depth = 0; phrases = λ n. None; types = predefined }
 
--- under the prelude's binders of `putint`, `putchar`, `putbool` and `read`, the first outermost
+-- under the prelude's binders of `putint`, `putchar`, `putbool`, `read` and `newintseq`, the first outermost
 abbrev pub program_scope : Scope
-program_scope = under 4 (under 3 (under 2 (under 1 outermost)))
+program_scope = under 11 (under 4 (under 3 (under 2 (under 1 outermost))))

@@ -54,13 +54,22 @@ is_large_type A = nat_lt 4096 (type_nodes A) || nat_lt 256 (type_nesting A)
 abbrev pub sequence_of : PlainType → PlainType
 sequence_of A = both_of (PlainType.arrow (PlainType.atom atom.Int) A) (PlainType.field 0 (PlainType.atom atom.Int))
 
+-- `int & intacc`, the type of an integer variable
+abbrev pub integer_variable : PlainType
+integer_variable = both_of (PlainType.atom atom.Int) (PlainType.atom atom.IntAcc)
+
+-- a sequence of integer variables
+abbrev pub variable_sequence : PlainType
+variable_sequence = sequence_of integer_variable
+
 -- the predefined names of types, by their numbers in each list of names
 abbrev pub predefined : ℕ → Option PlainType
 predefined name =
-    if name == 5 then Some (both_of (PlainType.atom atom.Int) (PlainType.atom atom.IntAcc))
+    if name == 5 then Some integer_variable
     else (if name == 6 then Some (both_of (PlainType.atom atom.Bool) (PlainType.atom atom.BoolAcc))
     else (if name == 7 then Some (both_of (PlainType.atom atom.Char) (PlainType.atom atom.CharAcc))
     else (if name == 8 then Some (sequence_of (PlainType.atom atom.Int))
     else (if name == 9 then Some (sequence_of (PlainType.atom atom.Bool))
     else (if name == 10 then Some (sequence_of (PlainType.atom atom.Char))
-    else None)))))
+    else (if name == 12 then Some variable_sequence
+    else None))))))

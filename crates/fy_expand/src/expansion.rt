@@ -2,6 +2,9 @@
 
 ghost use Rattle.std.specs.Prelude.{◌≡◌, ◌⊎◌, List, Ok, Err, IfOk, IfErr};
 ghost use Rattle.fy_base.specs.Outside.{Bytes};
+ghost use Rattle.fy_types.specs.Reading.{plain_type};
+ghost use Rattle.fy_types.specs.Types.{arrow, atom as of_atom};
+ghost use Rattle.fy_types.specs.declared.types.Atom.TheVariants.{Comm};
 ghost use Rattle.fy_lexer.specs.declared.token.Token.{Token};
 ghost use Rattle.fy_phrase.specs.CoreLimits.{KeepsCoreLimits};
 ghost use Rattle.fy_phrase.specs.PhraseNames.{HasFullTypes};
@@ -10,12 +13,13 @@ ghost use Rattle.fy_phrase.specs.Tree.{Tree};
 ghost use Rattle.fy_syntax.specs.Reading.{tree_of};
 ghost use Rattle.fy_syntax.specs.Spells.{IsProgram};
 ghost use Rattle.fy_expand.specs.declared.error.ExpandError.TheVariants.{OutOfMemory as NoMemory};
-ghost use Rattle.fy_expand.specs.Core.{in_prelude as in_prelude_of, provided};
+ghost use Rattle.fy_expand.specs.Core.{cell_maker as cell_maker_of, in_prelude as in_prelude_of, provided};
 ghost use Rattle.fy_expand.specs.Expansion.{core_of};
 ghost use Rattle.fy_expand.specs.Frames.{AreSized, scope_of};
 ghost use Rattle.fy_expand.specs.Judged.{HasTokens, IsAllowed, IsJudged, expansion_refused};
 ghost use Rattle.fy_expand.specs.Measures.{prelude_measure};
 ghost use Rattle.fy_expand.specs.Scope.{program_scope};
+ghost use Rattle.fy_expand.specs.Types.{variable_sequence};
 ghost use Rattle.fy_phrase.specs.WellMade.{HasDepths, IsClosed, IsWellMade};
 ghost use Rattle.fy_expand.specs.NamesOf.{HasNamesOf};
 
@@ -24,12 +28,14 @@ use crate::check::{check, place_of};
 use crate::error::ExpandError;
 use crate::frame::Frame;
 use crate::size::{Size, phrase_size};
+use crate::types::variable_sequence;
 use crate::visit::visits;
 use fy_base::{OutOfMemory, Place, PutKind};
 use fy_phrase::Phrase;
 use fy_syntax::Surface;
 use fy_types::{Atom, Name, Ty, TyList};
 use std::alloc::Global;
+use std::rc::Rc;
 
 const PUTINT: Name = 1;
 
@@ -39,10 +45,18 @@ const PUTBOOL: Name = 3;
 
 const READ: Name = 4;
 
+const NEWINTSEQ: Name = 11;
+
 // A procedure of the prelude: an abstraction of one type, over a command, over a variable.
 const PROCEDURE: Size = Size {
     nodes: 4,
     nesting: 3,
+};
+
+// What `newintseq` stands for: two abstractions, the second of a type of 10 nodes, over cells, over an application.
+const MAKER: Size = Size {
+    nodes: 18,
+    nesting: 5,
 };
 
 const MAX_NESTING: u64 = 512;
@@ -81,7 +95,8 @@ pub fn expand(alloc: Global, tree: &Surface) -> Result<Phrase, ExpandError>
     let putint = Frame::Name(PUTINT, &Frame::Outermost);
     let putchar = Frame::Name(PUTCHAR, &putint);
     let putbool = Frame::Name(PUTBOOL, &putchar);
-    within(alloc, tree, &Frame::Name(READ, &putbool))
+    let read = Frame::Name(READ, &putbool);
+    within(alloc, tree, &Frame::Name(NEWINTSEQ, &read))
 }
 
 // The core phrase of a program, whose names of phrases are those of the prelude.
@@ -113,16 +128,19 @@ fn within(alloc: Global, tree: &Surface, frame: &Frame) -> Result<Phrase, Expand
 fn prelude_size(program: Size) -> Size
     ensures { result ≡ prelude_measure program }
 {
-    PROCEDURE.over(PROCEDURE.over(PROCEDURE.over(PROCEDURE.over(program))))
+    PROCEDURE.over(PROCEDURE.over(PROCEDURE.over(PROCEDURE.over(MAKER.over(program)))))
 }
 
 // The program inside the prelude, each of whose nodes has that place.
 fn in_prelude(alloc: Global, program: Phrase, at: Place) -> Result<Phrase, OutOfMemory>
     ensures { IfOk result (λ p. reads p ≡ in_prelude_of at (reads program)) }
 {
+    let maker = Box::new(alloc, cell_maker(alloc, at)?)?;
+    let program = Box::new(alloc, program)?;
+    let within = Phrase::LetIn(4, maker, program, at);
     let variable = Box::new(alloc, Phrase::Var(0, at))?;
     let does = Phrase::Read(variable, at);
-    let within = provide(alloc, 3, Atom::IntAcc, does, program, at)?;
+    let within = provide(alloc, 3, Atom::IntAcc, does, within, at)?;
     let does = put(alloc, PutKind::Bool, at)?;
     let within = provide(alloc, 2, Atom::Bool, does, within, at)?;
     let does = put(alloc, PutKind::Char, at)?;
@@ -155,4 +173,30 @@ fn provide(
     let procedure = Box::new(alloc, Phrase::Lam(depth, types, does, at))?;
     let program = Box::new(alloc, program)?;
     Ok(Phrase::LetIn(depth, procedure, program, at))
+}
+
+// What `newintseq` stands for: a procedure of a sequence of new cells, as many as a number says.
+fn cell_maker(alloc: Global, at: Place) -> Result<Phrase, OutOfMemory>
+    ensures { IfOk result (λ p. reads p ≡ cell_maker_of at) }
+{
+    let procedure = Box::new(alloc, Phrase::Var(1, at))?;
+    let sequence = Box::new(alloc, Phrase::Var(0, at))?;
+    let body = Box::new(alloc, Phrase::App(procedure, sequence, at))?;
+    let count = Box::new(alloc, Phrase::Var(1, at))?;
+    let cells = Box::new(alloc, Phrase::Cells(6, count, body, at))?;
+    let mut procedures = TyList::new(alloc);
+    procedures.push(procedure_type(alloc)?)?;
+    let taken = Box::new(alloc, Phrase::Lam(5, procedures, cells, at))?;
+    let mut counts = TyList::new(alloc);
+    counts.push(Ty::Atom(Atom::Int))?;
+    Ok(Phrase::Lam(4, counts, taken, at))
+}
+
+// The type of a procedure of a sequence of variables.
+fn procedure_type(alloc: Global) -> Result<Ty, OutOfMemory>
+    ensures { IfOk result (λ made. plain_type made ≡ arrow variable_sequence (of_atom Comm)) }
+{
+    let sequence = Rc::new(alloc, variable_sequence(alloc)?)?;
+    let command = Rc::new(alloc, Ty::Atom(Atom::Comm))?;
+    Ok(Ty::Arrow(sequence, command))
 }

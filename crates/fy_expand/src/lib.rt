@@ -14,4 +14,5 @@ mod visit;
 pub use error::ExpandError;
 pub use expansion::expand;
 pub use laws::{judged_phrases_are_named, phrases_mean_the_same, texts_are_judged_one_way};
+pub use types::variable_sequence;
 pub use visit::visits;

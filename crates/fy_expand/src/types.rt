@@ -10,7 +10,7 @@ ghost use Rattle.fy_expand.specs.Core.{declared, meet_of};
 ghost use Rattle.fy_expand.specs.Faults.{all_unknown, type_fault, types_fault, unknown};
 ghost use Rattle.fy_expand.specs.Frames.{AreSized, scope_of, sizes_of, told};
 ghost use Rattle.fy_expand.specs.Measures.{type_measure, types_measure};
-ghost use Rattle.fy_expand.specs.Types.{fields, named_type, predefined, sequence_of, type_front, type_of, types_of};
+ghost use Rattle.fy_expand.specs.Types.{fields, integer_variable, named_type, predefined, sequence_of, type_front, type_of, types_of, variable_sequence};
 
 use crate::error::ExpandError;
 use crate::frame::Frame;
@@ -160,6 +160,10 @@ fn predefined_size(name: Name) -> Option<Size>
             nodes: 6,
             nesting: 3,
         }),
+        12 => Some(Size {
+            nodes: 8,
+            nesting: 4,
+        }),
         _ => None,
     }
 }
@@ -255,22 +259,37 @@ fn predefined_type(alloc: Global, name: Name) -> Result<Ty, OutOfMemory>
     ensures { IfOk result (λ made. plain_type made ≡ named_type (predefined name)) }
 {
     match name {
-        5 => both(alloc, Ty::Atom(Atom::Int), Ty::Atom(Atom::IntAcc)),
+        5 => integer_variable(alloc),
         6 => both(alloc, Ty::Atom(Atom::Bool), Ty::Atom(Atom::BoolAcc)),
         7 => both(alloc, Ty::Atom(Atom::Char), Ty::Atom(Atom::CharAcc)),
-        8 => sequence_type(alloc, Atom::Int),
-        9 => sequence_type(alloc, Atom::Bool),
-        10 => sequence_type(alloc, Atom::Char),
+        8 => sequence_type(alloc, Ty::Atom(Atom::Int)),
+        9 => sequence_type(alloc, Ty::Atom(Atom::Bool)),
+        10 => sequence_type(alloc, Ty::Atom(Atom::Char)),
+        12 => variable_sequence(alloc),
         _ => Ok(Ty::Ns),
     }
 }
 
+// `int & intacc`
+fn integer_variable(alloc: Global) -> Result<Ty, OutOfMemory>
+    ensures { IfOk result (λ made. plain_type made ≡ integer_variable) }
+{
+    both(alloc, Ty::Atom(Atom::Int), Ty::Atom(Atom::IntAcc))
+}
+
+/// `(int -> int & intacc) & (len : int)`, the type that `intvarseq` stands for.
+pub fn variable_sequence(alloc: Global) -> Result<Ty, OutOfMemory>
+    ensures { IfOk result (λ made. plain_type made ≡ variable_sequence) }
+{
+    sequence_type(alloc, integer_variable(alloc)?)
+}
+
 // `(int -> A) & (len : int)`
-fn sequence_type(alloc: Global, atom: Atom) -> Result<Ty, OutOfMemory>
-    ensures { IfOk result (λ made. plain_type made ≡ sequence_of (PlainType.atom atom)) }
+fn sequence_type(alloc: Global, part: Ty) -> Result<Ty, OutOfMemory>
+    ensures { IfOk result (λ made. plain_type made ≡ sequence_of (plain_type part)) }
 {
     let index = Rc::new(alloc, Ty::Atom(Atom::Int))?;
-    let item = Rc::new(alloc, Ty::Atom(atom))?;
+    let item = Rc::new(alloc, part)?;
     let length = Rc::new(alloc, Ty::Atom(Atom::Int))?;
     both(alloc, Ty::Arrow(index, item), Ty::Field(0, length))
 }

@@ -9,7 +9,7 @@ use Rattle.fy_types.specs.Bounds.{commons, join_of}
 use Rattle.fy_types.specs.Limits.{nodes, all_nodes}
 use Rattle.fy_types.proofs.OnceLemmas.{is_same-sound, is_same-refl}
 use Rattle.fy_phrase.specs.Tree.{Tree, Trees, no_trees, and_tree, var, lit, unary, binary, cond as conditional, case, lam, app, field, sel, merge, let_in, rec, skip, seq, assign, while_do, forever, new, cells, escape, accept, put, read, mark}
-use Rattle.fy_derive.specs.Atoms.{data_atom, acceptor_atom, cell_type, datum_atom, operand_atom, unary_atom, binary_atom, put_atom}
+use Rattle.fy_derive.specs.Atoms.{data_atom, acceptor_atom, cell_type, sequence_type, datum_atom, operand_atom, unary_atom, binary_atom, put_atom}
 use Rattle.fy_derive.specs.Kinds.{Kind, begins, kind_of}
 use Rattle.fy_derive.specs.Subsumption.{paths_below}
 use Rattle.fy_derive.specs.Least.{paths_at, if_passed, has, some_data, has_operands, has_assignment, command_of, one_end, alternatives_of, rests_of_call, rests_of_field, others, merge_of, least_type, join_of_all, join_behind}
@@ -254,7 +254,8 @@ mutual
   distinct-least (forever c at) G = distinct-passed (has (least_type G c) Comm) (distinct-end Compl)
   distinct-least (new d D e b at) G =
       distinct-passed (has (least_type G e) (data_atom D)) (distinct-command (least_type (paths (cell_type D) ∷ G) b))
-  distinct-least (cells d e b at) G = none_there
+  distinct-least (cells d e b at) G =
+      distinct-passed (has (least_type G e) Int) (distinct-command (least_type (paths sequence_type ∷ G) b))
   distinct-least (escape d b at) G = distinct-passed (has (least_type (one_end Compl ∷ G) b) Comm) (distinct-end Comm)
   distinct-least (accept d D b at) G = distinct-passed (has (least_type (one_end (data_atom D) ∷ G) b) Comm) (distinct-end (acceptor_atom D))
   distinct-least (put kind p at) G = distinct-passed (has (least_type G p) (put_atom kind)) (distinct-end Comm)

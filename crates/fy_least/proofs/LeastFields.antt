@@ -1,13 +1,14 @@
 -- The fields of a least type are those of its phrase and of the context; and parts of phrases whose derivations are written as texts.
 use Rattle.std.proofs.Common.{ℕ, suc, ◌+◌, ◌≤◌, List, ◌∷◌, Option, Some, None, arith}
 use Rattle.fy_base.specs.Outside.{Bytes}
+use Rattle.fy_types.specs.declared.types.Atom.TheVariants.{Int}
 use Rattle.fy_types.specs.Paths.{PlainPaths, paths}
 use Rattle.fy_types.specs.Bounds.{join_of}
 use Rattle.fy_types.specs.Fields.{IsNamed, AllFormFields}
 use Rattle.fy_phrase.specs.Tree.{Tree, Trees, no_trees, and_tree, var, lit, unary, binary, cond, case, lam, app, field, sel, merge, let_in, rec, skip, seq, assign, while_do, forever, new, cells, escape, accept, put, read, mark}
 use Rattle.fy_phrase.specs.CoreLimits.{visits_of}
 use Rattle.fy_phrase.specs.PhraseNames.{AllNames, AllNamesOf, HasFullTypes}
-use Rattle.fy_derive.specs.Atoms.{data_atom, cell_type}
+use Rattle.fy_derive.specs.Atoms.{data_atom, cell_type, sequence_type}
 use Rattle.fy_derive.specs.Kinds.{Kind, kind_of}
 use Rattle.fy_derive.specs.Least.{has, paths_at, command_of, alternatives_of, rests_of_call, others, merge_of, least_type, join_of_all, join_behind}
 use Rattle.fy_least.specs.Writable.{AllContextFields, IsWritable}
@@ -45,7 +46,8 @@ mutual
   least-fields P (new d D e b at) G g h =
       passed-fields P (has (least_type G e) (data_atom D)) (command_of (least_type (paths (cell_type D) ∷ G) b))
       (command-fields P (least_type (paths (cell_type D) ∷ G) b))
-  least-fields P (cells d e b at) G g h = tt
+  least-fields P (cells d e b at) G g h =
+      passed-fields P (has (least_type G e) Int) (command_of (least_type (paths sequence_type ∷ G) b)) (command-fields P (least_type (paths sequence_type ∷ G) b))
   least-fields P (escape d b at) G g h = passed-end P _ _
   least-fields P (accept d D b at) G g h = passed-end P _ _
   least-fields P (put kind p at) G g h = passed-end P _ _
@@ -74,3 +76,7 @@ both-writable names G G' p q around within named full low = (
   record { around = around; named = named.0; full = full.0; few = omega arith },
   record { around = within; named = named.1; full = full.1; few = omega arith },
 )
+
+-- the paths of a sequence's variable demand one field
+pub sequence-fields : (P : ℕ → Type 0) → P 0 → AllFormFields P (paths sequence_type)
+sequence-fields P named = (((tt, tt), tt), (((tt, tt), tt), ((named, tt), tt)))

@@ -12,9 +12,9 @@ use Rattle.fy_types.proofs.Laws.{append-greatest, picked-below, IsSubtype-paths}
 use Rattle.fy_types.proofs.OnceLemmas.{once-below}
 use Rattle.fy_types.proofs.BoundLemmas.{meet_of-left, meet_of-right, join_of-least}
 use Rattle.fy_phrase.specs.Tree.{Tree, Trees, no_trees, and_tree, var, lit, unary, binary, cond, case, lam, app, field, sel, merge, let_in, rec, skip, seq, assign, while_do, forever, new, cells, escape, accept, put, read, mark}
-use Rattle.fy_derive.specs.Atoms.{data_atom, acceptor_atom, cell_type, datum_atom, operand_atom, unary_atom, binary_atom, put_atom}
+use Rattle.fy_derive.specs.Atoms.{data_atom, acceptor_atom, cell_type, sequence_type, datum_atom, operand_atom, unary_atom, binary_atom, put_atom}
 use Rattle.fy_derive.specs.Kinds.{kind_of}
-use Rattle.fy_derive.specs.Typing.{HasType, by_ns, by_subsumption, by_meet, by_var, by_lit, by_unary, by_binary, by_cond, by_case, by_lam, by_app, by_field, by_sel, by_left, by_right, by_let, by_rec, by_skip, by_seq, by_assign, by_while, by_forever, by_new, by_escape, by_accept, by_put, by_read, HasEach, no_more, and_has, EachHasType, no_parts, and_part}
+use Rattle.fy_derive.specs.Typing.{HasType, by_ns, by_subsumption, by_meet, by_var, by_lit, by_unary, by_binary, by_cond, by_case, by_lam, by_app, by_field, by_sel, by_left, by_right, by_let, by_rec, by_skip, by_seq, by_assign, by_while, by_forever, by_new, by_cells, by_escape, by_accept, by_put, by_read, HasEach, no_more, and_has, EachHasType, no_parts, and_part}
 use Rattle.fy_derive.specs.Subsumption.{paths_below}
 use Rattle.fy_derive.specs.Least.{forms_of, paths_at, one_end, has, some_data, has_operands, has_assignment, alternatives_of, rests_of_call, others, merge_of, least_type, join_of_all, join_behind}
 use Rattle.fy_least.specs.Pairs.{AreContextsBelow, and_variable}
@@ -76,7 +76,11 @@ mutual
       (has-down (least_type G e) (least_type H e) (data_atom D) (least-mono e G H c))
       (command-mono (least_type (paths (cell_type D) ∷ G) b) (least_type (paths (cell_type D) ∷ H) b)
       (least-mono b (paths (cell_type D) ∷ G) (paths (cell_type D) ∷ H) (and_variable (ArePathsBelow-refl (paths (cell_type D))) c)))
-  least-mono (cells d e b at) G H c = none_left
+  least-mono (cells d e b at) G H c =
+      passed-mono (has (least_type G e) Int) (has (least_type H e) Int)
+      (has-down (least_type G e) (least_type H e) Int (least-mono e G H c))
+      (command-mono (least_type (paths sequence_type ∷ G) b) (least_type (paths sequence_type ∷ H) b)
+      (least-mono b (paths sequence_type ∷ G) (paths sequence_type ∷ H) (and_variable (ArePathsBelow-refl (paths sequence_type)) c)))
   least-mono (escape d b at) G H c =
       passed-mono (has (least_type (one_end Compl ∷ G) b) Comm) (has (least_type (one_end Compl ∷ H) b) Comm)
       (has-down (least_type (one_end Compl ∷ G) b) (least_type (one_end Compl ∷ H) b) Comm
@@ -166,6 +170,9 @@ mutual
   HasType-least (by_new {G = G} {D = D} {e = e} {b = b} {R = R} is t u) =
       passed-below (has (least_type (forms_of G) e) (data_atom D)) (below-has (HasType-least t))
       (command-below R (least_type (paths (cell_type D) ∷ forms_of G) b) is (HasType-least u))
+  HasType-least (by_cells {G = G} {e = e} {b = b} {R = R} is t u) =
+      passed-below (has (least_type (forms_of G) e) Int) (below-has (HasType-least t))
+      (command-below R (least_type (paths sequence_type ∷ forms_of G) b) is (HasType-least u))
   HasType-least (by_escape {G = G} {b = b} t) =
       passed-below (has (least_type (one_end Compl ∷ forms_of G) b) Comm) (below-has (HasType-least t)) (ArePathsBelow-refl (one_end Comm))
   HasType-least (by_accept {G = G} {D = D} {b = b} t) =

@@ -27,6 +27,7 @@ pub mod PrintableLemmas
 pub mod RefusedLemmas
 pub mod RuleFound
 pub mod ScopeLemmas
+pub mod SequenceLemmas
 pub mod ShapeLemmas
 pub mod VisitLemmas
 pub mod WrittenLemmas

@@ -10,7 +10,7 @@ use Rattle.fy_types.specs.Reading.{types_from}
 use Rattle.fy_types.proofs.Order.{ArePathsBelow-refl, ArePathsBelow-trans}
 use Rattle.fy_types.proofs.OnceLemmas.{both_true}
 use Rattle.fy_phrase.specs.declared.phrase.MarkKind.{MarkKind}
-use Rattle.fy_phrase.specs.Tree.{Tree, no_trees, case, lam, merge, let_in, cells, mark}
+use Rattle.fy_phrase.specs.Tree.{Tree, no_trees, case, lam, merge, let_in, mark}
 use Rattle.fy_phrase.specs.Sizes as sizes
 use Rattle.fy_derive.specs.Kinds.{Kind, kind_of, none_begins}
 use Rattle.fy_derive.specs.Derivations.{PlainDerivation, PlainDerivations, by_ns, sub, meets, alt, left, right, rule, no_derivations, and_derivation, count, nodes}
@@ -411,18 +411,6 @@ mark-pairs G a at d derived =
     inner-pairs G (mark a at) d derived
     (λ H I same low. record {
       rules = λ es n B j Ps f m k s pair. absurd cc;
-      alternatives = λ i x f c C j m k s pair. absurd cc;
-      lefts = λ x f c C j m k s pair. absurd cc;
-      rights = λ x f c C j m k s pair. absurd cc;
-    })
-
--- a sequence of cells, which has no rule
-pub cells-pairs : (G : List PlainPaths) (n : ℕ) (e b : Tree) (at : Place) (d : PlainDerivation) → ConcludesBelow G (cells n e b at) d →
-    HasPairsAbove G (cells n e b at) d
-cells-pairs G n e b at d derived =
-    inner-pairs G (cells n e b at) d derived
-    (λ H I same low. record {
-      rules = λ es k B j Ps f m l s pair. absurd cc;
       alternatives = λ i x f c C j m k s pair. absurd cc;
       lefts = λ x f c C j m k s pair. absurd cc;
       rights = λ x f c C j m k s pair. absurd cc;

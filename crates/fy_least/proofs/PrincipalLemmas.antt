@@ -15,9 +15,9 @@ use Rattle.fy_types.proofs.OnceLemmas.{both_true, below-once}
 use Rattle.fy_types.proofs.BoundLemmas.{join_of-left, join_of-right}
 use Rattle.fy_types.proofs.Central.{ArePathsBelow-types, paths-of_types, subtype-iff}
 use Rattle.fy_phrase.specs.Tree.{Tree, Trees, no_trees, and_tree, var, lit, unary, binary, cond, case, lam, app, field, sel, merge, let_in, rec, skip, seq, assign, while_do, forever, new, cells, escape, accept, put, read, mark}
-use Rattle.fy_derive.specs.Atoms.{data_atom, acceptor_atom, cell_type, datum_atom, operand_atom, unary_atom, takes, binary_atom, put_atom}
+use Rattle.fy_derive.specs.Atoms.{data_atom, acceptor_atom, cell_type, sequence_type, datum_atom, operand_atom, unary_atom, takes, binary_atom, put_atom}
 use Rattle.fy_derive.specs.Kinds.{Kind, kind_of, none_begins}
-use Rattle.fy_derive.specs.Typing.{HasType, by_ns, by_subsumption, by_meet, by_var, by_lit, by_unary, by_binary, by_cond, by_case, by_lam, by_app, by_field, by_sel, by_left, by_right, by_let, by_rec, by_skip, by_seq, by_assign, by_while, by_forever, by_new, by_escape, by_accept, by_put, by_read, no_more, EachHasType, no_parts, and_part}
+use Rattle.fy_derive.specs.Typing.{HasType, by_ns, by_subsumption, by_meet, by_var, by_lit, by_unary, by_binary, by_cond, by_case, by_lam, by_app, by_field, by_sel, by_left, by_right, by_let, by_rec, by_skip, by_seq, by_assign, by_while, by_forever, by_new, by_cells, by_escape, by_accept, by_put, by_read, no_more, EachHasType, no_parts, and_part}
 use Rattle.fy_derive.specs.Subsumption.{paths_below}
 use Rattle.fy_derive.specs.Least.{forms_of, paths_at, one_end, if_passed, has, some_data, has_operands, has_assignment, command_of, alternatives_of, rest_of_call, rests_of_call, rest_of_field, rests_of_field, others, merge_of, least_type, join_of_all, join_behind}
 use Rattle.fy_least.proofs.BelowLemmas.{has-below, test-below, more-below, at-cases, others-clear, others-above, data-cases, command-cases}
@@ -197,7 +197,13 @@ mutual
       (by_new is (has_atom e G (data_atom D) f (least-HasType e G))
       (has_type (cell_type D ∷ G) b (least_type (paths (cell_type D) ∷ forms_of G) b) (atom R) low (least-HasType b (cell_type D ∷ G)))))
       (has_none G (new d D e b at)))
-  least-HasType (cells d e b at) G = has_none G (cells d e b at)
+  least-HasType (cells d e b at) G =
+      has_passed G (cells d e b at) (has (least_type (forms_of G) e) Int) (command_of (least_type (paths sequence_type ∷ forms_of G) b))
+      (λ f. command-cases (λ X. HasType G (cells d e b at) (type_of_paths X)) (least_type (paths sequence_type ∷ forms_of G) b)
+      (λ R is low. has_one G (cells d e b at) R
+      (by_cells is (has_atom e G Int f (least-HasType e G))
+      (has_type (sequence_type ∷ G) b (least_type (paths sequence_type ∷ forms_of G) b) (atom R) low (least-HasType b (sequence_type ∷ G)))))
+      (has_none G (cells d e b at)))
   least-HasType (escape d b at) G =
       has_passed G (escape d b at) (has (least_type (one_end Compl ∷ forms_of G) b) Comm) (one_end Comm)
       (λ e. has_one G (escape d b at) Comm (by_escape (has_atom b (atom Compl ∷ G) Comm e (least-HasType b (atom Compl ∷ G)))))

@@ -7,11 +7,12 @@ use Rattle.fy_base.specs.declared.data.Datum.{Datum}
 use Rattle.fy_base.specs.declared.data.UnOp.{UnOp}
 use Rattle.fy_base.specs.declared.data.BinOp.{BinOp}
 use Rattle.fy_base.specs.declared.data.PutKind.{PutKind}
-use Rattle.fy_types.specs.declared.types.Atom.TheVariants.{Bool as Truth, Comm, Compl, IntAcc}
+use Rattle.fy_types.specs.declared.types.Atom.TheVariants.{Int, Bool as Truth, Comm, Compl, IntAcc}
 use Rattle.fy_types.specs.Types.{atom}
 use Rattle.fy_types.specs.Paths.{PlainPaths, no_paths, paths}
 use Rattle.fy_types.specs.PathOrder.{ArePathsBelow}
 use Rattle.fy_types.specs.Reading.{plain_paths}
+use Rattle.fy_types.specs.Fields.{IsNamed}
 use Rattle.fy_types.proofs.Order.{ArePathsBelow-refl}
 use Rattle.fy_types.proofs.OnceLemmas.{both_true}
 use Rattle.fy_phrase.specs.declared.phrase.DataTy.{DataTy}
@@ -20,7 +21,7 @@ use Rattle.fy_phrase.specs.declared.phrase.MarkKind.{MarkKind}
 use Rattle.fy_phrase.specs.Tree.{Tree, lit, unary, binary, seq, assign, while_do, forever, new, cells, escape, accept, put, read, skip, mark}
 use Rattle.fy_phrase.specs.Sizes.{nesting}
 use Rattle.fy_phrase.specs.Sizes as sizes
-use Rattle.fy_derive.specs.Atoms.{data_atom, acceptor_atom, cell_type, datum_atom, operand_atom, unary_atom, takes, binary_atom, put_atom, is_command}
+use Rattle.fy_derive.specs.Atoms.{data_atom, acceptor_atom, cell_type, sequence_type, datum_atom, operand_atom, unary_atom, takes, binary_atom, put_atom, is_command}
 use Rattle.fy_derive.specs.Derivations.{by_ns, rule, no_derivations, and_derivation, nodes}
 use Rattle.fy_derive.specs.Derivations as derivations
 use Rattle.fy_derive.specs.Rules.{nothing, given, is_atom, fits_operator, fits_assignment}
@@ -39,8 +40,8 @@ use Rattle.fy_least.specs.Writable.{IsWritable}
 use Rattle.fy_least.specs.Visited.{IsFound, IsMade, blame_at, has_atom, derivation_of, as_atom}
 use Rattle.fy_least.specs.Pairs.{HasPairsAbove}
 use Rattle.fy_least.proofs.LayerLemmas.{ns-layered, none-layered, two-layered}
-use Rattle.fy_least.proofs.LeastFields.{part-writable, both-writable}
-use Rattle.fy_least.proofs.PairLemmas.{no_premises, and_plain, and_given, provided-solid, command-solid, none-pairs, sub-pairs, rule-pairs, solid-pairs, mark-pairs, cells-pairs}
+use Rattle.fy_least.proofs.LeastFields.{part-writable, both-writable, sequence-fields}
+use Rattle.fy_least.proofs.PairLemmas.{no_premises, and_plain, and_given, provided-solid, command-solid, none-pairs, sub-pairs, rule-pairs, solid-pairs, mark-pairs}
 use Rattle.fy_least.proofs.PrintableLemmas.{none-printable, two-printable}
 use Rattle.fy_least.proofs.FoundLemmas.{none-found, two-found, atom-found, atoms-found, atoms-derived, none-derived}
 
@@ -64,12 +65,6 @@ pub mark-found : (G : List PlainPaths) (k : MarkKind) (at : Place) (f : Found) �
 mark-found G k at f made e =
     none-found G (mark k at) at f by_ns made refl refl refl (λ m. refl) e (none-derived G (mark k at) refl) refl refl (omega arith) refl ns-layered (λ names. tt)
     (mark-pairs G k at by_ns)
-
-pub cells-found : (G : List PlainPaths) (d : ℕ) (p q : Tree) (at : Place) (f : Found) → IsMade no_paths at 0 f → derivation_of f ≡ by_ns →
-    IsFound G (cells d p q at) f
-cells-found G d p q at f made e =
-    none-found G (cells d p q at) at f by_ns made refl refl refl (λ m. refl) e (none-derived G (cells d p q at) refl) refl refl (omega arith) refl ns-layered
-    (λ names. tt) (cells-pairs G d p q at by_ns)
 
 -- rules of one premise
 pub unary-found : (G : List PlainPaths) (op : UnOp) (p : Tree) (at : Place) (part f : Found) → IsFound G p part →
@@ -173,6 +168,20 @@ new-found G d D p q at f g r hf hg =
     (λ H. command-concludes (data_atom D) (end_of_command g) (command-is (has_atom g Compl)))
     (λ names text. both-writable names G (paths (cell_type D) ∷ G) p q text.around ((tt, (tt, tt)), text.around) text.named text.full text.few)
     (λ I Bs A. command-solid (data_atom D) (type_at Bs 0) (type_at Bs 1) A) (λ d e x y. and_plain x (and_given y no_premises))
+
+pub cells-found : (G : List PlainPaths) (d : ℕ) (p q : Tree) (at : Place) (f g r : Found) → IsFound G p f →
+    IsFound (paths sequence_type ∷ G) q g →
+    IsMade (if_passed (have_atoms f g Int (end_of_command g)) (one_end (end_of_command g))) (blame_at f (blame_at g at)) (f.total + g.total) r →
+    derivation_of r ≡ derived_if (have_atoms f g Int (end_of_command g)) (rule_of_both (as_atom Int f) (as_atom (end_of_command g) g)) →
+    IsFound G (cells d p q at) r
+cells-found G d p q at f g r hf hg =
+    atoms-found G (paths sequence_type ∷ G) p q (cells d p q at) (given sequence_type) Int (end_of_command g) (end_of_command g) at f g r
+    (λ m. m + 1 + sizes.nodes p) hf hg
+    (command-at (paths sequence_type ∷ G) q g (has (least_type G p) Int) hg) refl refl refl (λ m. refl) refl refl refl
+    (λ H A i. ap (λ X. paths sequence_type ∷ X) i)
+    (λ H. command-concludes Int (end_of_command g) (command-is (has_atom g Compl)))
+    (λ names text. both-writable names G (paths sequence_type ∷ G) p q text.around (sequence-fields (IsNamed names) text.named.0, text.around) (text.named.1, text.named.2) text.full text.few)
+    (λ I Bs A. command-solid Int (type_at Bs 0) (type_at Bs 1) A) (λ d e x y. and_plain x (and_given y no_premises))
 
 data-some : (t : DataTy → Bool) (D : DataTy) → t D ≡ true → some_data t ≡ true
 data-some t data_type.Int e = or_left _ _ e

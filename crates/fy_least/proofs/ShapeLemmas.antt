@@ -10,7 +10,7 @@ use Rattle.fy_types.specs.PathOrder.{IsEndBelow, same_end, compl_below, IsPathBe
 use Rattle.fy_types.proofs.Order.{ArePathsBelow-refl, ArePathsBelow-trans}
 use Rattle.fy_phrase.specs.Tree.{Tree, Trees, no_trees, and_tree, var, lit, unary, binary, cond, case, lam, app, field, sel, merge, let_in, rec, skip, seq, assign, while_do, forever, new, cells, escape, accept, put, read, mark}
 use Rattle.fy_phrase.specs.Sizes.{nodes}
-use Rattle.fy_derive.specs.Atoms.{data_atom, cell_type}
+use Rattle.fy_derive.specs.Atoms.{data_atom, cell_type, sequence_type}
 use Rattle.fy_derive.specs.Kinds.{Kind, kind_of}
 use Rattle.fy_derive.specs.Derivations.{PlainDerivation, PlainDerivations}
 use Rattle.fy_derive.specs.Rules.{Binder, nothing, first, given, Premise, of_parts, premises}
@@ -162,7 +162,7 @@ visits-premises (assign p q at) m G = two_parts (visits (m + 1) G p) (visits (m 
 visits-premises (while_do b c at) m G = two_parts (visits (m + 1) G b) (visits (m + 1 + nodes b) G c) _
 visits-premises (forever c at) m G = one_part c (m + 1) G _
 visits-premises (new d D e b at) m G = two_parts (visits (m + 1) G e) (visits (m + 1 + nodes e) (paths (cell_type D) ∷ G) b) _
-visits-premises (cells d e b at) m G = tt
+visits-premises (cells d e b at) m G = two_parts (visits (m + 1) G e) (visits (m + 1 + nodes e) (paths sequence_type ∷ G) b) _
 visits-premises (escape d b at) m G = one_part b (m + 1) (one_end Compl ∷ G) _
 visits-premises (accept d D b at) m G = one_part b (m + 1) (one_end (data_atom D) ∷ G) _
 visits-premises (put kind p at) m G = one_part p (m + 1) G _

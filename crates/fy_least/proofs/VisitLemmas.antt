@@ -7,7 +7,7 @@ use Rattle.fy_types.specs.Paths.{PlainPaths, paths}
 use Rattle.fy_phrase.specs.Tree.{Tree, Trees, no_trees, and_tree, var, lit, unary, binary, cond, case, lam, app, field, sel, merge, let_in, rec, skip, seq, assign, while_do, forever, new, cells, escape, accept, put, read, mark}
 use Rattle.fy_phrase.specs.Sizes.{nodes}
 use Rattle.fy_phrase.specs.CoreLimits.{types_count, visits_of, parts_visits}
-use Rattle.fy_derive.specs.Atoms.{data_atom, cell_type}
+use Rattle.fy_derive.specs.Atoms.{data_atom, cell_type, sequence_type}
 use Rattle.fy_derive.specs.Least.{one_end, least_type, Visit, visits, visits_under, visits_of_all}
 
 -- under each alternative there are at most as many
@@ -54,7 +54,8 @@ mutual
   visits-length (forever c at) m G = one-length (visits (m + 1) G c) (visits_of c) (visits-length c (m + 1) G)
   visits-length (new d D e b at) m G =
       both-length (visits (m + 1) G e) (visits (m + 1 + nodes e) (paths (cell_type D) ∷ G) b) (visits_of e) (visits_of b) (visits-length e (m + 1) G) (visits-length b (m + 1 + nodes e) (paths (cell_type D) ∷ G))
-  visits-length (cells d e b at) m G = omega arith
+  visits-length (cells d e b at) m G =
+      both-length (visits (m + 1) G e) (visits (m + 1 + nodes e) (paths sequence_type ∷ G) b) (visits_of e) (visits_of b) (visits-length e (m + 1) G) (visits-length b (m + 1 + nodes e) (paths sequence_type ∷ G))
   visits-length (escape d b at) m G = one-length (visits (m + 1) (one_end Compl ∷ G) b) (visits_of b) (visits-length b (m + 1) (one_end Compl ∷ G))
   visits-length (accept d D b at) m G = one-length (visits (m + 1) (one_end (data_atom D) ∷ G) b) (visits_of b) (visits-length b (m + 1) (one_end (data_atom D) ∷ G))
   visits-length (put kind p at) m G = one-length (visits (m + 1) G p) (visits_of p) (visits-length p (m + 1) G)

@@ -5,7 +5,7 @@ use Rattle.fy_types.specs.declared.types.Atom.TheVariants.{Compl}
 use Rattle.fy_types.specs.Types.{no_types, and_type}
 use Rattle.fy_types.specs.Paths.{PlainPaths, paths}
 use Rattle.fy_phrase.specs.Tree.{Tree, Trees, no_trees, and_tree, var, lit, unary, binary, cond, case, lam, app, field, sel, merge, let_in, rec, skip, seq, assign, while_do, forever, new, cells, escape, accept, put, read, mark}
-use Rattle.fy_derive.specs.Atoms.{data_atom, cell_type}
+use Rattle.fy_derive.specs.Atoms.{data_atom, cell_type, sequence_type}
 use Rattle.fy_derive.specs.Clear.{has_none}
 use Rattle.fy_derive.specs.Least.{one_end, least_type}
 
@@ -43,7 +43,9 @@ abbrev mutual
   blame_of G (new d D e b at) =
       if_empty (least_type G e) (blame_of G e)
       (if_empty (least_type (paths (cell_type D) ∷ G) b) (blame_of (paths (cell_type D) ∷ G) b) at)
-  blame_of G (cells d e b at) = at
+  blame_of G (cells d e b at) =
+      if_empty (least_type G e) (blame_of G e)
+      (if_empty (least_type (paths sequence_type ∷ G) b) (blame_of (paths sequence_type ∷ G) b) at)
   blame_of G (escape d b at) = if_empty (least_type (one_end Compl ∷ G) b) (blame_of (one_end Compl ∷ G) b) at
   blame_of G (accept d D b at) =
       if_empty (least_type (one_end (data_atom D) ∷ G) b) (blame_of (one_end (data_atom D) ∷ G) b) at

@@ -23,6 +23,7 @@ use crate::found::Found;
 use crate::many::{abstraction, case};
 use crate::rules::{assignment, axiom, binary, command, with_one, with_two};
 use crate::scope::{Scope, written_at};
+use crate::sequence::sequence_form;
 use fy_base::{BinOp, OutOfMemory, Place, PutKind, UnOp};
 use fy_derive::{
     acceptor_atom, data_atom, datum_atom, demand_of, operand_atom, put_atom, unary_atom,
@@ -94,6 +95,9 @@ pub(crate) fn found_in(
         Phrase::New(_, ty, first, body, at) => {
             found_in_cell(alloc, *ty, first, body, *at, &*scope, &mut *memo)
         }
+        Phrase::Cells(_, count, body, at) => {
+            found_in_cells(alloc, count, body, *at, &*scope, &mut *memo)
+        }
         Phrase::Escape(_, body, at) => found_in_escape(alloc, body, *at, &*scope, &mut *memo),
         Phrase::Accept(_, ty, body, at) => found_in_acceptor(
             alloc, *ty, body, *at, &*scope, &mut *memo,
@@ -103,7 +107,6 @@ pub(crate) fn found_in(
         ),
         Phrase::Read(part, at) => found_in_input(alloc, part, *at, &*scope, &mut *memo),
         Phrase::Mark(_, at) => Ok(Found::none(alloc, *at, 0)),
-        Phrase::Cells(_, _, _, at) => Ok(Found::none(alloc, *at, 0)),
     }
 }
 
@@ -428,6 +431,26 @@ fn found_in_cell(
     let bound = Bound::of_distinct(&cell);
     let body = found_in(alloc, body, &Scope::Under(&bound, &*scope), &mut *memo)?;
     command(alloc, (first, body), data_atom(ty), at)
+}
+
+#[cycle(least)]
+fn found_in_cells(
+    alloc: Global,
+    count: &Phrase,
+    body: &Phrase,
+    at: Place,
+    scope: &Scope<'_, '_>,
+    memo: &mut Memo,
+) -> Result<Found, LeastError>
+    ensures ok { (d : ℕ) → IfOk result (IsFound (scope_forms scope.now) (tree.cells d (reads count.now) (reads body.now) at)) }
+    ensures large { (d : ℕ) → IsErrOf result LeastError.TypeTooLarge →
+        (m : ℕ) → PassLimits (visits m (scope_forms scope.now) (tree.cells d (reads count.now) (reads body.now) at)) }
+{
+    let count = found_in(alloc, count, &*scope, &mut *memo)?;
+    let sequence = sequence_form(alloc)?;
+    let bound = Bound::of_distinct(&sequence);
+    let body = found_in(alloc, body, &Scope::Under(&bound, &*scope), &mut *memo)?;
+    command(alloc, (count, body), Atom::Int, at)
 }
 
 #[cycle(least)]

@@ -13,6 +13,7 @@ mod many;
 mod outer;
 mod rules;
 mod scope;
+mod sequence;
 mod written;
 
 pub use error::FindError;

@@ -6,7 +6,7 @@ use Rattle.fy_types.specs.declared.types.Atom.TheVariants.{Int, Bool as Truth, C
 use Rattle.fy_types.specs.Types.{PlainType, atom, arrow}
 use Rattle.fy_phrase.specs.Alike.{Alike}
 use Rattle.fy_phrase.specs.Tree.{Tree, var, put, read, lam, let_in}
-use Rattle.fy_expand.specs.Core.{in_prelude, one_type}
+use Rattle.fy_expand.specs.Core.{cell_maker, in_prelude, one_type}
 use Rattle.fy_expand.specs.Imports.{index_of, past_all, renumbered}
 use Rattle.fy_derive.specs.Derivations.{PlainDerivation, rule, no_derivations, and_derivation, nodes}
 use Rattle.fy_derive.specs.Judging.{judged, concludes, conclusion_of}
@@ -16,8 +16,8 @@ use Rattle.fy_derive.specs.Subsumption.{is_below}
 use Rattle.fy_derive.proofs.PlacedLemmas.{placed-concludes, plain-rule, others-outer}
 use Rattle.fy_derive.proofs.RuleLemmas.{same_type-true}
 use Rattle.fy_link.specs.Sources.{Named}
-use Rattle.fy_link.specs.Units.{PlainUnit, prelude_types}
-use Rattle.fy_link.specs.Composed.{type_named, wanted_at, wanted, placed_unit, units_derivation, provided_derivation, behind_provided, composed_derivation}
+use Rattle.fy_link.specs.Units.{PlainUnit, maker_type, prelude_types}
+use Rattle.fy_link.specs.Composed.{type_named, wanted_at, wanted, placed_unit, units_derivation, provided_derivation, behind_provided, maker_derivation, behind_maker, composed_derivation}
 
 abbrev pub names_of : List Named → List ℕ
 names_of xs = map (λ (x : Named). x.name) xs
@@ -136,14 +136,17 @@ composed-concludes u more q at t h =
     let p1 : Tree = lam 1 (one_type Char) (put kinds.Char (var 0 at) at) at in
     let p2 : Tree = lam 2 (one_type Truth) (put kinds.Bool (var 0 at) at) at in
     let p3 : Tree = lam 3 (one_type IntAcc) (read (var 0 at) at) at in
-    let q3 : Tree = let_in 3 p3 q at in
+    let p4 : Tree = cell_maker at in
+    let q4 : Tree = let_in 4 p4 q at in
+    let q3 : Tree = let_in 3 p3 q4 at in
     let q2 : Tree = let_in 2 p2 q3 at in
     let q1 : Tree = let_in 1 p1 q2 at in
     let T0 = arrow (atom Int) (atom Comm) in
     let T1 = arrow (atom Char) (atom Comm) in
     let T2 = arrow (atom Truth) (atom Comm) in
     let T3 = arrow (atom IntAcc) (atom Comm) in
-    let-judged provided_derivation (behind_provided (behind_provided (behind_provided d))) 0 [] 0 p0 q1 at T0 C (λ n. refl)
-    (λ n. let-judged provided_derivation (behind_provided (behind_provided d)) n (T0 ∷ []) 1 p1 q2 at T1 C (λ n. refl)
-    (λ n. let-judged provided_derivation (behind_provided d) n (T1 ∷ T0 ∷ []) 2 p2 q3 at T2 C (λ n. refl)
-    (λ n. let-judged provided_derivation d n (T2 ∷ T1 ∷ T0 ∷ []) 3 p3 q at T3 C (λ n. refl) by)))
+    let-judged provided_derivation (behind_provided (behind_provided (behind_provided (behind_maker d)))) 0 [] 0 p0 q1 at T0 C (λ n. refl)
+    (λ n. let-judged provided_derivation (behind_provided (behind_provided (behind_maker d))) n (T0 ∷ []) 1 p1 q2 at T1 C (λ n. refl)
+    (λ n. let-judged provided_derivation (behind_provided (behind_maker d)) n (T1 ∷ T0 ∷ []) 2 p2 q3 at T2 C (λ n. refl)
+    (λ n. let-judged provided_derivation (behind_maker d) n (T2 ∷ T1 ∷ T0 ∷ []) 3 p3 q4 at T3 C (λ n. refl)
+    (λ n. let-judged maker_derivation d n (T3 ∷ T2 ∷ T1 ∷ T0 ∷ []) 4 p4 q at maker_type C (λ n. refl) by))))

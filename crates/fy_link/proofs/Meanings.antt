@@ -171,7 +171,7 @@ let-limits : (d : ℕ) (p b : Tree) (at : Place) → KeepsCoreLimits (let_in d p
 let-limits d p b at h = record { shallow = omega (arith, h.shallow); small = omega (arith, h.small); few_visits = omega (arith, h.few_visits); written = omega (arith, h.written) }
 
 prelude-limits : (at : Place) (p : Tree) → KeepsCoreLimits (in_prelude at p) → KeepsCoreLimits p
-prelude-limits at p h = let-limits 3 _ p at (let-limits 2 _ _ at (let-limits 1 _ _ at (let-limits 0 _ _ at h)))
+prelude-limits at p h = let-limits 4 _ p at (let-limits 3 _ _ at (let-limits 2 _ _ at (let-limits 1 _ _ at (let-limits 0 _ _ at h))))
 
 around-limits : (at : Place) (xs : List Typed) (names : List ℕ) (t : written.Tree) →
     KeepsCoreLimits (core (scope_in names) (around at xs t)) → KeepsCoreLimits (core (scope_in (onto_names xs names)) t)

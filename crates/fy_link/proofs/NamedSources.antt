@@ -28,7 +28,7 @@ use Rattle.fy_expand.proofs.ExpansionLemmas.{core_of-names, core_of-full}
 use Rattle.fy_link.specs.Header.{PlainPiece, PlainHeader, is_sign, piece_from, piece_of, before_others, pieces_of, header_of, inside, pieces_in, abstraction_over, type_program, unit_program}
 use Rattle.fy_front.specs.Checked.{Means}
 use Rattle.fy_link.specs.Sources.{Named, PlainSource, Names, NameAll, IsSource, behind_definitions, below_abstractions, without_prelude, domain_of}
-use Rattle.fy_link.specs.Units.{context_of, prelude_types}
+use Rattle.fy_link.specs.Units.{context_of, maker_type, prelude_types}
 use Rattle.fy_link.proofs.Cuts.{header-cut}
 use Rattle.fy_link.proofs.KnownNames.{AllParts, parts-identifiers, take-identifiers}
 
@@ -196,12 +196,14 @@ all-reverse P (A ∷ As) h =
 abbrev procedure : Atom → PlainType
 procedure a = arrow (atom a) (atom Comm)
 
-prelude-nice : (names : List Bytes) → All (AllFields (IsNamed names)) prelude_types
-prelude-nice names =
+prelude-nice : (names : List Bytes) → IsNamed names 0 → All (AllFields (IsNamed names)) prelude_types
+prelude-nice names len =
     let P : PlainType → Type 0 = AllFields (IsNamed names) in
-    All-cons P (procedure Int) (procedure Char ∷ procedure Truth ∷ procedure IntAcc ∷ []) (tt, tt)
-    (All-cons P (procedure Char) (procedure Truth ∷ procedure IntAcc ∷ []) (tt, tt)
-    (All-cons P (procedure Truth) (procedure IntAcc ∷ []) (tt, tt) (All-cons P (procedure IntAcc) [] (tt, tt) (All-nil P))))
+    All-cons P (procedure Int) (procedure Char ∷ procedure Truth ∷ procedure IntAcc ∷ maker_type ∷ []) (tt, tt)
+    (All-cons P (procedure Char) (procedure Truth ∷ procedure IntAcc ∷ maker_type ∷ []) (tt, tt)
+    (All-cons P (procedure Truth) (procedure IntAcc ∷ maker_type ∷ []) (tt, tt)
+    (All-cons P (procedure IntAcc) (maker_type ∷ []) (tt, tt)
+    (All-cons P maker_type [] (tt, ((((tt, (tt, (tt, tt))), ((len, tt), tt)), tt), tt)) (All-nil P)))))
 
 -- `len` is one of the names
 pub len-named : (names : List Bytes) → AreNames names → IsNamed names 0
@@ -230,5 +232,5 @@ source-named names after source u identifiers first h =
       own_named = own.named;
       own_full = own.full;
       context = all-reverse (AllFields (IsNamed after)) (context_of u.imports)
-          (All-append (AllFields (IsNamed after)) prelude_types (map (λ (x : Named). x.type) u.imports) (prelude-nice after) imports);
+          (All-append (AllFields (IsNamed after)) prelude_types (map (λ (x : Named). x.type) u.imports) (prelude-nice after first) imports);
     }

@@ -44,16 +44,18 @@ pub pieces-end : (parts : List (Bor (List Token))) (i : ℕ) (xs : List PlainPie
 pieces-end parts i xs h = ap (in_front xs) (at_drop_all pieces_at parts i h) ∙ ap Some (append-nil xs)
 
 -- the prelude's names, tested one after another
-provided-by : {S : Type 0} (a b c d : Bool) (s t u v : S) →
-    (((a || b) || c) || d) ≡ not (is_none (if a then Some s else (if b then Some t else (if c then Some u else (if d then Some v else None)))))
-provided-by true b c d s t u v = refl
-provided-by false true c d s t u v = refl
-provided-by false false true d s t u v = refl
-provided-by false false false true s t u v = refl
-provided-by false false false false s t u v = refl
+provided-by : {S : Type 0} (a b c d e : Bool) (s t u v w : S) →
+    ((((a || b) || c) || d) || e)
+    ≡ not (is_none (if a then Some s else (if b then Some t else (if c then Some u else (if d then Some v else (if e then Some w else None))))))
+provided-by true b c d e s t u v w = refl
+provided-by false true c d e s t u v w = refl
+provided-by false false true d e s t u v w = refl
+provided-by false false false true e s t u v w = refl
+provided-by false false false false true s t u v w = refl
+provided-by false false false false false s t u v w = refl
 
-pub provided-tests : (n : ℕ) → ((((n == 4) || (n == 3)) || (n == 2)) || (n == 1)) ≡ is_provided n
-provided-tests n = provided-by (n == 4) (n == 3) (n == 2) (n == 1) _ _ _ _
+pub provided-tests : (n : ℕ) → (((((n == 11) || (n == 4)) || (n == 3)) || (n == 2)) || (n == 1)) ≡ is_provided n
+provided-tests n = provided-by (n == 11) (n == 4) (n == 3) (n == 2) (n == 1) _ _ _ _ _
 
 abbrev pub names_of : List Piece → List ℕ
 names_of xs = map (λ (x : Piece). x.name) xs

@@ -35,13 +35,22 @@ units_derivation earlier (u ∷ []) = placed_unit earlier u
 units_derivation earlier (u ∷ v ∷ more) =
     rule (and_derivation (placed_unit earlier u) (and_derivation (units_derivation (u.source.own ∷ earlier) (v ∷ more)) no_derivations))
 
--- a definition of the prelude: an abstraction over a command over a variable
+-- a definition of `putint`, `putchar`, `putbool` or `read`: an abstraction over a command over a variable
 abbrev pub provided_derivation : PlainDerivation
 provided_derivation = alt 0 (rule (and_derivation (rule no_derivations) no_derivations))
 
 abbrev pub behind_provided : PlainDerivation → PlainDerivation
 behind_provided d = rule (and_derivation provided_derivation (and_derivation d no_derivations))
 
--- behind the prelude's four definitions
+-- the definition of `newintseq`: two abstractions over the cells of a variable's number, over a variable applied to another
+abbrev pub maker_derivation : PlainDerivation
+maker_derivation =
+    alt 0 (alt 0 (rule (and_derivation (rule no_derivations)
+    (and_derivation (rule (and_derivation (rule no_derivations) (and_derivation (rule no_derivations) no_derivations))) no_derivations))))
+
+abbrev pub behind_maker : PlainDerivation → PlainDerivation
+behind_maker d = rule (and_derivation maker_derivation (and_derivation d no_derivations))
+
+-- behind the prelude's five definitions
 abbrev pub composed_derivation : List PlainUnit → PlainDerivation
-composed_derivation units = behind_provided (behind_provided (behind_provided (behind_provided (units_derivation [] units))))
+composed_derivation units = behind_provided (behind_provided (behind_provided (behind_provided (behind_maker (units_derivation [] units)))))

@@ -10,6 +10,7 @@ use Rattle.fy_derive.specs.Least.{forms_of, visits}
 use Rattle.fy_derive.specs.Limits.{KeepsLimits}
 use Rattle.fy_derive.specs.Reading.{plain_derivation}
 use Rattle.fy_expand.specs.Judged.{most_text}
+use Rattle.fy_expand.specs.Types.{variable_sequence}
 use Rattle.fy_least.specs.declared.error.FindError.{FindError}
 use Rattle.fy_least.specs.Finding.{IsFindingOf}
 use Rattle.fy_least.specs.Limits.{KeepTypeLimits}
@@ -19,9 +20,15 @@ use Rattle.fy_link.specs.declared.unit.Unit.{Unit as UnitValue}
 use Rattle.fy_link.specs.Read.{source_in}
 use Rattle.fy_link.specs.Sources.{Named, PlainSource, HasEquals, IsSource, IsSourceFault}
 
--- the types of the prelude's names, the outermost first: `putint`, `putchar`, `putbool` and `read`
+-- the type of `newintseq`: from a number and a procedure of a sequence of variables to commands
+abbrev pub maker_type : PlainType
+maker_type = arrow (atom Int) (arrow (arrow variable_sequence (atom Comm)) (atom Comm))
+
+-- the types of the prelude's names, the outermost first: `putint`, `putchar`, `putbool`, `read` and `newintseq`
 abbrev pub prelude_types : List PlainType
-prelude_types = arrow (atom Int) (atom Comm) ∷ arrow (atom Char) (atom Comm) ∷ arrow (atom Truth) (atom Comm) ∷ arrow (atom IntAcc) (atom Comm) ∷ []
+prelude_types =
+    arrow (atom Int) (atom Comm) ∷ arrow (atom Char) (atom Comm) ∷ arrow (atom Truth) (atom Comm) ∷ arrow (atom IntAcc) (atom Comm)
+    ∷ maker_type ∷ []
 
 -- the context of a unit, the outermost first: the types of the prelude and then of its imports
 abbrev pub context_of : List Named → List PlainType

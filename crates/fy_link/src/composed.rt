@@ -6,7 +6,7 @@ ghost use Rattle.fy_derive.specs.Placed.{all_placed, body_of, left_of, placed, r
 ghost use Rattle.fy_derive.specs.Derivations.{and_derivation, count, no_derivations, rule};
 ghost use Rattle.fy_derive.specs.Rules.{nothing, of_parts, premises};
 ghost use Rattle.fy_derive.specs.Reading.{plain_derivation, plain_derivations};
-ghost use Rattle.fy_link.specs.Composed.{behind_provided, composed_derivation, placed_unit, provided_derivation, units_derivation};
+ghost use Rattle.fy_link.specs.Composed.{behind_maker, behind_provided, composed_derivation, maker_derivation, placed_unit, provided_derivation, units_derivation};
 ghost use Rattle.fy_link.specs.Read.{owns_before, plain_named};
 ghost use Rattle.fy_link.specs.Placing.{behind_part, plain_optional, plain_premise, plain_premises, plain_wanted, premises_of, wanted_for};
 ghost use Rattle.fy_link.specs.Units.{plain_unit};
@@ -101,7 +101,6 @@ fn parts_of<'a>(alloc: Global, p: &'a Phrase) -> Result<Vec<Premise<'a>>, OutOfM
         | Phrase::Skip(_)
         | Phrase::Lam(..)
         | Phrase::Merge(..)
-        | Phrase::Cells(..)
         | Phrase::Mark(..) => Ok(Vec::new(alloc)),
         Phrase::Unary(_, p, _)
         | Phrase::Field(_, p, _)
@@ -116,9 +115,9 @@ fn parts_of<'a>(alloc: Global, p: &'a Phrase) -> Result<Vec<Premise<'a>>, OutOfM
         | Phrase::WhileDo(p, q, _) => Ok(Vec::from_array(alloc, [free(p), free(q)])?),
         Phrase::Cond(b, p, q, _) => Ok(Vec::from_array(alloc, [free(b), free(p), free(q)])?),
         Phrase::Case(e, parts, _) => case_parts(alloc, e, parts),
-        Phrase::LetIn(_, p, body, _) | Phrase::New(_, _, p, body, _) => {
-            Ok(Vec::from_array(alloc, [free(p), bound(body)])?)
-        }
+        Phrase::LetIn(_, p, body, _)
+        | Phrase::New(_, _, p, body, _)
+        | Phrase::Cells(_, p, body, _) => { Ok(Vec::from_array(alloc, [free(p), bound(body)])?) }
         Phrase::Rec(_, _, body, _) | Phrase::Escape(_, body, _) | Phrase::Accept(_, _, body, _) => {
             Ok(Vec::from_array(alloc, [bound(body)])?)
         }
@@ -376,7 +375,7 @@ fn rule(alloc: Global, first: Derivation, second: Derivation) -> Result<Derivati
     Ok(Derivation::Rule(premises))
 }
 
-// The derivation of a definition of the prelude.
+// The derivation of a definition of `putint`, `putchar`, `putbool` or `read`.
 fn provided(alloc: Global) -> Result<Derivation, OutOfMemory>
     ensures { IfOk result (λ made. plain_derivation made ≡ provided_derivation) }
 {
@@ -386,11 +385,36 @@ fn provided(alloc: Global) -> Result<Derivation, OutOfMemory>
     Ok(Derivation::Alt(0, command))
 }
 
-// A derivation inside a definition of the prelude.
+// A derivation inside such a definition.
 fn behind_provided(alloc: Global, d: Derivation) -> Result<Derivation, OutOfMemory>
     ensures { IfOk result (λ made. plain_derivation made ≡ behind_provided (plain_derivation d)) }
 {
     let definition = provided(alloc)?;
+    rule(alloc, definition, d)
+}
+
+// A variable's derivation.
+fn variable(alloc: Global) -> Derivation
+    ensures { plain_derivation result ≡ rule no_derivations }
+{
+    Derivation::Rule(DerivationList::new(alloc))
+}
+
+// The derivation of the definition of `newintseq`.
+fn maker(alloc: Global) -> Result<Derivation, OutOfMemory>
+    ensures { IfOk result (λ made. plain_derivation made ≡ maker_derivation) }
+{
+    let applied = rule(alloc, variable(alloc), variable(alloc))?;
+    let cells = Box::new(alloc, rule(alloc, variable(alloc), applied)?)?;
+    let taken = Box::new(alloc, Derivation::Alt(0, cells))?;
+    Ok(Derivation::Alt(0, taken))
+}
+
+// A derivation inside the definition of `newintseq`.
+fn behind_maker(alloc: Global, d: Derivation) -> Result<Derivation, OutOfMemory>
+    ensures { IfOk result (λ made. plain_derivation made ≡ behind_maker (plain_derivation d)) }
+{
+    let definition = maker(alloc)?;
     rule(alloc, definition, d)
 }
 
@@ -417,6 +441,7 @@ pub(crate) fn composed(alloc: Global, units: &[Unit]) -> Result<Derivation, OutO
     ensures { IfOk result (λ made. plain_derivation made ≡ composed_derivation (map plain_unit units.now)) }
 {
     let made = units_derivation(alloc, units)?;
+    let made = behind_maker(alloc, made)?;
     let made = behind_provided(alloc, made)?;
     let made = behind_provided(alloc, made)?;
     let made = behind_provided(alloc, made)?;

@@ -121,11 +121,11 @@ fn pieces_in<'a>(
     Ok(Some(pieces))
 }
 
-// Whether the name is one of the prelude's: `putint`, `putchar`, `putbool` or `read`.
+// Whether the name is one of the prelude's: `putint`, `putchar`, `putbool`, `read` or `newintseq`.
 fn is_provided(name: Name) -> bool
     ensures { result ≡ is_provided name }
 {
-    name == 4 || name == 3 || name == 2 || name == 1
+    name == 11 || name == 4 || name == 3 || name == 2 || name == 1
 }
 
 // Whether a piece has the name.

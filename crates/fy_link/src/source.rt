@@ -6,7 +6,7 @@ ghost use Rattle.fy_syntax.specs.Signs.{front};
 ghost use Rattle.fy_types.specs.declared.types.Atom.TheVariants.{Comm};
 ghost use Rattle.fy_types.specs.Reading.{plain_type, types_in};
 ghost use Rattle.fy_types.specs.Types.{arrow, atom as of_atom};
-ghost use Rattle.fy_link.specs.Units.{context_of};
+ghost use Rattle.fy_link.specs.Units.{context_of, maker_type};
 ghost use Rattle.fy_expand.specs.Judged.{most_text};
 ghost use Rattle.fy_front.specs.Checked.{IfRefused, IsMeaningless};
 ghost use Rattle.fy_lexer.specs.Tokens.{HasAdded};
@@ -18,6 +18,7 @@ ghost use Rattle.fy_link.specs.Sources.{AreInside, HasEquals, IsInside, IsSource
 use crate::header::{Header, Piece, header_in};
 use crate::written::{type_program, unit_program};
 use fy_base::{OutOfMemory, Place};
+use fy_expand::variable_sequence;
 use fy_front::{FrontError, Refusal, phrase_of_tokens};
 use fy_grammar::parse;
 use fy_lexer::{Token, lex};
@@ -27,7 +28,7 @@ use std::alloc::Global;
 use std::rc::Rc;
 
 // The prelude has that many names.
-const PROVIDED: u32 = 4;
+const PROVIDED: u32 = 5;
 
 /// A name with its type.
 #[derive(Debug, Drop)]
@@ -183,6 +184,19 @@ fn put_procedure(alloc: Global, context: &mut TyList, atom: Atom) -> Result<(), 
     context.push(Ty::Arrow(domain, command))
 }
 
+// Adds the type of `newintseq`.
+fn put_maker(alloc: Global, context: &mut TyList) -> Result<(), OutOfMemory>
+    ensures { OnOk result (map plain_type (types_in context.new) ≡ map plain_type (types_in context.old) ++ maker_type ∷ []) }
+{
+    let count = Rc::new(alloc, Ty::Atom(Atom::Int))?;
+    let sequence = Rc::new(alloc, variable_sequence(alloc)?)?;
+    let command = Rc::new(alloc, Ty::Atom(Atom::Comm))?;
+    let procedure = Rc::new(alloc, Ty::Arrow(sequence, command))?;
+    let command = Rc::new(alloc, Ty::Atom(Atom::Comm))?;
+    let rest = Rc::new(alloc, Ty::Arrow(procedure, command))?;
+    context.push(Ty::Arrow(count, rest))
+}
+
 /// The types of the prelude's names and then of the imports.
 pub(crate) fn context_of(alloc: Global, imports: &[Named]) -> Result<TyList, OutOfMemory>
     ensures { IfOk result (λ context. map plain_type (types_in context) ≡ context_of (map plain_named imports.now)) }
@@ -192,6 +206,7 @@ pub(crate) fn context_of(alloc: Global, imports: &[Named]) -> Result<TyList, Out
     put_procedure(alloc, &mut context, Atom::Char)?;
     put_procedure(alloc, &mut context, Atom::Bool)?;
     put_procedure(alloc, &mut context, Atom::IntAcc)?;
+    put_maker(alloc, &mut context)?;
     for import in imports {
         context.push(copy_ty(alloc, &import.ty)?)?;
     }

@@ -59,55 +59,56 @@ here = at_column 1
 one_type : Atom → PlainTypes
 one_type a = and_type (atom a) no_types
 
-abbrev in_prelude : Tree → Tree
-in_prelude p =
-    let_in 0 (lam 0 (one_type atoms.Int) (put kind.Int (var 0 here) here) here)
-    (let_in 1 (lam 1 (one_type atoms.Char) (put kind.Char (var 0 here) here) here)
-    (let_in 2 (lam 2 (one_type atoms.Bool) (put kind.Bool (var 0 here) here) here)
-    (let_in 3 (lam 3 (one_type atoms.IntAcc) (read (var 0 here) here) here) p here) here) here) here
-
-abbrev sum_program : Tree
-sum_program = in_prelude (app (var 3 here) (binary Add (lit (datum.Int (pos 1)) here) (lit (datum.Int (pos 2)) here) here) here)
-
-sum_program-goes_on : (copy_after sum_program [] 10).standing ≡ going
-unfolding after_more
-sum_program-goes_on = refl
-
-sum_program-ends : (copy_after sum_program [] 11).standing ≡ ended
-unfolding after_more
-sum_program-ends = refl
-
-sum_program-output : (copy_after sum_program [] 11).output ≡ decimal 3
-unfolding after_more
-sum_program-output = refl
-
-sum_program-peak : peak_load sum_program [] 11 ≡ 70
-unfolding after_more peak_load
-sum_program-peak = refl
-
-skip_program-ends : (copy_after (in_prelude (skip here)) [] 4).standing ≡ ended
-unfolding after_more
-skip_program-ends = refl
-
-skip_program-peak : peak_load (in_prelude (skip here)) [] 4 ≡ 38
-unfolding after_more peak_load
-skip_program-peak = refl
-
--- ---- sequences of cells, inside these definitions and that of what makes a sequence
-
 variable : PlainType
 variable = meet (and_type (atom atoms.Int) (and_type (atom atoms.IntAcc) no_types))
 
 cell_sequence : PlainType
 cell_sequence = meet (and_type (arrow (atom atoms.Int) variable) (and_type (field_type 0 (atom atoms.Int)) no_types))
 
-abbrev in_longer_prelude : Tree → Tree
-in_longer_prelude p =
-    in_prelude (let_in 4 (lam 4 (one_type atoms.Int) (lam 5 (and_type (arrow cell_sequence (atom atoms.Comm)) no_types) (cells 6 (var 1 here) (app (var 1 here) (var 0 here) here) here) here) here) p here)
+-- what a sequence is made by
+abbrev maker : Tree
+maker =
+    lam 4 (one_type atoms.Int) (lam 5 (and_type (arrow cell_sequence (atom atoms.Comm)) no_types) (cells 6 (var 1 here) (app (var 1 here) (var 0 here) here) here) here) here
+
+abbrev in_prelude : Tree → Tree
+in_prelude p =
+    let_in 0 (lam 0 (one_type atoms.Int) (put kind.Int (var 0 here) here) here)
+    (let_in 1 (lam 1 (one_type atoms.Char) (put kind.Char (var 0 here) here) here)
+    (let_in 2 (lam 2 (one_type atoms.Bool) (put kind.Bool (var 0 here) here) here)
+    (let_in 3 (lam 3 (one_type atoms.IntAcc) (read (var 0 here) here) here) (let_in 4 maker p here) here) here) here) here
+
+abbrev sum_program : Tree
+sum_program = in_prelude (app (var 4 here) (binary Add (lit (datum.Int (pos 1)) here) (lit (datum.Int (pos 2)) here) here) here)
+
+sum_program-goes_on : (copy_after sum_program [] 11).standing ≡ going
+unfolding after_more
+sum_program-goes_on = refl
+
+sum_program-ends : (copy_after sum_program [] 12).standing ≡ ended
+unfolding after_more
+sum_program-ends = refl
+
+sum_program-output : (copy_after sum_program [] 12).output ≡ decimal 3
+unfolding after_more
+sum_program-output = refl
+
+sum_program-peak : peak_load sum_program [] 12 ≡ 82
+unfolding after_more peak_load
+sum_program-peak = refl
+
+skip_program-ends : (copy_after (in_prelude (skip here)) [] 5).standing ≡ ended
+unfolding after_more
+skip_program-ends = refl
+
+skip_program-peak : peak_load (in_prelude (skip here)) [] 5 ≡ 50
+unfolding after_more peak_load
+skip_program-peak = refl
+
+-- ---- sequences of cells
 
 -- so many cells, and a command in which variable 0 is the sequence of them and variable 5 puts a number
 abbrev with_cells : Tree → Tree → Tree
-with_cells n p = in_longer_prelude (app (app (var 0 here) n here) (lam 5 (and_type cell_sequence no_types) p (at_column 14)) here)
+with_cells n p = in_prelude (app (app (var 0 here) n here) (lam 5 (and_type cell_sequence no_types) p (at_column 14)) here)
 
 abbrev number : ℕ → Tree
 number n = lit (datum.Int (pos n)) (at_column 30)

@@ -1,4 +1,5 @@
--- The names in a core phrase, of its fields, its selections and the types that it is written with; and the meets of these types.
+-- The names in a core phrase, of its fields, its selections, the types that it is written with and the types of its sequences; and the
+-- meets of the types that it is written with.
 use Rattle.std.specs.Prelude.{ℕ}
 use Rattle.fy_types.specs.Fields.{AllFields, AllFieldsOf, HasFullMeets, HaveFullMeets}
 use Rattle.fy_phrase.specs.Tree.{Tree, Trees, no_trees, and_tree, var, lit, unary, binary, cond, case, lam, app, field, sel, merge, let_in, rec, skip, seq, assign, while_do, forever, new, cells, escape, accept, put, read, mark}
@@ -25,7 +26,7 @@ abbrev mutual
   AllNames P (while_do b c at) = AllNames P b × AllNames P c
   AllNames P (forever c at) = AllNames P c
   AllNames P (new d D e b at) = AllNames P e × AllNames P b
-  AllNames P (cells d e b at) = AllNames P e × AllNames P b
+  AllNames P (cells d e b at) = P 0 × AllNames P e × AllNames P b
   AllNames P (escape d b at) = AllNames P b
   AllNames P (accept d D b at) = AllNames P b
   AllNames P (put kind p at) = AllNames P p

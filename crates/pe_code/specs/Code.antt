@@ -4,7 +4,6 @@ use Rattle.pe_code.specs.declared.code.PeInsn.{PeInsn}
 use Rattle.pe_code.specs.declared.code.PeInsn.TheVariants as insn
 use Rattle.pe_code.specs.declared.code.PeItem.{PeItem}
 use Rattle.pe_code.specs.declared.code.Entry.{Entry}
-use Rattle.pe_code.specs.declared.code.SequenceShapes.{SequenceShapes}
 use Rattle.pe_code.specs.declared.code.PeCode.{PeCode}
 
 -- the item at the address
@@ -103,7 +102,3 @@ node_of _ = None
 abbrev pub picked_from : PeInsn → List ℕ
 picked_from (insn.Case x ys) = ys
 picked_from _ = []
-
--- no sequence of cells is used at any shape
-abbrev pub no_sequences : SequenceShapes
-no_sequences = record { value = None; element = None; assigned_element = None; row_length = None }

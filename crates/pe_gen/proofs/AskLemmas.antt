@@ -5,7 +5,7 @@ use Rattle.fy_phrase.specs.declared.shapes.Pair.{Pair}
 use Rattle.fy_phrase.specs.declared.shapes.ShapeTable.{ShapeTable}
 use Rattle.fy_phrase.specs.Sizes.{nodes}
 use Rattle.fy_phrase.specs.Tree.{Tree, Trees, var, lit, unary, binary, cond, case, lam, app, field, sel, merge, let_in, rec, skip, seq, assign, while_do, forever, new, cells, escape, accept, put, read, mark, no_trees, and_tree}
-use Rattle.fy_derive.specs.Shapes.{PlainShape, IsClosed, PassesEach, to_this, to_later, Passes, of_app, of_sel, of_lam, of_definition, of_let, of_rec, of_test, of_then, of_else, of_index, of_parts, of_unary, of_operand, of_operand_behind, of_put, of_target, of_value, of_read, of_first, of_second, of_forever, of_escape, of_accept, of_while_test, of_while_body, of_new_value, of_new_body}
+use Rattle.fy_derive.specs.Shapes.{PlainShape, IsClosed, PassesEach, to_this, to_later, Passes, of_app, of_sel, of_lam, of_definition, of_let, of_rec, of_test, of_then, of_else, of_index, of_parts, of_unary, of_operand, of_operand_behind, of_put, of_target, of_value, of_read, of_first, of_second, of_forever, of_escape, of_accept, of_while_test, of_while_body, of_new_value, of_new_body, of_cells_count, of_cells_body}
 use Rattle.fy_derive.specs.ShapeTables.{shape_at, HasPairOf}
 use Rattle.pe_gen.specs.declared.plan.Plan.{Plan}
 use Rattle.pe_gen.specs.Plan.{nodes_in, IsDue, AreDue, AsksParts}
@@ -95,9 +95,12 @@ module _ (plan : Plan) (p : Tree) (made : nodes_in plan ≡ preorder 0 p) (close
     due d k d (k + 1) _ e s _ node has (first-part ((d + 1, b) ∷ []) node refl) of_new_value,
     due d k (d + 1) (k + 1 + nodes e) _ b s _ node has (second-part [] node refl) of_new_body,
   )
+  asks d k (cells n e b at) s node has fits = (
+    due d k d (k + 1) _ e s _ node has (first-part ((d + 1, b) ∷ []) node refl) of_cells_count,
+    due d k (d + 1) (k + 1 + nodes e) _ b s _ node has (second-part [] node refl) of_cells_body,
+  )
   asks d k (escape n b at) s node has fits = due d k (d + 1) (k + 1) _ b s _ node has (first-part [] node refl) of_escape
   asks d k (accept n D b at) s node has fits = due d k (d + 1) (k + 1) _ b s _ node has (first-part [] node refl) of_accept
   asks d k (put kind q at) s node has fits = due d k d (k + 1) _ q s _ node has (first-part [] node refl) of_put
   asks d k (read q at) s node has fits = due d k d (k + 1) _ q s _ node has (first-part [] node refl) of_read
-  asks d k (cells n e b at) s node has fits = fits
   asks d k (mark m at) s node has fits = fits

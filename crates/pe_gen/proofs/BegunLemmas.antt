@@ -14,14 +14,14 @@ use Rattle.fy_derive.specs.Shapes.{at_end, a_run, an_assignment, IsClosed}
 use Rattle.fy_derive.specs.ShapeTables.{shape_at, HasPairOf, IsShapeTable}
 use Rattle.pe_code.specs.declared.code.PeCode.{PeCode}
 use Rattle.pe_code.specs.declared.code.PeItem.{PeItem}
-use Rattle.pe_code.specs.Code.{address_in, no_sequences}
+use Rattle.pe_code.specs.Code.{address_in}
 use Rattle.pe_gen.specs.declared.plan.Plan.{Plan}
 use Rattle.pe_gen.specs.declared.steps.ShapeStep.{ShapeStep}
 use Rattle.pe_gen.specs.declared.steps.ShapeStep.TheVariants.{End}
 use Rattle.pe_gen.specs.Plan.{nodes_in, IsPlan, IsSite, IsItemIn}
 use Rattle.pe_gen.specs.Preorder.{preorder, thunks_from}
 use Rattle.pe_right.specs.Constants.{no_data}
-use Rattle.pe_right.specs.Right.{IsItemOf}
+use Rattle.pe_right.specs.Right.{IsItemOf, AreSequencesOf}
 use Rattle.pe_gen.specs.Sites.{is_merge, pair, Stands, IsPlain, AreWithin, AreSites, LandAmong, ArePassed, AreEntries}
 use Rattle.pe_gen.specs.Steps.{AreSteps}
 use Rattle.pe_right.specs.Typed.{IsTableOf}
@@ -145,7 +145,7 @@ module _ (p : Tree) (table : ShapeTable) (ns : List (ℕ × Tree)) (steps : List
         ((i : ℕ) (x : Pair) (item : PeItem) → slice_get sites i ≡ Some x → slice_get code.items i ≡ Some item → IsItemIn plan x item) →
         code.shapes ≡ length table.shapes →
         MatchOption code.assignment ((n : ℕ) → slice_get steps n ≢ Some (End ending.Assign)) (λ n. slice_get steps n ≡ Some (End ending.Assign)) →
-        code.sequences ≡ no_sequences → code.thunks ≡ thunks_from 0 ns → IsMade p table code
+        AreSequencesOf table code.sequences → code.thunks ≡ thunks_from 0 ns → IsMade p table code
     code-made code is_entries at_zero run every items shapes assignment sequences thunks = record {
       closed = closed;
       sound = b.its.pairs.sound;

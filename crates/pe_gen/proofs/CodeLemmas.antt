@@ -10,10 +10,10 @@ use Rattle.fy_derive.specs.Shapes.{PlainShape, at_end, a_run, an_assignment, sha
 use Rattle.fy_derive.specs.ShapeTables.{plain_shape, shape_at, HasPairOf, IsShapeTable}
 use Rattle.pe_code.specs.declared.code.PeCode.{PeCode}
 use Rattle.pe_code.specs.declared.code.PeItem.{PeItem}
-use Rattle.pe_code.specs.Code.{item_at, entry_of, no_sequences}
+use Rattle.pe_code.specs.Code.{item_at, entry_of}
 use Rattle.pe_gen.specs.Preorder.{preorder}
 use Rattle.pe_right.specs.Constants.{no_data}
-use Rattle.pe_right.specs.Right.{IsNodeUnder, itself, thunk_nodes, Enters, IsItemOf, IsRightAt, IsCodeOf}
+use Rattle.pe_right.specs.Right.{IsNodeUnder, itself, thunk_nodes, Enters, IsItemOf, IsRightAt, AreSequencesOf, IsCodeOf}
 use Rattle.pe_gen.specs.Layout.{IsOwn, IsLaidOut}
 use Rattle.pe_gen.specs.Sites.{is_merge, taken_by, landing, pair, Stands, AreSites, AreEntries}
 use Rattle.pe_gen.proofs.EntryLists.{pair_same, address-of, address-from}
@@ -44,7 +44,7 @@ pub record IsMade (p : Tree) (table : ShapeTable) (code : PeCode) : Type 0 where
       IsItemOf no_data table code d x.node q s item
   pub shapes : code.shapes ≡ length table.shapes
   pub assignment : (n : ℕ) → (code.assignment ≡ Some n) ↔ (shape_at table n ≡ Some (at_end an_assignment))
-  pub sequences : code.sequences ≡ no_sequences
+  pub sequences : AreSequencesOf table code.sequences
   pub thunks : code.thunks ≡ thunk_nodes 0 p
 
 module _ (p : Tree) (table : ShapeTable) (code : PeCode) (made : IsMade p table code) where

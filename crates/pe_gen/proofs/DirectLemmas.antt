@@ -1,5 +1,5 @@
 -- Right code stays right where constants are handed as data.
-use Rattle.std.proofs.Common.{ℕ, ◌+◌, ◌≡◌, List, [], ◌∷◌, Option, Some, None, refl, sym, ap, ◌∙◌, inl, inr}
+use Rattle.std.proofs.Common.{ℕ, ◌+◌, ◌≡◌, List, [], ◌∷◌, Option, Some, None, refl, sym, ap, ◌∙◌, subst, inl, inr}
 use Rattle.fy_base.specs.declared.data.Datum.{Datum}
 use Rattle.fy_phrase.specs.declared.shapes.ShapeTable.{ShapeTable}
 use Rattle.fy_phrase.specs.Sizes.{nodes}
@@ -13,7 +13,7 @@ use Rattle.pe_code.specs.Code.{item_at, address_in}
 use Rattle.pe_right.specs.Constants.{constant, no_data}
 use Rattle.pe_right.specs.Ahead.{KeepsAhead}
 use Rattle.pe_right.specs.Follows.{FollowsCopyRule}
-use Rattle.pe_right.specs.Right.{IsNodeUnder, Enters, EachEnters, no_parts, and_part, IsInsnOf, IsItemOf, IsRightAt, IsCodeOf, of_app, of_app_datum, of_let, of_let_datum, of_var, of_lit, of_unary, of_binary, of_cond, of_case, of_lam, of_app_variable, of_field, of_sel, of_let_variable, of_rec, of_skip, of_seq, of_assign, of_while, of_forever, of_new, of_escape, of_accept, of_put, of_read}
+use Rattle.pe_right.specs.Right.{IsNodeUnder, Enters, EachEnters, no_parts, and_part, IsInsnOf, IsItemOf, IsRightAt, AreSequencesOf, IsCodeOf, of_app, of_app_datum, of_let, of_let_datum, of_var, of_lit, of_unary, of_binary, of_cond, of_case, of_lam, of_app_variable, of_field, of_sel, of_let_variable, of_rec, of_skip, of_seq, of_assign, of_while, of_forever, of_new, of_cells, of_escape, of_accept, of_put, of_read}
 use Rattle.pe_right.specs.Direct.{IsConstantAt, IsHanded, passed, bound, same, IsDirectOf}
 use Rattle.pe_gen.specs.Generated.{IsGenerated}
 use Rattle.pe_right.proofs.AheadLemmas.{keeps-ahead}
@@ -73,6 +73,7 @@ module _ (p : Tree) (table : ShapeTable) (code made : PeCode) (direct : IsDirect
   kept-insn d k q s i j node (of_while {b = b} e f) (same none) = of_while (enters (k + 1) e) (enters (k + 1 + nodes b) f)
   kept-insn d k q s i j node (of_forever e) (same none) = of_forever (enters (k + 1) e)
   kept-insn d k q s i j node (of_new {e = a} e f) (same none) = of_new (enters (k + 1) e) (enters (k + 1 + nodes a) f)
+  kept-insn d k q s i j node (of_cells {e = a} e f) (same none) = of_cells (enters (k + 1) e) (enters (k + 1 + nodes a) f)
   kept-insn d k q s i j node (of_escape e) (same none) = of_escape (enters (k + 1) e)
   kept-insn d k q s i j node (of_accept e) (same none) = of_accept (enters (k + 1) e)
   kept-insn d k q s i j node (of_put e) (same none) = of_put (enters (k + 1) e)
@@ -101,7 +102,7 @@ module _ (p : Tree) (table : ShapeTable) (code made : PeCode) (direct : IsDirect
     right = λ d k a q s node e. kept-right q d k a s node (right.right d k a q s node (leaves k e));
     shapes = direct.shapes ∙ right.shapes;
     assignment = λ n. let r = right.assignment n in (λ h. r.0 (sym direct.assignment ∙ h), λ h. direct.assignment ∙ r.1 h);
-    sequences = direct.sequences ∙ right.sequences;
+    sequences = subst (λ shapes. AreSequencesOf table shapes) (sym direct.sequences) right.sequences;
     thunks = direct.thunks ∙ right.thunks;
   }
 

@@ -2,7 +2,7 @@
 use Rattle.std.proofs.Common.{ℕ, ◌+◌, ◌≡◌, List, [], ◌∷◌, Option, option_map, Some, None, IfSome, refl, sym, ap, subst}
 use Rattle.fy_types.specs.Types.{PlainType, field as field_type}
 use Rattle.fy_types.specs.Paths.{PlainPath, paths}
-use Rattle.fy_phrase.specs.Tree.{Tree, Trees, no_trees, and_tree, case, lam, field, merge, cells, mark}
+use Rattle.fy_phrase.specs.Tree.{Tree, Trees, no_trees, and_tree, case, lam, field, merge, mark}
 use Rattle.fy_derive.specs.Kinds.{Kind, kind_of}
 use Rattle.fy_derive.specs.Tables.{type_at}
 use Rattle.fy_derive.specs.Derivations.{PlainDerivation, PlainDerivations, alt, rule}
@@ -16,7 +16,6 @@ use Rattle.pe_shapes.proofs.RuleBelow.{erase-below, path-called, path-picked, Is
 abbrev pub Fits : Tree → PlainShape → Type 0
 Fits (lam d As b at) s = (t : PlainShape) × (s ≡ a_call t)
 Fits (field i p at) s = (t : PlainShape) × (s ≡ a_field i t)
-Fits (cells d e b at) s = ⊥
 Fits (mark m at) s = ⊥
 Fits p s = Unit {0}
 
@@ -49,7 +48,6 @@ rule-fits ds G p A P e among = let x = rule-inner ds G p A e in by p x.0 x.2 x.1
     by : (p : Tree) (Ps : List Premise) → premises p ≡ Some Ps → (Bs : List PlainType) → conclusion G p Bs ≡ Some A → Fits p (erase P)
     by (lam n As b at) Ps f Bs g = absurd cc
     by (field i b at) Ps f Bs g = defined i (type_at Bs 0) g
-    by (cells n e b at) Ps f Bs g = absurd cc
     by (mark m at) Ps f Bs g = absurd cc
     by p Ps f Bs g = tt
 
@@ -104,7 +102,6 @@ premises-parts : (p : Tree) → IfSome (premises p) (λ Ps. parts_of p ≡ subje
 premises-parts (case e parts at) = ap (λ qs. e ∷ qs) (subjects-parts parts)
 premises-parts (lam d As b at) = tt
 premises-parts (merge p q at) = tt
-premises-parts (cells d e b at) = tt
 premises-parts (mark m at) = tt
 premises-parts p = refl
 

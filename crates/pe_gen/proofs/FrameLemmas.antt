@@ -10,7 +10,7 @@ use Rattle.pe_code.specs.declared.code.PeCode.{PeCode}
 use Rattle.pe_code.specs.declared.code.PeInsn.{PeInsn}
 use Rattle.pe_code.specs.Code.{body_of}
 use Rattle.pe_right.specs.Constants.{no_data}
-use Rattle.pe_right.specs.Right.{with_depth, parts_under, IsNodeUnder, itself, in_part, IsNodeAmongUnder, in_first, in_later, IsInsnOf, of_var, of_lit, of_unary, of_binary, of_cond, of_case, of_lam, of_app, of_app_variable, of_app_datum, of_field, of_sel, of_let, of_let_variable, of_let_datum, of_rec, of_skip, of_seq, of_assign, of_while, of_forever, of_new, of_escape, of_accept, of_put, of_read}
+use Rattle.pe_right.specs.Right.{with_depth, parts_under, IsNodeUnder, itself, in_part, IsNodeAmongUnder, in_first, in_later, IsInsnOf, of_var, of_lit, of_unary, of_binary, of_cond, of_case, of_lam, of_app, of_app_variable, of_app_datum, of_field, of_sel, of_let, of_let_variable, of_let_datum, of_rec, of_skip, of_seq, of_assign, of_while, of_forever, of_new, of_cells, of_escape, of_accept, of_put, of_read}
 use Rattle.pe_gen.specs.Sizes.{HasSizesOf}
 use Rattle.pe_gen.proofs.CodeLemmas.{IsMade, site-of}
 use Rattle.pe_gen.proofs.ScopeLemmas.{node-scoped}
@@ -89,6 +89,7 @@ module _ (table : ShapeTable) (code : PeCode) where
   frame-depth d k q s o h (of_while ex ey) = λ x e. absurd cc
   frame-depth d k q s o h (of_forever ex) = λ x e. absurd cc
   frame-depth d k q s o h (of_new ex ey) = λ body e. let at = h.0 in omega arith
+  frame-depth d k q s o h (of_cells ex ey) = λ body e. let at = h.0 in omega arith
   frame-depth d k q s o h (of_escape ex) = λ body e. let at = h.0 in omega arith
   frame-depth d k q s o h (of_accept ex) = λ body e. let at = h.0 in omega arith
   frame-depth d k q s o h (of_put ex) = λ x e. absurd cc

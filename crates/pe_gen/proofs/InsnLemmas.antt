@@ -14,7 +14,7 @@ use Rattle.fy_phrase.specs.declared.phrase.Phrase.TheOpen.{Phrase-F}
 use Rattle.fy_phrase.specs.declared.phrase.Phrase.TheVariants.{rolls-Lit, rolls-Skip, rolls-Mark}
 use Rattle.fy_phrase.specs.Reads.{reads, reads_form, reads_list}
 use Rattle.fy_phrase.specs.Sizes.{nodes}
-use Rattle.fy_phrase.specs.Tree.{Tree, Trees, no_trees, and_tree, var, lit, unary, binary, cond, case, lam, app, field, sel, let_in, rec, skip, seq, assign, while_do, forever, new, escape, accept, put, read, mark}
+use Rattle.fy_phrase.specs.Tree.{Tree, Trees, no_trees, and_tree, var, lit, unary, binary, cond, case, lam, app, field, sel, let_in, rec, skip, seq, assign, while_do, forever, new, cells, escape, accept, put, read, mark}
 use Rattle.fy_derive.specs.Shapes.{PlainShape, at_end, a_call, a_field, a_value, an_assignment, a_run}
 use Rattle.fy_derive.specs.ShapeTables.{shape_at}
 use Rattle.pe_code.specs.declared.code.PeCode.{PeCode}
@@ -23,7 +23,7 @@ use Rattle.pe_code.specs.declared.code.PeInsn.TheVariants as insn
 use Rattle.pe_code.specs.Code.{address_in}
 use Rattle.pe_gen.specs.declared.plan.Plan.{Plan}
 use Rattle.pe_gen.specs.Plan.{IsEntered, AsksParts, IsInsnIn, EachEntersIn}
-use Rattle.pe_right.specs.Right.{is_variable, Enters, no_parts, and_part, of_var, of_lit, of_unary, of_binary, of_cond, of_case, of_lam, of_app, of_app_variable, of_field, of_sel, of_let, of_let_variable, of_rec, of_skip, of_seq, of_assign, of_while, of_forever, of_new, of_escape, of_accept, of_put, of_read}
+use Rattle.pe_right.specs.Right.{is_variable, Enters, no_parts, and_part, of_var, of_lit, of_unary, of_binary, of_cond, of_case, of_lam, of_app, of_app_variable, of_field, of_sel, of_let, of_let_variable, of_rec, of_skip, of_seq, of_assign, of_while, of_forever, of_new, of_cells, of_escape, of_accept, of_put, of_read}
 
 module _ (plan : Plan) (k : ℕ) where
   -- in the plan, node j is entered at the shape at the address
@@ -108,6 +108,10 @@ module _ (plan : Plan) (k : ℕ) where
   pub new-insn : (d : ℕ) (D : DataTy) (e b : Tree) (at : Place) (s : PlainShape) (j x y : ℕ) → j ≡ k + 1 + nodes e → In (k + 1) (at_end a_value) x → In j (at_end a_run) y →
       IsInsnIn plan k (new d D e b at) s (insn.New x y)
   new-insn d D p q at s j x y e a b = λ code same. of_new (enters (k + 1) (k + 1) (at_end a_value) x refl a code same) (enters j _ (at_end a_run) y e b code same)
+
+  pub cells-insn : (d : ℕ) (e b : Tree) (at : Place) (s : PlainShape) (j x y : ℕ) → j ≡ k + 1 + nodes e → In (k + 1) (at_end a_value) x → In j (at_end a_run) y →
+      IsInsnIn plan k (cells d e b at) s (insn.Cells x y)
+  cells-insn d p q at s j x y e a b = λ code same. of_cells (enters (k + 1) (k + 1) (at_end a_value) x refl a code same) (enters j _ (at_end a_run) y e b code same)
 
   pub escape-insn : (d : ℕ) (b : Tree) (at : Place) (s : PlainShape) (x : ℕ) → In (k + 1) (at_end a_run) x → IsInsnIn plan k (escape d b at) s (insn.Escape x)
   escape-insn d b at s x a = λ code same. of_escape (enters (k + 1) (k + 1) (at_end a_run) x refl a code same)

@@ -9,7 +9,7 @@ use Rattle.fy_phrase.specs.declared.shapes.ShapeTable.{ShapeTable}
 use Rattle.fy_phrase.specs.Sizes.{nodes}
 use Rattle.fy_phrase.specs.Tree.{Tree, Trees, var, field, merge}
 use Rattle.fy_derive.specs.Kinds.{Kind, kind_of}
-use Rattle.fy_derive.specs.Shapes.{PlainShape, a_field, shape_begins}
+use Rattle.fy_derive.specs.Shapes.{PlainShape, at_end, a_call, a_field, a_value, an_assignment, shape_begins}
 use Rattle.fy_derive.specs.ShapeTables.{shape_at}
 use Rattle.pe_code.specs.declared.code.Entry.{Entry}
 use Rattle.pe_code.specs.declared.code.PeCode.{PeCode}
@@ -21,7 +21,7 @@ use Rattle.pe_code.specs.Code.{item_at, address_in, entry_of}
 use Rattle.pe_code.specs.Entries.{is_before, AreInOrder}
 use Rattle.pe_code.specs.Valid.{AreOnce}
 use Rattle.pe_code.proofs.EntryLemmas.{order-head, order-tail}
-use Rattle.pe_right.specs.Right.{IsNodeUnder, itself, is_variable, Enters, EachEnters, no_parts, and_part, IsInsnOf, IsItemOf, IsRightAt, IsCodeOf, of_app, of_app_datum, of_let, of_let_datum, of_var, of_lit, of_unary, of_binary, of_cond, of_case, of_lam, of_app_variable, of_field, of_sel, of_let_variable, of_rec, of_skip, of_seq, of_assign, of_while, of_forever, of_new, of_escape, of_accept, of_put, of_read}
+use Rattle.pe_right.specs.Right.{IsNodeUnder, itself, is_variable, Enters, EachEnters, no_parts, and_part, IsInsnOf, IsItemOf, IsRightAt, IsNumberOf, IsCodeOf, of_app, of_app_datum, of_let, of_let_datum, of_var, of_lit, of_unary, of_binary, of_cond, of_case, of_lam, of_app_variable, of_field, of_sel, of_let_variable, of_rec, of_skip, of_seq, of_assign, of_while, of_forever, of_new, of_cells, of_escape, of_accept, of_put, of_read}
 use Rattle.pe_right.specs.Typed.{IsTableOf}
 use Rattle.pe_gen.specs.Layout.{IsOwn, IsLaidOut}
 use Rattle.pe_gen.specs.OneCode.{LaidOutCodeIsOne}
@@ -135,6 +135,15 @@ item_with n d p = record { insn = n; depth = d; place = p }
 
 item_same : (i j : PeItem) → i.insn ≡ j.insn → i.depth ≡ j.depth → i.place ≡ j.place → i ≡ j
 item_same i j n d p = ap (λ x. item_with x i.depth i.place) n ∙ (ap (λ x. item_with j.insn x i.place) d ∙ ap (λ x. item_with j.insn j.depth x) p)
+
+abbrev sequences_with : Option ℕ → Option ℕ → Option ℕ → Option ℕ → SequenceShapes
+sequences_with v e a l = record { value = v; element = e; assigned_element = a; row_length = l }
+
+sequences_same : (q r : SequenceShapes) → q.value ≡ r.value → q.element ≡ r.element → q.assigned_element ≡ r.assigned_element → q.row_length ≡ r.row_length → q ≡ r
+sequences_same q r v e a l =
+    ap (λ x. sequences_with x q.element q.assigned_element q.row_length) v
+    ∙ (ap (λ x. sequences_with r.value x q.assigned_element q.row_length) e
+    ∙ (ap (λ x. sequences_with r.value r.element x q.row_length) a ∙ ap (λ x. sequences_with r.value r.element r.assigned_element x) l))
 
 abbrev code_with : List PeItem → List Entry → ℕ → Option ℕ → SequenceShapes → List ℕ → PeCode
 code_with is es s a q ts = record { items = is; entries = es; shapes = s; assignment = a; sequences = q; thunks = ts }
@@ -359,6 +368,7 @@ module _ (handed : Tree → Option Datum) (named : (k : ℕ) (at : Place) → ha
   insn-same k q s i j (of_while {y = y} {b = l} a c) (of_while {x = x} b d) = ap (λ n. insn.While n y) (enters (k + 1) _ _ _ a b) ∙ ap (insn.While x) (enters (k + 1 + nodes l) _ _ _ c d)
   insn-same k q s i j (of_forever a) (of_forever b) = ap insn.Loop (enters (k + 1) _ _ _ a b)
   insn-same k q s i j (of_new {y = y} {e = l} a c) (of_new {x = x} b d) = ap (λ n. insn.New n y) (enters (k + 1) _ _ _ a b) ∙ ap (insn.New x) (enters (k + 1 + nodes l) _ _ _ c d)
+  insn-same k q s i j (of_cells {y = y} {e = l} a c) (of_cells {x = x} b d) = ap (λ n. insn.Cells n y) (enters (k + 1) _ _ _ a b) ∙ ap (insn.Cells x) (enters (k + 1 + nodes l) _ _ _ c d)
   insn-same k q s i j (of_escape a) (of_escape b) = ap insn.Escape (enters (k + 1) _ _ _ a b)
   insn-same k q s i j (of_accept a) (of_accept b) = ap insn.Accept (enters (k + 1) _ _ _ a b)
   insn-same k q s i j (of_put {kind = kind} a) (of_put b) = ap (insn.Put kind) (enters (k + 1) _ _ _ a b)
@@ -383,6 +393,12 @@ item-there handed named p table whole its one other g h a i at =
 
 -- ---- the code
 
+-- a shape has one number
+one-number : (table : ShapeTable) (o u : Option ℕ) (s : PlainShape) → IsNumberOf table o s → IsNumberOf table u s → o ≡ u
+one-number table (Some n) u s is too = sym ((too n).1 ((is n).0 refl))
+one-number table None (Some n) s is too = (is n).1 ((too n).0 refl)
+one-number table None None s is too = refl
+
 pub code-is-one : LaidOutCodeIsOne
 code-is-one handed p table one other whole its named right correct valid sound laid placed =
     let g : IsGiven handed p table one = record { right = right; laid = laid } in
@@ -391,11 +407,10 @@ code-is-one handed p table one other whole its named right correct valid sound l
     (same-lists one.items other.items (item-there handed named p table whole its one other g h) (item-there handed named p table whole its other one h g))
     (same-entries one.entries other.entries laid.entries placed.entries valid.once sound.once (same-found handed p table whole its one other g h))
     (right.shapes ∙ sym correct.shapes)
-    (by one.assignment other.assignment refl refl)
-    (right.sequences ∙ sym correct.sequences)
+    (one-number table one.assignment other.assignment (at_end an_assignment) right.assignment correct.assignment)
+    (sequences_same one.sequences other.sequences
+    (one-number table one.sequences.value other.sequences.value (at_end a_value) right.sequences.value correct.sequences.value)
+    (one-number table one.sequences.element other.sequences.element (a_call (at_end a_value)) right.sequences.element correct.sequences.element)
+    (one-number table one.sequences.assigned_element other.sequences.assigned_element (a_call (at_end an_assignment)) right.sequences.assigned_element correct.sequences.assigned_element)
+    (one-number table one.sequences.row_length other.sequences.row_length (a_field 0 (at_end a_value)) right.sequences.row_length correct.sequences.row_length))
     (right.thunks ∙ sym correct.thunks)
-  where
-    by : (o u : Option ℕ) → one.assignment ≡ o → other.assignment ≡ u → one.assignment ≡ other.assignment
-    by (Some n) u e f = e ∙ sym ((correct.assignment n).1 ((right.assignment n).0 e))
-    by None (Some n) e f = (right.assignment n).1 ((correct.assignment n).0 f) ∙ sym f
-    by None None e f = e ∙ sym f

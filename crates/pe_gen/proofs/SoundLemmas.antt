@@ -10,8 +10,7 @@ use Rattle.fy_phrase.specs.Sizes.{nodes}
 use Rattle.fy_phrase.specs.Tree.{Tree, Trees, no_trees, and_tree, var, merge}
 use Rattle.fy_phrase.specs.WellMade.{IsClosedUnder}
 use Rattle.fy_derive.specs.Kinds.{Kind, kind_of}
-use Rattle.fy_derive.specs.Shapes.{PlainShape, at_end, a_run, an_assignment, shape_begins, table_words}
-use Rattle.fy_derive.specs.ShapeTables.{shape_at}
+use Rattle.fy_derive.specs.Shapes.{PlainShape, at_end, a_call, a_field, a_value, a_run, an_assignment, shape_begins, table_words}
 use Rattle.pe_code.specs.declared.code.Entry.{Entry}
 use Rattle.pe_code.specs.declared.code.PeCode.{PeCode}
 use Rattle.pe_code.specs.declared.code.SequenceShapes.{SequenceShapes}
@@ -21,7 +20,7 @@ use Rattle.pe_code.specs.Code.{entry_of, beside, body_of, variable_of, shape_of,
 use Rattle.pe_code.specs.Valid.{LeadsTo, IsThunkNode, IsSoundItem, IsSoundEntry, asked_sequences, IsValid}
 use Rattle.pe_gen.specs.Preorder.{own_thunks}
 use Rattle.pe_right.specs.Constants.{no_data}
-use Rattle.pe_right.specs.Right.{with_depth, is_variable, IsNodeUnder, itself, IsNodeAmongUnder, in_first, in_later, Enters, EachEnters, no_parts, and_part, IsInsnOf, of_var, of_lit, of_unary, of_binary, of_cond, of_case, of_lam, of_app, of_app_variable, of_app_datum, of_field, of_sel, of_let, of_let_variable, of_let_datum, of_rec, of_skip, of_seq, of_assign, of_while, of_forever, of_new, of_escape, of_accept, of_put, of_read}
+use Rattle.pe_right.specs.Right.{with_depth, is_variable, IsNodeUnder, itself, IsNodeAmongUnder, in_first, in_later, Enters, EachEnters, IsNumberOf, AreSequencesOf, no_parts, and_part, IsInsnOf, of_var, of_lit, of_unary, of_binary, of_cond, of_case, of_lam, of_app, of_app_variable, of_app_datum, of_field, of_sel, of_let, of_let_variable, of_let_datum, of_rec, of_skip, of_seq, of_assign, of_while, of_forever, of_new, of_cells, of_escape, of_accept, of_put, of_read}
 use Rattle.pe_gen.specs.Sites.{Stands}
 use Rattle.pe_gen.proofs.CodeLemmas.{IsMade, right-at, code-of, site-of}
 use Rattle.pe_gen.proofs.EntryLists.{address-of}
@@ -222,6 +221,13 @@ module _ (p : Tree) (table : ShapeTable) (code : PeCode) (made : IsMade p table 
     shape = no_shape;
     thunk = no_thunk d;
   }
+  sound-insn d k q s o node scoped (of_cells {x = x} {y = y} {e = e} {b = b} ex ey) = record {
+    beside_it = one d x (leads-to e d (k + 1) x _ (first-part ((d + 1, b) ∷ []) node refl) ex);
+    body = for-some (λ a. LeadsTo code (d + 1) a) y (leads-to b (d + 1) (k + 1 + nodes e) y _ (second-part [] node refl) ey);
+    variable = no_variable d;
+    shape = no_shape;
+    thunk = no_thunk d;
+  }
   sound-insn d k q s o node scoped (of_escape {x = x} {b = b} ex) =
       record { beside_it = none d; body = for-some (λ a. LeadsTo code (d + 1) a) x (leads-to b (d + 1) (k + 1) x _ (first-part [] node refl) ex); variable = no_variable d; shape = no_shape; thunk = no_thunk d }
   sound-insn d k q s o node scoped (of_accept {x = x} {b = b} ex) =
@@ -253,6 +259,19 @@ module _ (p : Tree) (table : ShapeTable) (code : PeCode) (made : IsMade p table 
         shape = omega (arith, made.shapes, shape-within table.shapes e.shape its.shape its.is);
       }
 
+  -- the number of a shape is among the code's
+  number-within : (o : Option ℕ) (s : PlainShape) → IsNumberOf table o s → ForSome o (λ n. n < code.shapes)
+  number-within None s h = for-none (λ n. n < code.shapes)
+  number-within (Some n) s h = for-some (λ n. n < code.shapes) n (let w = shape-within table.shapes n s ((h n).0 refl) in omega (arith, made.shapes))
+
+  sequences-within : (q : SequenceShapes) → AreSequencesOf table q → All (λ o. ForSome o (λ n. n < code.shapes)) (asked_sequences q)
+  sequences-within q h =
+      let P : Option ℕ → Type 0 = λ o. ForSome o (λ n. n < code.shapes) in
+      All-cons P q.value (q.element ∷ q.assigned_element ∷ q.row_length ∷ []) (number-within q.value (at_end a_value) h.value)
+      (All-cons P q.element (q.assigned_element ∷ q.row_length ∷ []) (number-within q.element (a_call (at_end a_value)) h.element)
+      (All-cons P q.assigned_element (q.row_length ∷ []) (number-within q.assigned_element (a_call (at_end an_assignment)) h.assigned_element)
+      (All-cons P q.row_length [] (number-within q.row_length (a_field 0 (at_end a_value)) h.row_length) (All-nil P))))
+
   pub valid-of : length table.pairs ≤ 65536 → table_words p (length table.shapes) ≤ 1048576 → IsValid code
   valid-of few words =
       let short = few-among table.pairs made.places made.sites.apart (λ i x at. made.there x (made.sites.known i x at).0) in
@@ -269,17 +288,11 @@ module _ (p : Tree) (table : ShapeTable) (code : PeCode) (made : IsMade p table 
         once = made.entries.once;
         asked =
             let P : Option ℕ → Type 0 = λ o. ForSome o (λ s. s < code.shapes) in
-            let none : P None = for-none (λ s. s < code.shapes) in
-            All-cons P code.assignment (asked_sequences code.sequences) (by code.assignment (λ n e. (made.assignment n).0 e))
-            (subst (λ (q : SequenceShapes). All P (asked_sequences q)) (sym made.sequences)
-            (All-cons P None (None ∷ None ∷ None ∷ []) none (All-cons P None (None ∷ None ∷ []) none (All-cons P None (None ∷ []) none (All-cons P None [] none (All-nil P))))));
+            All-cons P code.assignment (asked_sequences code.sequences) (number-within code.assignment (at_end an_assignment) made.assignment)
+            (sequences-within code.sequences made.sequences);
         words =
             let count = ap length made.thunks ∙ length-thunk_nodes 0 p in
             let same : code.shapes * (4 + length code.thunks) ≡ table_words p (length table.shapes) =
             ap (λ n. n * (4 + length code.thunks)) made.shapes ∙ ap (λ n. length table.shapes * (4 + n)) count in
             omega (arith, same);
       }
-    where
-      by : (o : Option ℕ) → ((n : ℕ) → o ≡ Some n → shape_at table n ≡ Some (at_end an_assignment)) → ForSome o (λ s. s < code.shapes)
-      by None h = for-none (λ s. s < code.shapes)
-      by (Some n) h = for-some (λ s. s < code.shapes) n (let w = shape-within table.shapes n (at_end an_assignment) (h n refl) in omega (arith, made.shapes))

@@ -1,18 +1,20 @@
 -- The shapes of a table by their first demands.
-use Rattle.std.proofs.Common.{ℕ, zero, suc, ◌+◌, ◌<◌, ◌≡◌, Bool, true, inl, inr, List, [], ◌∷◌, ◌++◌, length, Some, refl, ap, sym, ◌∙◌, subst, arith}
-use Rattle.std.specs.Option.{option_map}
-use Rattle.std.specs.Prelude.{slice_get}
+use Rattle.std.proofs.Common.{ℕ, zero, suc, ◌+◌, ◌<◌, ◌≡◌, Bool, true, inl, inr, List, [], ◌∷◌, ◌++◌, length, Option, Some, None, refl, ap, sym, ◌∙◌, subst, arith}
+use Rattle.std.specs.Option.{option_map, MatchOption}
+use Rattle.std.specs.Prelude.{◌≢◌, slice_get}
 use Rattle.indexmap.specs.IndexSet.{insert_key}
 use Rattle.fy_phrase.specs.declared.shapes.Shape.{Shape}
 use Rattle.fy_phrase.specs.declared.shapes.ShapeElem.{ShapeElem}
 use Rattle.fy_phrase.specs.declared.shapes.ShapeElem.TheVariants as elem
 use Rattle.fy_phrase.specs.declared.shapes.ShapeEnd.{ShapeEnd}
 use Rattle.fy_phrase.specs.declared.shapes.ShapeEnd.TheVariants as ending
+use Rattle.fy_phrase.specs.declared.shapes.ShapeTable.{ShapeTable}
 use Rattle.fy_derive.specs.Shapes.{EndShape, PlainShape, at_end}
 use Rattle.fy_derive.specs.ShapeTables.{plain_end, behind, plain_shape}
 use Rattle.pe_gen.specs.declared.steps.ShapeStep.{ShapeStep}
 use Rattle.pe_gen.specs.declared.steps.ShapeStep.TheVariants.{End, Before, Apart}
 use Rattle.pe_gen.specs.Steps.{shape_in, AreShapesOnce, IsStep, AreSteps}
+use Rattle.pe_right.specs.Right.{IsNumberOf}
 use Rattle.pe_gen.proofs.Gets.{some_same, get-within, get-some}
 use Rattle.pe_gen.proofs.KeyLists.{pushed-member, insert-last}
 
@@ -62,6 +64,15 @@ shape-read shapes n x h = ap (λ o. option_map plain_shape o) h
 -- each number below the length has a shape
 pub shape-at : (shapes : List Shape) (n : ℕ) → n < length shapes → (s : PlainShape) × (shape_in shapes n ≡ Some s)
 shape-at shapes n h = let x = get-some shapes n h in (plain_shape x.0, shape-read shapes n x.0 x.1)
+
+-- a number that is found is the shape's, where no shape stands twice
+pub number-found : (table : ShapeTable) (shapes : List Shape) (o : Option ℕ) (s : PlainShape) → shapes ≡ table.shapes → AreShapesOnce table.shapes →
+    MatchOption o ((n : ℕ) → shape_in shapes n ≢ Some s) (λ n. shape_in shapes n ≡ Some s) → IsNumberOf table o s
+number-found table shapes None s same once none = λ n. (λ e. absurd cc, λ at. absurd (none n (ap (λ (ss : List Shape). shape_in ss n) same ∙ at)))
+number-found table shapes (Some k) s same once found = λ n. (
+  λ e. ap (λ (ss : List Shape). shape_in ss n) (sym same) ∙ (ap (shape_in shapes) (sym (some_same e)) ∙ found),
+  λ at. ap Some (once k n s (ap (λ (ss : List Shape). shape_in ss k) (sym same) ∙ found) at),
+)
 
 -- ---- steps
 

@@ -61,7 +61,7 @@ module _ (plan : Plan) where
   AsksParts k (while_do b c at) s = IsDue plan (k + 1) b (at_end a_value) × IsDue plan (k + 1 + nodes b) c (at_end a_run)
   AsksParts k (forever c at) s = IsDue plan (k + 1) c (at_end a_run)
   AsksParts k (new d D e b at) s = IsDue plan (k + 1) e (at_end a_value) × IsDue plan (k + 1 + nodes e) b (at_end a_run)
-  AsksParts k (cells d e b at) s = ⊥
+  AsksParts k (cells d e b at) s = IsDue plan (k + 1) e (at_end a_value) × IsDue plan (k + 1 + nodes e) b (at_end a_run)
   AsksParts k (escape d b at) s = IsDue plan (k + 1) b (at_end a_run)
   AsksParts k (accept d D b at) s = IsDue plan (k + 1) b (at_end a_run)
   AsksParts k (put kind p at) s = IsDue plan (k + 1) p (at_end a_value)

@@ -19,11 +19,11 @@ use crate::items::items_of;
 use crate::listing::nodes_of;
 use crate::plan::Plan;
 use crate::sites::{entries_of, sites_of};
-use crate::steps::{ShapeStep, number_of_step, steps_of};
+use crate::steps::{ShapeStep, number_of_step, sequence_shapes, steps_of};
 use crate::thunks::thunks_of;
 use fy_base::OutOfMemory;
 use fy_phrase::{Pair, Phrase, ShapeEnd, ShapeTable};
-use pe_code::{PeCode, SequenceShapes};
+use pe_code::PeCode;
 use std::alloc::Global;
 
 /// Push-enter code of a closed phrase that is no merge, from the table of demand shapes of an accepted derivation: an item for each pair of the table whose node
@@ -71,12 +71,7 @@ pub fn generate(alloc: Global, p: &Phrase, table: &ShapeTable) -> Result<PeCode,
         entries: plan.entries,
         shapes: shapes.len() as u32,
         assignment,
-        sequences: SequenceShapes {
-            value: None,
-            element: None,
-            assigned_element: None,
-            row_length: None,
-        },
+        sequences: sequence_shapes(table),
         thunks,
     })
 }

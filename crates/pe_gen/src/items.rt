@@ -127,6 +127,11 @@ fn insn_of(
             let body = plan.entry_at_end(plan.behind(first), ShapeEnd::Run);
             Ok(PeInsn::New(value, body))
         }
+        Phrase::Cells(_, _, _, _) => {
+            let value = plan.entry_at_end(first, ShapeEnd::Value);
+            let body = plan.entry_at_end(plan.behind(first), ShapeEnd::Run);
+            Ok(PeInsn::Cells(value, body))
+        }
         Phrase::Escape(_, _, _) => Ok(PeInsn::Escape(plan.entry_at_end(first, ShapeEnd::Run))),
         Phrase::Accept(_, _, _, _) => {
             let body = plan.entry_at_end(first, ShapeEnd::Run);
@@ -141,7 +146,6 @@ fn insn_of(
             Ok(PeInsn::Read(target))
         }
         Phrase::Merge(..) | Phrase::Mark(..) => unreachable!(),
-        Phrase::Cells(_, _, _, _) => unreachable!(),
     }
 }
 

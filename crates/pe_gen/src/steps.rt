@@ -3,12 +3,18 @@
 ghost use Rattle.std.specs.Prelude.{ℕ, ◌≡◌, ◌≢◌, ◌<◌, ◌≤◌, ◌↔◌, Some, IfOk, IsTrue, MatchOption, length, slice_get};
 ghost use Rattle.fy_derive.specs.Shapes.{at_end};
 ghost use Rattle.fy_derive.specs.ShapeTables.{behind, plain_end, plain_shape};
+ghost use Rattle.pe_right.specs.Right.{AreSequencesOf};
 ghost use Rattle.pe_gen.specs.Steps.{shape_in, IsStep, AreSteps, AreShapesOnce};
 
 use fy_base::OutOfMemory;
-use fy_phrase::{Shape, ShapeElem, ShapeEnd};
+use fy_phrase::{Shape, ShapeElem, ShapeEnd, ShapeTable};
+use fy_types::Name;
 use indexmap::IndexSet;
+use pe_code::SequenceShapes;
 use std::alloc::Global;
+
+// The number of the name `len`.
+const LENGTH: Name = 0;
 
 /// A shape by its first demand.
 #[derive(Clone, Copy, PartialEq, Eq, Hash, Debug)]
@@ -57,6 +63,25 @@ fn step_of(shapes: &[Shape], number: u32) -> ShapeStep
             Some(behind) => ShapeStep::Before(*first, behind),
             None => ShapeStep::Apart(number),
         },
+    }
+}
+
+/// The numbers of the shapes at which sequences of cells are used.
+pub fn sequence_shapes(table: &ShapeTable) -> SequenceShapes
+    requires few { length table.now.shapes ≤ 256 }
+    requires once { AreShapesOnce table.now.shapes }
+    ensures { AreSequencesOf table.now result }
+{
+    let shapes = table.shapes.as_slice();
+    let value = number_of(shapes, &[], ShapeEnd::Value);
+    let element = number_of(shapes, &[ShapeElem::Call], ShapeEnd::Value);
+    let assigned_element = number_of(shapes, &[ShapeElem::Call], ShapeEnd::Assign);
+    let row_length = number_of(shapes, &[ShapeElem::Field(LENGTH)], ShapeEnd::Value);
+    SequenceShapes {
+        value,
+        element,
+        assigned_element,
+        row_length,
     }
 }
 

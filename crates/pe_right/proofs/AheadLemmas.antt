@@ -11,7 +11,7 @@ use Rattle.pe_machine.proofs.RunLemmas.{after_zero, after_suc, after_both}
 use Rattle.pe_right.specs.Ahead.{IsAheadOf, frames_made, KeepsAhead}
 use Rattle.pe_right.specs.Direct.{IsDirectOf}
 use Rattle.pe_right.specs.Follows.{FollowsCopyRule}
-use Rattle.pe_right.proofs.Invariants.{Compiled, Simulates}
+use Rattle.pe_right.proofs.Invariants.{Compiled, Follows}
 use Rattle.pe_right.proofs.Swapping.{swap_held, swap_state, swap_move}
 use Rattle.pe_right.proofs.CodeEvaluating.{CodeSteps, stays, steps}
 use Rattle.pe_right.proofs.FrameCounts.{HasMade, made-step}
@@ -148,7 +148,7 @@ module _ (g : Compiled) (made : PeCode) (direct : IsDirectOf g.phrase g.code mad
     same = tick-over made st (swap_run Known r) apart ∙ ap (λ (x : PeRun). swap_run Known x) (sym (over-stays g.code 1 r (λ f. apart (sym e ∙ f))));
   }
 
-  covers-going : (k : ℕ) (r : PeRun) (c : CopyState) → r.standing ≡ going → Simulates g k r.state c → (tick g.code r).standing ≢ gone → (tick g.code r).standing ≢ stuck →
+  covers-going : (k : ℕ) (r : PeRun) (c : CopyState) → r.standing ≡ going → Follows g k r.state c → (tick g.code r).standing ≢ gone → (tick g.code r).standing ≢ stuck →
       Covers (settled (pe_step made (swap_state Known r.state)) (swap_run Known r)) r
   covers-going k r c up t here moves = by (step-hands g made direct k r.state c t)
     where
@@ -176,7 +176,7 @@ module _ (g : Compiled) (made : PeCode) (direct : IsDirectOf g.phrase g.code mad
                 ∙ ap (λ (x : PeRun). swap_run Known x) (sym (after_first g.code j r ∙ ap (λ (x : PeRun). after_more g.code j x) (now e) ∙ through path next refl refl));
           }
 
-  covers : (k : ℕ) (st : Standing) (r : PeRun) (c : CopyState) → r.standing ≡ st → Simulates g k r.state c → (tick g.code r).standing ≢ gone → (tick g.code r).standing ≢ stuck →
+  covers : (k : ℕ) (st : Standing) (r : PeRun) (c : CopyState) → r.standing ≡ st → Follows g k r.state c → (tick g.code r).standing ≢ gone → (tick g.code r).standing ≢ stuck →
       Covers (ticked made st (swap_run Known r)) r
   covers k going r c e t here moves = covers-going k r c e t here moves
   covers k ended r c e t here moves = covers-over _ r e (λ f. cc)

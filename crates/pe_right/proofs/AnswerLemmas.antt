@@ -21,7 +21,7 @@ use Rattle.fy_phrase.specs.declared.phrase.DataTy.TheVariants as data_type
 use Rattle.fy_phrase.specs.Tree.{Tree, Trees, no_trees, and_tree, var, lit, unary, binary, cond as conditional, case, lam, app, field, sel, merge, let_in, rec, skip, seq, assign, while_do, forever, new, cells, escape, accept, put, read, mark}
 use Rattle.fy_phrase.specs.Sizes.{nodes}
 use Rattle.fy_phrase.specs.Copy.{part_at}
-use Rattle.fy_derive.specs.Atoms.{data_atom, acceptor_atom, cell_type, datum_atom, operand_atom, unary_atom, takes, binary_atom, put_atom, is_command, is_acceptor}
+use Rattle.fy_derive.specs.Atoms.{data_atom, acceptor_atom, cell_type, sequence_type, datum_atom, operand_atom, unary_atom, takes, binary_atom, put_atom, is_command, is_acceptor}
 use Rattle.fy_derive.specs.Kinds.{Kind, of_call, of_field, of_assignment, kind_of, begins}
 use Rattle.fy_derive.specs.Shapes.{a_value, an_assignment, a_run, PlainShape, at_end, a_call, a_field, end_shape, erase, shape_begins}
 use Rattle.fy_derive.proofs.PathTyping.{paths_at, EachPath, EachPath-map, HasBelow-up, begins-up, Covers, IsRun, only}
@@ -238,7 +238,7 @@ module _ (T : ℕ → PlainShape → Type 0) where
   has-pair (while_do b c at) G k P h = h.0
   has-pair (forever c at) G k P h = h.0
   has-pair (new d D e b at) G k P h = h.0
-  has-pair (cells d e b at) G k P h = absurd h
+  has-pair (cells d e b at) G k P h = h.0
   has-pair (escape d b at) G k P h = h.0
   has-pair (accept d D b at) G k P h = h.0
   has-pair (put kind p at) G k P h = h.0
@@ -340,7 +340,12 @@ module _ (T : ℕ → PlainShape → Type 0) where
       answers-up e G H (k + 1) _ _ c (IsPathBelow-refl _) h.2,
       answers-up b (paths (cell_type D) ∷ G) (paths (cell_type D) ∷ H) (k + 1 + nodes e) P Q (under-same (paths (cell_type D)) H G c) l h.3,
     )
-    answers-up (cells d e b at) G H k P Q c l h = absurd h
+    answers-up (cells d e b at) G H k P Q c l h = (
+      pair-up k l h.0,
+      run-up h.1 l,
+      answers-up e G H (k + 1) _ _ c (IsPathBelow-refl _) h.2,
+      answers-up b (paths sequence_type ∷ G) (paths sequence_type ∷ H) (k + 1 + nodes e) P Q (under-same (paths sequence_type) H G c) l h.3,
+    )
     answers-up (escape d b at) G H k P Q c l h = (
       pair-up k l h.0,
       fixed-up atoms.Comm tt h.1 l,

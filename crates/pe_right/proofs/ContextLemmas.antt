@@ -11,19 +11,19 @@ use Rattle.fy_types.specs.Paths.{PlainPath, end, call, pick}
 use Rattle.fy_phrase.specs.declared.phrase.DataTy.{DataTy}
 use Rattle.fy_phrase.specs.Tree.{Tree, lam, field, accept}
 use Rattle.fy_phrase.specs.Contexts.{CopyContext, arg_c, pick_c, store_c, Pushed}
-use Rattle.fy_phrase.specs.Copy.{Row, demands, demanded, store_after}
+use Rattle.fy_phrase.specs.Copy.{Row, Which, demands, demanded, store_after}
 use Rattle.fy_phrase.specs.Copy as copy
 use Rattle.fy_derive.specs.Atoms.{data_atom, datum_atom, operand_atom, put_atom, is_acceptor}
 use Rattle.fy_derive.specs.Kinds.{Kind, of_call, of_field, of_assignment, kind_of, begins}
 use Rattle.fy_derive.specs.Shapes.{a_value, an_assignment, a_run, end_shape}
 use Rattle.fy_derive.proofs.PathTyping.{IsRun}
 use Rattle.fy_derive.proofs.Asking.{Asked, for_call, for_field, for_end, first_asked, asked_by, value_asked, assignment_asked, run_asked}
-use Rattle.pe_machine.specs.States.{Frame, PeContext, Held, oldest, with_cell}
+use Rattle.pe_machine.specs.States.{Frame, PeContext, Held, oldest, with_binding}
 use Rattle.pe_machine.specs.Step as machine
 use Rattle.pe_right.specs.ReadsBack.{cells_in}
-use Rattle.pe_right.proofs.FrameLemmas.{Below, Below-up, Below-oldest, along_cut, oldest-newer, oldest-oldest, length-oldest, Mark, an_escape, marks_in, IsMarked, cells-kept, cells-one_escape_less, cells-one_less, length-with_cell, oldest-with_cell, marks-with_cell, with_cell-none}
-use Rattle.pe_right.proofs.Invariants.{Compiled, HasCell, marked, ContextTakes, unary_operand, left_operand, right_operand, condition, index, procedure, selected, first_command, assigned_value, acceptor, loop_test, loop_body, endless_body, first_value, cell_body, put_datum, escape_body, ContextsTake}
-use Rattle.pe_right.proofs.Growing.{Extends, extends-itself, extends-with_cell, held-extends}
+use Rattle.pe_right.proofs.FrameLemmas.{written, Below, Below-up, Below-oldest, along_cut, oldest-newer, oldest-oldest, length-oldest, Mark, an_escape, marks_in, IsMarked, cells-kept, cells-one_escape_less, cells-one_less, length-with_binding, oldest-with_binding, marks-written, with_binding-none}
+use Rattle.pe_right.proofs.Invariants.{Compiled, HasCell, marked, ContextTakes, unary_operand, left_operand, right_operand, condition, index, procedure, selected, first_command, assigned_value, acceptor, loop_test, loop_body, endless_body, first_value, cells_wanted, element_wanted, cell_body, put_datum, escape_body, ContextsTake}
+use Rattle.pe_right.proofs.Growing.{Extends, extends-itself, extends-written, held-extends}
 
 -- ---- what is asked for
 
@@ -102,6 +102,8 @@ module _ (g : Compiled) where
   held-asked (loop_body h) = refl
   held-asked (endless_body h) = refl
   held-asked (first_value D is h) = value_asked D refl
+  held-asked (cells_wanted is known h) = refl
+  held-asked (element_wanted h) = refl
   held-asked (cell_body is) = run_asked is
   held-asked (put_datum {kind = kind}) = put-asked kind
   held-asked escape_body = refl
@@ -166,46 +168,47 @@ module _ (g : Compiled) where
 
   -- ---- a cell is written
 
-  -- frame n holds a cell of the type, or is newer than all
-  abbrev pub Fits : DataTy → ℕ → List Frame → Type 0
-  Fits E n fs = HasCell E n fs ⊎ Below n fs
+  -- frame n has the cell, of the type, or is newer than all
+  abbrev pub Fits : Which → DataTy → ℕ → List Frame → Type 0
+  Fits which E n fs = HasCell which E n fs ⊎ Below n fs
 
-  fits-behind : (E : DataTy) (n : ℕ) (f : Frame) (fs : List Frame) → Below f.number fs → Fits E n (f ∷ fs) → Fits E n fs
-  fits-behind E n f fs h (inl (inl x)) = let e = x.0 in inr (Below-up fs f.number n (omega arith) h)
-  fits-behind E n f fs h (inl (inr x)) = inl x.1
-  fits-behind E n f fs h (inr x) = let l = x.0 in inr (Below-up fs f.number n (omega arith) h)
+  fits-behind : (which : Which) (E : DataTy) (n : ℕ) (f : Frame) (fs : List Frame) → Below f.number fs → Fits which E n (f ∷ fs) → Fits which E n fs
+  fits-behind which E n f fs h (inl (inl x)) = let e = x.0 in inr (Below-up fs f.number n (omega arith) h)
+  fits-behind which E n f fs h (inl (inr x)) = inl x.1
+  fits-behind which E n f fs h (inr x) = let l = x.0 in inr (Below-up fs f.number n (omega arith) h)
 
-  fits-oldest : (E : DataTy) (n k : ℕ) (fs : List Frame) (b : ℕ) → Below b fs → Fits E n fs → Fits E n (oldest k fs)
-  fits-oldest E n =
-      along_cut (λ fs gs. (b : ℕ) → Below b fs → Fits E n fs → Fits E n gs) (λ fs b h x. x)
-      (λ f fs gs ih b h x. ih f.number h.1 (fits-behind E n f fs h.1 x))
+  fits-oldest : (which : Which) (E : DataTy) (n k : ℕ) (fs : List Frame) (b : ℕ) → Below b fs → Fits which E n fs → Fits which E n (oldest k fs)
+  fits-oldest which E n =
+      along_cut (λ fs gs. (b : ℕ) → Below b fs → Fits which E n fs → Fits which E n gs) (λ fs b h x. x)
+      (λ f fs gs ih b h x. ih f.number h.1 (fits-behind which E n f fs h.1 x))
 
-  extends-fits : (E : DataTy) (n : ℕ) (v : Datum) (fs : List Frame) → datum_atom v ≡ data_atom E → Fits E n fs → Extends g fs (with_cell n v fs)
-  extends-fits E n v fs e (inl x) = extends-with_cell g E n v fs e x
-  extends-fits E n v fs e (inr x) = subst (Extends g fs) (sym (with_cell-none n v fs x)) (extends-itself g fs)
+  extends-fits : (which : Which) (E : DataTy) (n : ℕ) (v : Datum) (fs : List Frame) → datum_atom v ≡ data_atom E → Fits which E n fs →
+      Extends g fs (with_binding n (written which v) fs)
+  extends-fits which E n v fs e (inl x) = extends-written g which E n v fs e x
+  extends-fits which E n v fs e (inr x) = subst (Extends g fs) (sym (with_binding-none n (written which v) fs x)) (extends-itself g fs)
 
-  pub contexts-written : (E : DataTy) (n : ℕ) (v : Datum) (fs : List Frame) (b : ℕ) → datum_atom v ≡ data_atom E → Below b fs → Fits E n fs →
-      (cs : List Held) (xs : List (Pushed CopyContext)) (P : PlainPath) → ContextsTake g fs cs xs P → ContextsTake g (with_cell n v fs) cs xs P
-  contexts-written E n v fs b e lo x [] [] P t = (t.0, marks-with_cell n v fs ∙ t.1)
-  contexts-written E n v fs b e lo x (c ∷ cs) (y ∷ ys) P t =
+  pub contexts-written : (which : Which) (E : DataTy) (n : ℕ) (v : Datum) (fs : List Frame) (b : ℕ) → datum_atom v ≡ data_atom E → Below b fs → Fits which E n fs →
+      (cs : List Held) (xs : List (Pushed CopyContext)) (P : PlainPath) → ContextsTake g fs cs xs P → ContextsTake g (with_binding n (written which v) fs) cs xs P
+  contexts-written which E n v fs b e lo x [] [] P t = (t.0, marks-written which n v fs ∙ t.1)
+  contexts-written which E n v fs b e lo x (c ∷ cs) (y ∷ ys) P t =
       let k = c.frames in
       let few = t.1 in
-      let long = length-with_cell n v fs in
-      let cut : oldest k (with_cell n v fs) ≡ with_cell n v (oldest k fs) = oldest-with_cell n v k fs b lo in
-      let fit = fits-oldest E n k fs b lo x in (
+      let long = length-with_binding n (written which v) fs in
+      let cut : oldest k (with_binding n (written which v) fs) ≡ with_binding n (written which v) (oldest k fs) = oldest-with_binding n (written which v) k fs b lo in
+      let fit = fits-oldest which E n k fs b lo x in (
         t.0,
         omega arith,
-        marks-with_cell n v fs ∙ t.2 ∙ ap (λ (ms : List Mark). marked c.context ms) (sym (marks-with_cell n v (oldest k fs)))
+        marks-written which n v fs ∙ t.2 ∙ ap (λ (ms : List Mark). marked c.context ms) (sym (marks-written which n v (oldest k fs)))
             ∙ ap (λ (hs : List Frame). marked c.context (marks_in hs)) (sym cut),
         (
           t.3.0,
-          subst (λ (hs : List Frame). ContextTakes g hs c.context y.context P t.3.0) (sym cut) (held-extends g (extends-fits E n v (oldest k fs) e fit) t.3.1),
+          subst (λ (hs : List Frame). ContextTakes g hs c.context y.context P t.3.0) (sym cut) (held-extends g (extends-fits which E n v (oldest k fs) e fit) t.3.1),
           subst (λ (hs : List Frame). ContextsTake g hs cs ys t.3.0) (sym cut)
-              (contexts-written E n v (oldest k fs) b e (Below-oldest k fs b lo) fit cs ys t.3.0 t.3.2),
+              (contexts-written which E n v (oldest k fs) b e (Below-oldest k fs b lo) fit cs ys t.3.0 t.3.2),
         ),
       )
-  contexts-written E n v fs b e lo x [] (y ∷ ys) P t = absurd t
-  contexts-written E n v fs b e lo x (c ∷ cs) [] P t = absurd t
+  contexts-written which E n v fs b e lo x [] (y ∷ ys) P t = absurd t
+  contexts-written which E n v fs b e lo x (c ∷ cs) [] P t = absurd t
 
   -- ---- a context is left
 

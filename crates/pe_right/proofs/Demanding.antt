@@ -6,7 +6,7 @@ use Rattle.fy_types.specs.PathOrder.{HasBelow}
 use Rattle.fy_phrase.specs.declared.phrase.DataTy.{DataTy}
 use Rattle.fy_phrase.specs.Tree.{Tree, Trees, no_trees, and_tree, var, lit, unary, binary, cond, case, lam, app, field, sel, merge, let_in, rec, skip, seq, assign, while_do, forever, new, cells, escape, accept, put, read, mark}
 use Rattle.fy_phrase.specs.Sizes.{nodes}
-use Rattle.fy_derive.specs.Atoms.{data_atom, acceptor_atom, cell_type, datum_atom, operand_atom, unary_atom, takes, binary_atom, put_atom}
+use Rattle.fy_derive.specs.Atoms.{data_atom, acceptor_atom, cell_type, sequence_type, datum_atom, operand_atom, unary_atom, takes, binary_atom, put_atom}
 use Rattle.fy_derive.specs.Kinds.{Kind, kind_of, begins}
 use Rattle.fy_derive.specs.Shapes.{PlainShape, erase}
 use Rattle.fy_derive.proofs.PathTyping.{paths_at, EachPath, IsRun, only}
@@ -44,7 +44,8 @@ module _ (T : ℕ → PlainShape → Type 0) where
     Answers G k (forever c at) P = T k (erase P) × IsRun P × Answers G (k + 1) c (end atoms.Comm)
     Answers G k (new d D e b at) P =
         T k (erase P) × IsRun P × Answers G (k + 1) e (end (data_atom D)) × Answers (paths (cell_type D) ∷ G) (k + 1 + nodes e) b P
-    Answers G k (cells d e b at) P = ⊥
+    Answers G k (cells d e b at) P =
+        T k (erase P) × IsRun P × Answers G (k + 1) e (end atoms.Int) × Answers (paths sequence_type ∷ G) (k + 1 + nodes e) b P
     Answers G k (escape d b at) P = T k (erase P) × (P ≡ end atoms.Comm) × Answers (only atoms.Compl ∷ G) (k + 1) b (end atoms.Comm)
     Answers G k (accept d D b at) P =
         T k (erase P) × (P ≡ end (acceptor_atom D)) × Answers (only (data_atom D) ∷ G) (k + 1) b (end atoms.Comm)

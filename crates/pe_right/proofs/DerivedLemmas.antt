@@ -15,7 +15,7 @@ use Rattle.fy_phrase.specs.declared.phrase.DataTy.TheVariants as data_type
 use Rattle.fy_phrase.specs.declared.shapes.ShapeTable.{ShapeTable}
 use Rattle.fy_phrase.specs.Tree.{Tree, Trees, no_trees, and_tree, var, lit, unary, binary, cond as conditional, case, lam, app, field, sel, merge, let_in, rec, skip, seq, assign, while_do, forever, new, cells, escape, accept, put, read, mark}
 use Rattle.fy_phrase.specs.Sizes.{nodes}
-use Rattle.fy_derive.specs.Atoms.{data_atom, acceptor_atom, cell_type, datum_atom, operand_atom, unary_atom, takes, binary_atom, put_atom, is_command}
+use Rattle.fy_derive.specs.Atoms.{data_atom, acceptor_atom, cell_type, sequence_type, datum_atom, operand_atom, unary_atom, takes, binary_atom, put_atom, is_command}
 use Rattle.fy_derive.specs.Kinds.{Kind, kind_of, begins, none_begins}
 use Rattle.fy_derive.specs.Derivations.{PlainDerivation, PlainDerivations, by_ns, sub, meets, alt, left, right, rule, no_derivations, and_derivation, count, nodes as derivation_nodes}
 use Rattle.fy_derive.specs.Subsumption.{is_below}
@@ -384,6 +384,14 @@ module _ (T : ℕ → PlainShape → Type 0) where
       concludes-as G m (new d D p b at) B C x.1 (concludes-as G m (new d D p b at) (atom x.2.0) B (sym x.2.2)
       (λ mine. ((mine.0, (x.2.0, x.2.1, refl), end-answers G (m + 1) p (data_atom D) A x.0 t.0, body.0), tt)))
   conclusion-answers G m (new d D p b at) (A ∷ B ∷ E ∷ Es) C t e = absurd t.1.1
+  conclusion-answers G m (cells d p b at) [] C t e = absurd t
+  conclusion-answers G m (cells d p b at) (A ∷ []) C t e = absurd t.1
+  conclusion-answers G m (cells d p b at) (A ∷ B ∷ []) C t e =
+      let x = command-behind Int A B C e in
+      let body = answers-as (sequence_type ∷ G) (m + 1 + nodes p) b B (atom x.2.0) x.2.2 t.1.0 in
+      concludes-as G m (cells d p b at) B C x.1 (concludes-as G m (cells d p b at) (atom x.2.0) B (sym x.2.2)
+      (λ mine. ((mine.0, (x.2.0, x.2.1, refl), end-answers G (m + 1) p Int A x.0 t.0, body.0), tt)))
+  conclusion-answers G m (cells d p b at) (A ∷ B ∷ E ∷ Es) C t e = absurd t.1.1
   conclusion-answers G m (escape d b at) [] C t e = absurd t
   conclusion-answers G m (escape d b at) (A ∷ []) C t e =
       let x = provided-some (is_atom Comm A) (atom Comm) C e in
@@ -407,7 +415,6 @@ module _ (T : ℕ → PlainShape → Type 0) where
       let x = provided-some (is_atom IntAcc A) (atom Comm) C e in
       concludes-as G m (read p at) (atom Comm) C x.1 (λ mine. ((mine.0, refl, end-answers G (m + 1) p IntAcc A x.0 t.0), tt))
   conclusion-answers G m (read p at) (A ∷ B ∷ Bs) C t e = absurd t.1
-  conclusion-answers G m (cells d p b at) Bs C t e = absurd cc
   conclusion-answers G m (mark k at) Bs C t e = absurd cc
 
   -- ---- abstractions and merges

@@ -11,8 +11,8 @@ use Rattle.pe_code.specs.declared.code.PeInsn.{PeInsn}
 use Rattle.pe_code.specs.declared.code.PeInsn.TheVariants as insn
 use Rattle.pe_code.specs.declared.code.PeCode.{PeCode}
 use Rattle.pe_code.specs.Code.{entry_of}
-use Rattle.pe_machine.specs.Step.{is_assignment}
-use Rattle.pe_right.specs.Right.{is_variable, Enters, EachEnters, IsInsnOf, of_var, of_lit, of_unary, of_binary, of_cond, of_case, of_lam, of_app, of_app_variable, of_app_datum, of_field, of_sel, of_let, of_let_variable, of_let_datum, of_rec, of_skip, of_seq, of_assign, of_while, of_forever, of_new, of_escape, of_accept, of_put, of_read}
+use Rattle.pe_machine.specs.Step.{is_assignment, a_cell, a_length, asked_at}
+use Rattle.pe_right.specs.Right.{is_variable, Enters, EachEnters, IsNumberOf, AreSequencesOf, IsInsnOf, of_var, of_lit, of_unary, of_binary, of_cond, of_case, of_lam, of_app, of_app_variable, of_app_datum, of_field, of_sel, of_let, of_let_variable, of_let_datum, of_rec, of_skip, of_seq, of_assign, of_while, of_forever, of_new, of_cells, of_escape, of_accept, of_put, of_read}
 use Rattle.pe_right.proofs.Invariants.{Compiled}
 
 -- ---- the instruction of a form
@@ -51,7 +51,8 @@ module _ (handed : Tree → Option Datum) (table : ShapeTable) (code : PeCode) w
   InsnIs k (forever c at) s i = (x : ℕ) × Enters table code (k + 1) (at_end a_run) x × (i ≡ insn.Loop x)
   InsnIs k (new d D e b at) s i =
       (x y : ℕ) × Enters table code (k + 1) (at_end a_value) x × Enters table code (k + 1 + nodes e) (at_end a_run) y × (i ≡ insn.New x y)
-  InsnIs k (cells d e b at) s i = ⊥
+  InsnIs k (cells d e b at) s i =
+      (x y : ℕ) × Enters table code (k + 1) (at_end a_value) x × Enters table code (k + 1 + nodes e) (at_end a_run) y × (i ≡ insn.Cells x y)
   InsnIs k (escape d b at) s i = (x : ℕ) × Enters table code (k + 1) (at_end a_run) x × (i ≡ insn.Escape x)
   InsnIs k (accept d D b at) s i = (x : ℕ) × Enters table code (k + 1) (at_end a_run) x × (i ≡ insn.Accept x)
   InsnIs k (put kind p at) s i = (x : ℕ) × Enters table code (k + 1) (at_end a_value) x × (i ≡ insn.Put kind x)
@@ -81,10 +82,53 @@ module _ (handed : Tree → Option Datum) (table : ShapeTable) (code : PeCode) w
   insn-is (of_while {x = x} {y = y} a b) = (x, y, a, b, refl)
   insn-is (of_forever {x = x} a) = (x, a, refl)
   insn-is (of_new {x = x} {y = y} a b) = (x, y, a, b, refl)
+  insn-is (of_cells {x = x} {y = y} a b) = (x, y, a, b, refl)
   insn-is (of_escape {x = x} a) = (x, a, refl)
   insn-is (of_accept {x = x} a) = (x, a, refl)
   insn-is (of_put {x = x} a) = (x, a, refl)
   insn-is (of_read {x = x} a) = (x, a, refl)
+
+-- ---- numbers of shapes
+
+-- the number of a shape is found, and no other is taken for it
+pub number-found : (table : ShapeTable) (o : Option ℕ) (s : PlainShape) (n : ℕ) → IsNumberOf table o s → shape_at table n ≡ Some s → is_assignment o n ≡ true
+number-found table o s n h e = ap (λ (m : Option ℕ). is_assignment m n) ((h n).1 e) ∙ eq-eqb n n refl
+
+pub number-other : (table : ShapeTable) (o : Option ℕ) (s t : PlainShape) (n : ℕ) → IsNumberOf table o s → shape_at table n ≡ Some t → (s ≡ t → ⊥) →
+    is_assignment o n ≡ false
+number-other table o s t n h e apart = by o refl
+  where
+    other : (m : ℕ) (b : Bool) → o ≡ Some m → nat_eq m n ≡ b → b ≡ false
+    other m false is f = refl
+    other m true is f =
+        let same : m ≡ n = eqb-true m n f in
+        let both : Some s ≡ Some t = sym ((h n).0 (is ∙ ap Some same)) ∙ e in
+        let shape : s ≡ t = cc in
+        absurd (apart shape)
+
+    by : (m : Option ℕ) → o ≡ m → is_assignment m n ≡ false
+    by None is = refl
+    by (Some m) is = other m (nat_eq m n) is refl
+
+-- what the shape of a cell of a sequence asks for, and that of the length
+pub asked-read : (table : ShapeTable) (code : PeCode) (n : ℕ) → AreSequencesOf table code.sequences → shape_at table n ≡ Some (a_call (at_end a_value)) →
+    asked_at code.sequences n ≡ a_cell false
+asked-read table code n h e = rw (number-found table code.sequences.element (a_call (at_end a_value)) n h.element e) refl
+
+pub asked-written : (table : ShapeTable) (code : PeCode) (n : ℕ) → AreSequencesOf table code.sequences → shape_at table n ≡ Some (a_call (at_end an_assignment)) →
+    asked_at code.sequences n ≡ a_cell true
+asked-written table code n h e = rw (
+  number-other table code.sequences.element (a_call (at_end a_value)) (a_call (at_end an_assignment)) n h.element e (λ f. cc),
+  number-found table code.sequences.assigned_element (a_call (at_end an_assignment)) n h.assigned_element e,
+) refl
+
+pub asked-length : (table : ShapeTable) (code : PeCode) (n : ℕ) → AreSequencesOf table code.sequences → shape_at table n ≡ Some (a_field 0 (at_end a_value)) →
+    asked_at code.sequences n ≡ a_length
+asked-length table code n h e = rw (
+  number-other table code.sequences.element (a_call (at_end a_value)) (a_field 0 (at_end a_value)) n h.element e (λ f. cc),
+  number-other table code.sequences.assigned_element (a_call (at_end an_assignment)) (a_field 0 (at_end a_value)) n h.assigned_element e (λ f. cc),
+  number-found table code.sequences.row_length (a_field 0 (at_end a_value)) n h.row_length e,
+) refl
 
 -- ---- entries
 
@@ -101,18 +145,7 @@ module _ (g : Compiled) where
 
   -- the shape that asks for an assignment is found among the numbers, and no other is
   pub assignment-asked : (n : ℕ) → shape_at g.table n ≡ Some (at_end an_assignment) → is_assignment g.code.assignment n ≡ true
-  assignment-asked n e = ap (λ (o : Option ℕ). is_assignment o n) ((g.right.assignment n).1 e) ∙ eq-eqb n n refl
+  assignment-asked n e = number-found g.table g.code.assignment (at_end an_assignment) n g.right.assignment e
 
   pub value-asked : (n : ℕ) → shape_at g.table n ≡ Some (at_end a_value) → is_assignment g.code.assignment n ≡ false
-  value-asked n e = by g.code.assignment refl
-    where
-      other : (m : ℕ) (b : Bool) → g.code.assignment ≡ Some m → nat_eq m n ≡ b → b ≡ false
-      other m false is t = refl
-      other m true is t =
-          let same : m ≡ n = eqb-true m n t in
-          let f = sym ((g.right.assignment n).0 (is ∙ ap Some same)) ∙ e in
-          absurd cc
-
-      by : (o : Option ℕ) → g.code.assignment ≡ o → is_assignment o n ≡ false
-      by None is = refl
-      by (Some m) is = other m (nat_eq m n) is refl
+  value-asked n e = number-other g.table g.code.assignment (at_end an_assignment) (at_end a_value) n g.right.assignment e (λ f. cc)

@@ -1,18 +1,23 @@
--- Lists of frames, whose numbers fall: what a newer frame, a cut and a written cell leave.
-use Rattle.std.proofs.Common.{ℕ, suc, ◌<◌, ◌≤◌, ◌≡◌, ◌≢◌, ◌⊎◌, Bool, true, false, cond, List, [], ◌∷◌, length, Option, Some, None, refl, sym, ap, ◌∙◌, subst, inl, inr, arith, le-leb, eq-eqb, ne_eqb}
+-- Lists of frames, whose numbers fall: what a newer frame, a cut and a written cell leave. A cell is that of a variable or one of a sequence.
+use Rattle.std.proofs.Common.{ℕ, suc, ◌<◌, ◌≤◌, ◌≡◌, ◌≢◌, ◌⊎◌, Bool, true, false, cond, List, [], ◌∷◌, length, set, Option, Some, None, refl, sym, ap, ◌∙◌, subst, inl, inr, arith, le-leb, eq-eqb, ne_eqb}
 use Rattle.std.proofs.lemmas.Bool.{cases_eq, cases_lt, lt-leb}
 use Rattle.fy_base.specs.declared.data.Datum.{Datum}
-use Rattle.fy_phrase.specs.Copy.{Row, single, own, content_of, value_in, value_of, with_value, without_row}
-use Rattle.pe_machine.specs.States.{Binding, to_thunk, to_cell, to_escape, to_sequence, Frame, is_named, oldest, is_listed, from_frame, frame_outside, datum_in, datum_of, with_datum, with_cell}
+use Rattle.fy_phrase.specs.Copy.{Content, single, several, Row, Which, own, element, content_of, with_value, without_row}
+use Rattle.pe_machine.specs.States.{Binding, to_thunk, to_cell, to_escape, to_sequence, Frame, is_named, oldest, is_listed, from_frame, frame_outside, datum_in, datum_of, with_datum, with_binding, sequence_in, sequence_at, with_element, with_value as with_value_at}
 use Rattle.pe_right.specs.ReadsBack.{with_cell_of, cells_in}
 
--- the frame with v in its cell, if it holds one
-abbrev pub written : Datum → Frame → Frame
-written v f = record f { binding = with_datum v f.binding }
+-- the frame with its binding changed
+abbrev pub changed : (Binding → Binding) → Frame → Frame
+changed change f = record f { binding = change f.binding }
 
--- the cell with the number and the datum
-abbrev cell_with : ℕ → Datum → Row
-cell_with n v = record { number = n; content = single v }
+-- v is written in a cell of a binding
+abbrev pub written : Which → Datum → Binding → Binding
+written own v = with_datum v
+written (element i) v = with_element i v
+
+-- the row with the number and the content
+abbrev row_with : ℕ → Content → Row
+row_with n x = record { number = n; content = x }
 
 -- the numbers of the frames fall, and all are below the bound
 abbrev pub Below : ℕ → List Frame → Type 0
@@ -128,11 +133,12 @@ frame_outside-oldest k r n fs b h e =
 
 -- ---- frames of a kind
 
-abbrev pub IsCell : Binding → Type 0
-IsCell (to_thunk t) = ⊥
-IsCell (to_cell v) = Unit {0}
-IsCell to_escape = ⊥
-IsCell (to_sequence c) = ⊥
+-- a cell or a sequence of cells
+abbrev pub IsRow : Binding → Type 0
+IsRow (to_thunk t) = ⊥
+IsRow (to_cell v) = Unit {0}
+IsRow to_escape = ⊥
+IsRow (to_sequence c) = Unit {0}
 
 abbrev pub IsEscape : Binding → Type 0
 IsEscape (to_thunk t) = ⊥
@@ -170,16 +176,16 @@ HasFrame-listed F n (f ∷ fs) (inr h) = is_listed-newer (Some n) f fs (HasFrame
 
 -- ---- marks
 
--- a frame that holds a cell or an escape
+-- a frame that holds a cell or a sequence of cells, or an escape
 pub data Mark : Type 0 where
-  a_cell : (n : ℕ) → Mark
+  a_row : (n : ℕ) → Mark
   an_escape : (n : ℕ) → Mark
 
 abbrev pub with_mark_of : ℕ → Binding → List Mark → List Mark
 with_mark_of n (to_thunk t) ms = ms
-with_mark_of n (to_cell v) ms = a_cell n ∷ ms
+with_mark_of n (to_cell v) ms = a_row n ∷ ms
 with_mark_of n to_escape ms = an_escape n ∷ ms
-with_mark_of n (to_sequence c) ms = ms
+with_mark_of n (to_sequence c) ms = a_row n ∷ ms
 
 -- the frames that hold one, the newest first
 abbrev pub marks_in : List Frame → List Mark
@@ -204,7 +210,7 @@ unmarked : (m : ℕ) (b : Binding) (ms ks : List Mark) (cs ds : List Row) → le
 unmarked m (to_thunk t) ms ks cs ds le e f = f e
 unmarked m (to_cell v) ms ks cs ds le e f = absurd (omega arith)
 unmarked m to_escape ms ks cs ds le e f = absurd (omega arith)
-unmarked m (to_sequence q) ms ks cs ds le e f = f e
+unmarked m (to_sequence q) ms ks cs ds le e f = absurd (omega arith)
 
 -- a cut that leaves all marks leaves all cells
 pub cells-kept : (n : ℕ) (fs : List Frame) → length (marks_in fs) ≡ length (marks_in (oldest n fs)) → cells_in fs ≡ cells_in (oldest n fs)
@@ -222,17 +228,20 @@ one_escape_less : (m : ℕ) (b : Binding) (i : ℕ) (ms ks : List Mark) (cs ds :
 one_escape_less m (to_thunk t) i ms ks cs ds e f g = g e
 one_escape_less m (to_cell v) i ms ks cs ds e f g = absurd cc
 one_escape_less m to_escape i ms ks cs ds e f g = let same : ms ≡ ks = cc in f (ap length same)
-one_escape_less m (to_sequence q) i ms ks cs ds e f g = g e
+one_escape_less m (to_sequence q) i ms ks cs ds e f g = absurd cc
 
-one_cell_less : (m : ℕ) (b : Binding) (i : ℕ) (ms ks : List Mark) (cs ds : List Row) → with_mark_of m b ms ≡ a_cell i ∷ ks →
-    (length ms ≡ length ks → cs ≡ ds) → (ms ≡ a_cell i ∷ ks → without_row i cs ≡ ds) → without_row i (with_cell_of m b cs) ≡ ds
+one_cell_less : (m : ℕ) (b : Binding) (i : ℕ) (ms ks : List Mark) (cs ds : List Row) → with_mark_of m b ms ≡ a_row i ∷ ks →
+    (length ms ≡ length ks → cs ≡ ds) → (ms ≡ a_row i ∷ ks → without_row i cs ≡ ds) → without_row i (with_cell_of m b cs) ≡ ds
 one_cell_less m (to_thunk t) i ms ks cs ds e f g = g e
 one_cell_less m (to_cell v) i ms ks cs ds e f g =
     let same : ms ≡ ks = cc in
     let number : m ≡ i = cc in
     rw (eq-eqb m i number) (f (ap length same))
 one_cell_less m to_escape i ms ks cs ds e f g = absurd cc
-one_cell_less m (to_sequence q) i ms ks cs ds e f g = g e
+one_cell_less m (to_sequence q) i ms ks cs ds e f g =
+    let same : ms ≡ ks = cc in
+    let number : m ≡ i = cc in
+    rw (eq-eqb m i number) (f (ap length same))
 
 -- a list isn't longer than itself
 not_longer : (m : Mark) (ms : List Mark) → ms ≡ m ∷ ms → ⊥
@@ -252,16 +261,16 @@ cells-one_escape_less n i (f ∷ fs) e =
     ]
 
 -- a cut that leaves all marks but one cell leaves the other cells
-pub cells-one_less : (n i : ℕ) (fs : List Frame) → marks_in fs ≡ a_cell i ∷ marks_in (oldest n fs) → without_row i (cells_in fs) ≡ cells_in (oldest n fs)
+pub cells-one_less : (n i : ℕ) (fs : List Frame) → marks_in fs ≡ a_row i ∷ marks_in (oldest n fs) → without_row i (cells_in fs) ≡ cells_in (oldest n fs)
 cells-one_less n i [] e = absurd cc
 cells-one_less n i (f ∷ fs) e =
     elim (cases_oldest n f fs) [
       | inl x ↦
-          let g : marks_in (f ∷ fs) ≡ a_cell i ∷ marks_in (oldest n fs) = e ∙ ap (λ (gs : List Frame). a_cell i ∷ marks_in gs) x.1 in
+          let g : marks_in (f ∷ fs) ≡ a_row i ∷ marks_in (oldest n fs) = e ∙ ap (λ (gs : List Frame). a_row i ∷ marks_in gs) x.1 in
           one_cell_less f.number f.binding i (marks_in fs) (marks_in (oldest n fs)) (cells_in fs) (cells_in (oldest n fs)) g (cells-kept n fs)
           (cells-one_less n i fs)
           ∙ sym (ap cells_in x.1)
-      | inr x ↦ absurd (not_longer (a_cell i) (marks_in (f ∷ fs)) (e ∙ ap (λ (gs : List Frame). a_cell i ∷ marks_in gs) x.1))
+      | inr x ↦ absurd (not_longer (a_row i) (marks_in (f ∷ fs)) (e ∙ ap (λ (gs : List Frame). a_row i ∷ marks_in gs) x.1))
     ]
 
 -- the mark is among those
@@ -273,7 +282,7 @@ marked-more : (k : Mark) (m : ℕ) (b : Binding) (ms : List Mark) → IsMarked k
 marked-more k m (to_thunk t) ms s = s
 marked-more k m (to_cell v) ms s = inr s
 marked-more k m to_escape ms s = inr s
-marked-more k m (to_sequence c) ms s = s
+marked-more k m (to_sequence c) ms s = inr s
 
 escape-marked : (m : ℕ) (b : Binding) (ms : List Mark) → IsEscape b → IsMarked (an_escape m) (with_mark_of m b ms)
 escape-marked m (to_thunk t) ms is = absurd is
@@ -281,219 +290,194 @@ escape-marked m (to_cell v) ms is = absurd is
 escape-marked m to_escape ms is = inl refl
 escape-marked m (to_sequence c) ms is = absurd is
 
-cell-marked : (m : ℕ) (b : Binding) (ms : List Mark) → IsCell b → IsMarked (a_cell m) (with_mark_of m b ms)
-cell-marked m (to_thunk t) ms is = absurd is
-cell-marked m (to_cell v) ms is = inl refl
-cell-marked m to_escape ms is = absurd is
-cell-marked m (to_sequence c) ms is = absurd is
-
--- a frame that holds an escape, or a cell, is among the marks
+-- a frame that holds an escape is among the marks
 pub HasFrame-escape : (n : ℕ) (fs : List Frame) → HasFrame IsEscape n fs → IsMarked (an_escape n) (marks_in fs)
 HasFrame-escape n [] h = absurd h
 HasFrame-escape n (f ∷ fs) (inl h) =
     subst (λ (m : ℕ). IsMarked (an_escape m) (marks_in (f ∷ fs))) (sym h.0) (escape-marked f.number f.binding (marks_in fs) h.1)
 HasFrame-escape n (f ∷ fs) (inr h) = marked-more (an_escape n) f.number f.binding (marks_in fs) (HasFrame-escape n fs h.1)
 
-pub HasFrame-cell : (n : ℕ) (fs : List Frame) → HasFrame IsCell n fs → IsMarked (a_cell n) (marks_in fs)
-HasFrame-cell n [] h = absurd h
-HasFrame-cell n (f ∷ fs) (inl h) =
-    subst (λ (m : ℕ). IsMarked (a_cell m) (marks_in (f ∷ fs))) (sym h.0) (cell-marked f.number f.binding (marks_in fs) h.1)
-HasFrame-cell n (f ∷ fs) (inr h) = marked-more (a_cell n) f.number f.binding (marks_in fs) (HasFrame-cell n fs h.1)
+-- ---- a binding is changed
+
+module _ (n : ℕ) (change : Binding → Binding) where
+  abbrev pub Changed : List Frame → List Frame
+  Changed fs = with_binding n change fs
+
+  pub with_binding-newer : (f : Frame) (fs : List Frame) → n ≢ f.number → Changed (f ∷ fs) ≡ f ∷ Changed fs
+  with_binding-newer f fs apart = ap (λ (t : Bool). cond t (changed change f ∷ fs) (f ∷ Changed fs)) (ne_eqb n f.number apart)
+
+  pub with_binding-here : (f : Frame) (fs : List Frame) → n ≡ f.number → Changed (f ∷ fs) ≡ changed change f ∷ fs
+  with_binding-here f fs is = ap (λ (t : Bool). cond t (changed change f ∷ fs) (f ∷ Changed fs)) (eq-eqb n f.number is)
+
+  -- where no frame has the number, nothing changes
+  pub with_binding-none : (fs : List Frame) → Below n fs → Changed fs ≡ fs
+  with_binding-none [] h = refl
+  with_binding-none (f ∷ fs) h =
+      let l = h.0 in
+      with_binding-newer f fs (λ q. omega arith)
+      ∙ ap (λ (gs : List Frame). f ∷ gs) (with_binding-none fs (Below-up fs f.number n (omega arith) h.1))
+
+  pub length-with_binding : (fs : List Frame) → length (Changed fs) ≡ length fs
+  length-with_binding [] = refl
+  length-with_binding (f ∷ fs) =
+      elim (cases_eq n f.number) [
+        | inl is ↦ ap length (with_binding-here f fs is)
+        | inr other ↦ ap length (with_binding-newer f fs other) ∙ ap suc (length-with_binding fs)
+      ]
+
+  pub Below-with_binding : (fs : List Frame) (b : ℕ) → Below b fs → Below b (Changed fs)
+  Below-with_binding [] b h = h
+  Below-with_binding (f ∷ fs) b h =
+      elim (cases_eq n f.number) [
+        | inl is ↦ subst (Below b) (sym (with_binding-here f fs is)) h
+        | inr other ↦ subst (Below b) (sym (with_binding-newer f fs other)) (h.0, Below-with_binding fs f.number h.1)
+      ]
+
+  -- a cut of what was changed is what a change leaves of the cut
+  pub oldest-with_binding : (k : ℕ) (fs : List Frame) (b : ℕ) → Below b fs → oldest k (Changed fs) ≡ Changed (oldest k fs)
+  oldest-with_binding k [] b h = refl
+  oldest-with_binding k (f ∷ fs) b h =
+      let long = length-with_binding fs in
+      elim (cases_oldest k f fs) [
+        | inl x ↦
+            let le = x.0 in
+            elim (cases_eq n f.number) [
+              | inl is ↦
+                  ap (oldest k) (with_binding-here f fs is) ∙ oldest-newer k (changed change f) fs le
+                  ∙ sym (with_binding-none (oldest k fs) (Below-oldest k fs n (Below-up fs f.number n (omega arith) h.1)))
+                  ∙ sym (ap Changed x.1)
+              | inr other ↦
+                  ap (oldest k) (with_binding-newer f fs other) ∙ oldest-newer k f (Changed fs) (omega arith)
+                  ∙ oldest-with_binding k fs f.number h.1
+                  ∙ sym (ap Changed x.1)
+            ]
+        | inr x ↦
+            let l = x.0 in
+            let longer = length-with_binding (f ∷ fs) in
+            oldest-all k (Changed (f ∷ fs)) (omega arith) ∙ sym (ap Changed x.1)
+      ]
 
 -- ---- cells
 
-pub datum_of-newer : (n : ℕ) (f : Frame) (fs : List Frame) → n ≢ f.number → datum_of n (f ∷ fs) ≡ datum_of n fs
-datum_of-newer n f fs apart = ap (λ (t : Bool). cond t (datum_in f.binding) (datum_of n fs)) (ne_eqb n f.number apart)
+-- a write changes one binding
+pub with_value-changes : (which : Which) (n : ℕ) (v : Datum) (fs : List Frame) → with_value_at which n v fs ≡ with_binding n (written which v) fs
+with_value-changes own n v fs = refl
+with_value-changes (element i) n v fs = refl
 
-pub datum_of-oldest : (F : Binding → Type 0) (n k : ℕ) (fs : List Frame) (b : ℕ) → Below b fs → HasFrame F n (oldest k fs) → datum_of n fs ≡ datum_of n (oldest k fs)
-datum_of-oldest F n k fs b h e =
-    (along_cut
-    (λ fs gs. (b : ℕ) → Below b fs → HasFrame F n gs → HasFrame F n fs × (datum_of n fs ≡ datum_of n gs))
-    (λ fs b h e. (e, refl))
-    (λ f fs gs ih b h e.
-    let x = ih f.number h.1 e in
-    let l = HasFrame-below F n fs f.number h.1 x.0 in
-    (HasFrame-newer F n f fs h.1 x.0, datum_of-newer n f fs (λ q. omega arith) ∙ x.1))
-    k fs b h e).1
+written-marks : (which : Which) (m : ℕ) (v : Datum) (b : Binding) (ms : List Mark) → with_mark_of m (written which v b) ms ≡ with_mark_of m b ms
+written-marks own m v (to_thunk t) ms = refl
+written-marks own m v (to_cell u) ms = refl
+written-marks own m v to_escape ms = refl
+written-marks own m v (to_sequence c) ms = refl
+written-marks (element i) m v (to_thunk t) ms = refl
+written-marks (element i) m v (to_cell u) ms = refl
+written-marks (element i) m v to_escape ms = refl
+written-marks (element i) m v (to_sequence c) ms = refl
 
-pub with_cell-newer : (n : ℕ) (v : Datum) (f : Frame) (fs : List Frame) → n ≢ f.number → with_cell n v (f ∷ fs) ≡ f ∷ with_cell n v fs
-with_cell-newer n v f fs apart =
-    ap (λ (t : Bool). cond t (written v f ∷ fs) (f ∷ with_cell n v fs)) (ne_eqb n f.number apart)
-
-pub with_cell-here : (n : ℕ) (v : Datum) (f : Frame) (fs : List Frame) → n ≡ f.number → with_cell n v (f ∷ fs) ≡ written v f ∷ fs
-with_cell-here n v f fs is =
-    ap (λ (t : Bool). cond t (written v f ∷ fs) (f ∷ with_cell n v fs)) (eq-eqb n f.number is)
-
--- where no frame has the number, nothing changes
-pub with_cell-none : (n : ℕ) (v : Datum) (fs : List Frame) → Below n fs → with_cell n v fs ≡ fs
-with_cell-none n v [] h = refl
-with_cell-none n v (f ∷ fs) h =
-    let l = h.0 in
-    with_cell-newer n v f fs (λ q. omega arith)
-    ∙ ap (λ (gs : List Frame). f ∷ gs) (with_cell-none n v fs (Below-up fs f.number n (omega arith) h.1))
-
-pub length-with_cell : (n : ℕ) (v : Datum) (fs : List Frame) → length (with_cell n v fs) ≡ length fs
-length-with_cell n v [] = refl
-length-with_cell n v (f ∷ fs) =
+pub marks-written : (which : Which) (n : ℕ) (v : Datum) (fs : List Frame) → marks_in (with_binding n (written which v) fs) ≡ marks_in fs
+marks-written which n v [] = refl
+marks-written which n v (f ∷ fs) =
     elim (cases_eq n f.number) [
-      | inl is ↦ ap length (with_cell-here n v f fs is)
-      | inr other ↦ ap length (with_cell-newer n v f fs other) ∙ ap suc (length-with_cell n v fs)
+      | inl is ↦ ap marks_in (with_binding-here n (written which v) f fs is) ∙ written-marks which f.number v f.binding (marks_in fs)
+      | inr other ↦ ap marks_in (with_binding-newer n (written which v) f fs other) ∙ ap (with_mark_of f.number f.binding) (marks-written which n v fs)
     ]
 
-pub Below-with_cell : (n : ℕ) (v : Datum) (fs : List Frame) (b : ℕ) → Below b fs → Below b (with_cell n v fs)
-Below-with_cell n v [] b h = h
-Below-with_cell n v (f ∷ fs) b h =
-    elim (cases_eq n f.number) [
-      | inl is ↦ subst (Below b) (sym (with_cell-here n v f fs is)) h
-      | inr other ↦ subst (Below b) (sym (with_cell-newer n v f fs other)) (h.0, Below-with_cell n v fs f.number h.1)
-    ]
+cells-written : (which : Which) (m n : ℕ) (v : Datum) (b : Binding) (cs : List Row) → n ≡ m → with_value which n v cs ≡ cs →
+    with_value which n v (with_cell_of m b cs) ≡ with_cell_of m (written which v b) cs
+cells-written own m n v (to_thunk t) cs is e = e
+cells-written own m n v (to_cell u) cs is e = rw (eq-eqb m n (sym is)) (ap (λ (k : ℕ). row_with k (single v) ∷ cs) is)
+cells-written own m n v to_escape cs is e = e
+cells-written own m n v (to_sequence q) cs is e = rw (eq-eqb m n (sym is)) (ap (λ (k : ℕ). row_with k (several q.place q.values) ∷ cs) is)
+cells-written (element i) m n v (to_thunk t) cs is e = e
+cells-written (element i) m n v (to_cell u) cs is e = rw (eq-eqb m n (sym is)) (ap (λ (k : ℕ). row_with k (single u) ∷ cs) is)
+cells-written (element i) m n v to_escape cs is e = e
+cells-written (element i) m n v (to_sequence q) cs is e =
+    rw (eq-eqb m n (sym is)) (ap (λ (k : ℕ). row_with k (several q.place (set q.values i v)) ∷ cs) is)
 
--- a cut of what was written is what a write leaves of the cut
-pub oldest-with_cell : (n : ℕ) (v : Datum) (k : ℕ) (fs : List Frame) (b : ℕ) → Below b fs → oldest k (with_cell n v fs) ≡ with_cell n v (oldest k fs)
-oldest-with_cell n v k [] b h = refl
-oldest-with_cell n v k (f ∷ fs) b h =
-    let long = length-with_cell n v fs in
-    elim (cases_oldest k f fs) [
-      | inl x ↦
-          let le = x.0 in
-          elim (cases_eq n f.number) [
-            | inl is ↦
-                ap (oldest k) (with_cell-here n v f fs is) ∙ oldest-newer k (written v f) fs le
-                ∙ sym (with_cell-none n v (oldest k fs) (Below-oldest k fs n (Below-up fs f.number n (omega arith) h.1)))
-                ∙ sym (ap (with_cell n v) x.1)
-            | inr other ↦
-                ap (oldest k) (with_cell-newer n v f fs other) ∙ oldest-newer k f (with_cell n v fs) (omega arith)
-                ∙ oldest-with_cell n v k fs f.number h.1
-                ∙ sym (ap (with_cell n v) x.1)
-          ]
-      | inr x ↦
-          let l = x.0 in
-          let longer = length-with_cell n v (f ∷ fs) in
-          oldest-all k (with_cell n v (f ∷ fs)) (omega arith) ∙ sym (ap (with_cell n v) x.1)
-    ]
-
-with_datum-marks : (m : ℕ) (v : Datum) (b : Binding) (ms : List Mark) → with_mark_of m (with_datum v b) ms ≡ with_mark_of m b ms
-with_datum-marks m v (to_thunk t) ms = refl
-with_datum-marks m v (to_cell u) ms = refl
-with_datum-marks m v to_escape ms = refl
-with_datum-marks m v (to_sequence c) ms = refl
-
-pub marks-with_cell : (n : ℕ) (v : Datum) (fs : List Frame) → marks_in (with_cell n v fs) ≡ marks_in fs
-marks-with_cell n v [] = refl
-marks-with_cell n v (f ∷ fs) =
-    elim (cases_eq n f.number) [
-      | inl is ↦ ap marks_in (with_cell-here n v f fs is) ∙ with_datum-marks f.number v f.binding (marks_in fs)
-      | inr other ↦ ap marks_in (with_cell-newer n v f fs other) ∙ ap (with_mark_of f.number f.binding) (marks-with_cell n v fs)
-    ]
-
-cells-written : (m n : ℕ) (v : Datum) (b : Binding) (cs : List Row) → n ≡ m → with_value own n v cs ≡ cs →
-    with_value own n v (with_cell_of m b cs) ≡ with_cell_of m (with_datum v b) cs
-cells-written m n v (to_thunk t) cs is e = e
-cells-written m n v (to_cell u) cs is e = rw (eq-eqb m n (sym is)) (ap (λ (k : ℕ). cell_with k v ∷ cs) is)
-cells-written m n v to_escape cs is e = e
-cells-written m n v (to_sequence q) cs is e = e
-
-cells-apart : (m n : ℕ) (v : Datum) (b : Binding) (cs ds : List Row) → n ≢ m → with_value own n v cs ≡ ds →
-    with_value own n v (with_cell_of m b cs) ≡ with_cell_of m b ds
-cells-apart m n v (to_thunk t) cs ds apart e = e
-cells-apart m n v (to_cell u) cs ds apart e =
-    rw (ne_eqb m n (λ q. apart (sym q))) (ap (λ (xs : List Row). cell_with m u ∷ xs) e)
-cells-apart m n v to_escape cs ds apart e = e
-cells-apart m n v (to_sequence q) cs ds apart e = e
+cells-apart : (which : Which) (m n : ℕ) (v : Datum) (b : Binding) (cs ds : List Row) → n ≢ m → with_value which n v cs ≡ ds →
+    with_value which n v (with_cell_of m b cs) ≡ with_cell_of m b ds
+cells-apart which m n v (to_thunk t) cs ds apart e = e
+cells-apart which m n v (to_cell u) cs ds apart e =
+    rw (ne_eqb m n (λ q. apart (sym q))) (ap (λ (xs : List Row). row_with m (single u) ∷ xs) e)
+cells-apart which m n v to_escape cs ds apart e = e
+cells-apart which m n v (to_sequence q) cs ds apart e =
+    rw (ne_eqb m n (λ p. apart (sym p))) (ap (λ (xs : List Row). row_with m (several q.place q.values) ∷ xs) e)
 
 -- where no frame has the number, the store has no such cell
-pub with_value-none : (n : ℕ) (v : Datum) (fs : List Frame) → Below n fs → with_value own n v (cells_in fs) ≡ cells_in fs
-with_value-none n v [] h = refl
-with_value-none n v (f ∷ fs) h =
+pub with_value-none : (which : Which) (n : ℕ) (v : Datum) (fs : List Frame) → Below n fs → with_value which n v (cells_in fs) ≡ cells_in fs
+with_value-none which n v [] h = refl
+with_value-none which n v (f ∷ fs) h =
     let l = h.0 in
-    cells-apart f.number n v f.binding (cells_in fs) (cells_in fs) (λ q. omega arith)
-    (with_value-none n v fs (Below-up fs f.number n (omega arith) h.1))
+    cells-apart which f.number n v f.binding (cells_in fs) (cells_in fs) (λ q. omega arith)
+    (with_value-none which n v fs (Below-up fs f.number n (omega arith) h.1))
 
 -- a write to a frame is one to the store
-pub cells-with_cell : (n : ℕ) (v : Datum) (fs : List Frame) (b : ℕ) → Below b fs → with_value own n v (cells_in fs) ≡ cells_in (with_cell n v fs)
-cells-with_cell n v [] b h = refl
-cells-with_cell n v (f ∷ fs) b h =
+pub cells-changed : (which : Which) (n : ℕ) (v : Datum) (fs : List Frame) (b : ℕ) → Below b fs →
+    with_value which n v (cells_in fs) ≡ cells_in (with_binding n (written which v) fs)
+cells-changed which n v [] b h = refl
+cells-changed which n v (f ∷ fs) b h =
     elim (cases_eq n f.number) [
       | inl is ↦
-          cells-written f.number n v f.binding (cells_in fs) is (with_value-none n v fs (Below-up fs f.number n (omega arith) h.1))
-          ∙ sym (ap cells_in (with_cell-here n v f fs is))
+          cells-written which f.number n v f.binding (cells_in fs) is (with_value-none which n v fs (Below-up fs f.number n (omega arith) h.1))
+          ∙ sym (ap cells_in (with_binding-here n (written which v) f fs is))
       | inr other ↦
-          cells-apart f.number n v f.binding (cells_in fs) (cells_in (with_cell n v fs)) other (cells-with_cell n v fs f.number h.1)
-          ∙ sym (ap cells_in (with_cell-newer n v f fs other))
+          cells-apart which f.number n v f.binding (cells_in fs) (cells_in (with_binding n (written which v) fs)) other (cells-changed which n v fs f.number h.1)
+          ∙ sym (ap cells_in (with_binding-newer n (written which v) f fs other))
     ]
 
--- the name of a frame stays
-pub is_listed-with_cell : (r : Option ℕ) (n : ℕ) (v : Datum) (fs : List Frame) → is_listed r (with_cell n v fs) ≡ is_listed r fs
-is_listed-with_cell r n v [] = refl
-is_listed-with_cell r n v (f ∷ fs) =
-    elim (cases_eq n f.number) [
-      | inl is ↦ ap (is_listed r) (with_cell-here n v f fs is)
-      | inr other ↦
-          ap (is_listed r) (with_cell-newer n v f fs other)
-          ∙ ap (λ (t : Bool). cond (is_named r f.number) true t) (is_listed-with_cell r n v fs)
-    ]
+pub IsEscape-written : (which : Which) (v : Datum) (b : Binding) → IsEscape b → IsEscape (written which v b)
+IsEscape-written which v (to_thunk t) is = absurd is
+IsEscape-written which v (to_cell u) is = absurd is
+IsEscape-written own v to_escape is = is
+IsEscape-written (element i) v to_escape is = is
+IsEscape-written which v (to_sequence c) is = absurd is
 
-HasFrame-written : (F : Binding → Type 0) (n : ℕ) (v : Datum) (f : Frame) (fs : List Frame) → ((b : Binding) → F b → F (with_datum v b)) →
-    HasFrame F n (f ∷ fs) → HasFrame F n (written v f ∷ fs)
-HasFrame-written F n v f fs keep (inl h) = inl (h.0, keep f.binding h.1)
-HasFrame-written F n v f fs keep (inr h) = inr h
+-- ---- a frame that holds a cell or a sequence of cells is found on both sides
 
-HasFrame-behind : (F : Binding → Type 0) (n : ℕ) (f : Frame) (fs gs : List Frame) → (HasFrame F n fs → HasFrame F n gs) →
-    HasFrame F n (f ∷ fs) → HasFrame F n (f ∷ gs)
-HasFrame-behind F n f fs gs go (inl h) = inl h
-HasFrame-behind F n f fs gs go (inr h) = inr (h.0, go h.1)
+datum_of-newer : (n : ℕ) (f : Frame) (fs : List Frame) → n ≢ f.number → datum_of n (f ∷ fs) ≡ datum_of n fs
+datum_of-newer n f fs apart = ap (λ (t : Bool). cond t (datum_in f.binding) (datum_of n fs)) (ne_eqb n f.number apart)
 
--- what a write keeps of a binding is kept of the frames
-pub HasFrame-with_cell : (F : Binding → Type 0) (n m : ℕ) (v : Datum) (fs : List Frame) → ((b : Binding) → F b → F (with_datum v b)) →
-    HasFrame F n fs → HasFrame F n (with_cell m v fs)
-HasFrame-with_cell F n m v [] keep h = h
-HasFrame-with_cell F n m v (f ∷ fs) keep h =
-    elim (cases_eq m f.number) [
-      | inl is ↦ subst (HasFrame F n) (sym (with_cell-here m v f fs is)) (HasFrame-written F n v f fs keep h)
-      | inr other ↦ subst (HasFrame F n) (sym (with_cell-newer m v f fs other)) (HasFrame-behind F n f fs (with_cell m v fs) (HasFrame-with_cell F n m v fs keep) h)
-    ]
+pub sequence_at-newer : (n : ℕ) (f : Frame) (fs : List Frame) → n ≢ f.number → sequence_at n (f ∷ fs) ≡ sequence_at n fs
+sequence_at-newer n f fs apart = ap (λ (t : Bool). cond t (sequence_in f.binding) (sequence_at n fs)) (ne_eqb n f.number apart)
 
-pub IsCell-with_datum : (v : Datum) (b : Binding) → IsCell b → IsCell (with_datum v b)
-IsCell-with_datum v (to_thunk t) is = is
-IsCell-with_datum v (to_cell u) is = is
-IsCell-with_datum v to_escape is = is
-IsCell-with_datum v (to_sequence c) is = is
+-- what the store holds for a binding
+abbrev pub content_in : Binding → Option Content
+content_in (to_thunk t) = None
+content_in (to_cell v) = Some (single v)
+content_in to_escape = None
+content_in (to_sequence c) = Some (several c.place c.values)
 
-pub IsEscape-with_datum : (v : Datum) (b : Binding) → IsEscape b → IsEscape (with_datum v b)
-IsEscape-with_datum v (to_thunk t) is = is
-IsEscape-with_datum v (to_cell u) is = is
-IsEscape-with_datum v to_escape is = is
-IsEscape-with_datum v (to_sequence c) is = is
+pub content-apart : (n m : ℕ) (b : Binding) (cs : List Row) → n ≢ m → content_of n (with_cell_of m b cs) ≡ content_of n cs
+content-apart n m (to_thunk t) cs apart = refl
+content-apart n m (to_cell v) cs apart = ap (λ (t : Bool). cond t (Some (single v)) (content_of n cs)) (ne_eqb m n (λ q. apart (sym q)))
+content-apart n m to_escape cs apart = refl
+content-apart n m (to_sequence c) cs apart =
+    ap (λ (t : Bool). cond t (Some (several c.place c.values)) (content_of n cs)) (ne_eqb m n (λ q. apart (sym q)))
 
--- the datum in a binding, which is a cell
-cell_datum : (b : Binding) → IsCell b → (v : Datum) × (b ≡ to_cell v)
-cell_datum (to_thunk t) is = absurd is
-cell_datum (to_cell v) is = (v, refl)
-cell_datum to_escape is = absurd is
-cell_datum (to_sequence c) is = absurd is
+pub content-here : (n m : ℕ) (b : Binding) (cs : List Row) → n ≡ m → IsRow b → content_of n (with_cell_of m b cs) ≡ content_in b
+content-here n m (to_thunk t) cs e is = absurd is
+content-here n m (to_cell v) cs e is = ap (λ (t : Bool). cond t (Some (single v)) (content_of n cs)) (eq-eqb m n (sym e))
+content-here n m to_escape cs e is = absurd is
+content-here n m (to_sequence c) cs e is =
+    ap (λ (t : Bool). cond t (Some (several c.place c.values)) (content_of n cs)) (eq-eqb m n (sym e))
 
-value_of-apart : (n m : ℕ) (b : Binding) (cs : List Row) → n ≢ m → value_of own n (with_cell_of m b cs) ≡ value_of own n cs
-value_of-apart n m (to_thunk t) cs apart = refl
-value_of-apart n m (to_cell v) cs apart = ap (λ (t : Bool). value_in own (cond t (Some (single v)) (content_of n cs))) (ne_eqb m n (λ q. apart (sym q)))
-value_of-apart n m to_escape cs apart = refl
-value_of-apart n m (to_sequence q) cs apart = refl
-
-value_of-here : (n m : ℕ) (b : Binding) (v : Datum) (cs : List Row) → n ≡ m → b ≡ to_cell v → value_of own n (with_cell_of m b cs) ≡ Some v
-value_of-here n m b v cs is e =
-    ap (λ (c : Binding). value_of own n (with_cell_of m c cs)) e ∙ ap (λ (t : Bool). value_in own (cond t (Some (single v)) (content_of n cs))) (eq-eqb m n (sym is))
-
--- a frame that holds a cell is found on both sides; F says more of the datum
-pub cell-found : (F : Binding → Type 0) (n : ℕ) (fs : List Frame) → ((b : Binding) → F b → IsCell b) → HasFrame F n fs →
-    (v : Datum) × F (to_cell v) × (datum_of n fs ≡ Some v) × (value_of own n (cells_in fs) ≡ Some v)
-cell-found F n [] is h = absurd h
-cell-found F n (f ∷ fs) is (inl h) =
-    let x = cell_datum f.binding (is f.binding h.1) in (
+-- F says more of the binding
+pub row-found : (F : Binding → Type 0) (n : ℕ) (fs : List Frame) → ((b : Binding) → F b → IsRow b) → HasFrame F n fs →
+    (b : Binding) × F b × (datum_of n fs ≡ datum_in b) × (sequence_at n fs ≡ sequence_in b) × (content_of n (cells_in fs) ≡ content_in b)
+row-found F n [] is h = absurd h
+row-found F n (f ∷ fs) is (inl h) = (
+  f.binding,
+  h.1,
+  ap (λ (t : Bool). cond t (datum_in f.binding) (datum_of n fs)) (eq-eqb n f.number h.0),
+  ap (λ (t : Bool). cond t (sequence_in f.binding) (sequence_at n fs)) (eq-eqb n f.number h.0),
+  content-here n f.number f.binding (cells_in fs) h.0 (is f.binding h.1),
+)
+row-found F n (f ∷ fs) is (inr h) =
+    let x = row-found F n fs is h.1 in
+    let l = h.0 in (
       x.0,
-      subst F x.1 h.1,
-      ap (λ (t : Bool). cond t (datum_in f.binding) (datum_of n fs)) (eq-eqb n f.number h.0) ∙ ap datum_in x.1,
-      value_of-here n f.number f.binding x.0 (cells_in fs) h.0 x.1,
+      x.1,
+      datum_of-newer n f fs (λ q. omega arith) ∙ x.2,
+      sequence_at-newer n f fs (λ q. omega arith) ∙ x.3,
+      content-apart n f.number f.binding (cells_in fs) (λ q. omega arith) ∙ x.4,
     )
-cell-found F n (f ∷ fs) is (inr h) =
-    let x = cell-found F n fs is h.1 in
-    let l = h.0 in
-    (x.0, x.1, datum_of-newer n f fs (λ q. omega arith) ∙ x.2, value_of-apart n f.number f.binding (cells_in fs) (λ q. omega arith) ∙ x.3)

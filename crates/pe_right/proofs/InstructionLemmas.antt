@@ -1,4 +1,4 @@
--- An instruction is executed: what the code stands for takes as many steps as merges lie above the form, and one more.
+-- An instruction is executed: what the code stands for takes as many steps as merges lie above the form, and one more, or two where a sequence takes an index.
 use Rattle.std.proofs.Common.{ℕ, suc, ◌+◌, ◌<◌, ◌≤◌, ◌≡◌, ◌⊎◌, List, ◌∷◌, length, Option, Some, None, refl, sym, ap, ◌∙◌, subst, inl, inr, arith}
 use Rattle.fy_base.specs.declared.data.Place.{Place}
 use Rattle.fy_base.specs.declared.data.Datum.{Datum}
@@ -10,8 +10,8 @@ use Rattle.fy_phrase.specs.declared.phrase.MarkKind.TheVariants as marks
 use Rattle.fy_phrase.specs.Tree.{Tree, Trees, var, lit, unary, binary, cond as conditional, case, lam, app, field, sel, merge, let_in, rec, skip, seq, assign, while_do, forever, new, cells, escape, accept, put, read, mark}
 use Rattle.fy_phrase.specs.Sizes.{nodes}
 use Rattle.fy_phrase.specs.WellMade.{IsClosedUnder, AreClosedUnder, HasDepthsUnder, HaveDepthsUnder}
-use Rattle.fy_phrase.specs.Contexts.{CopyContext, op_1, op_l, if_c, case_c, arg_c, pick_c, then_c, assign_c, store_c, while_c, loop_c, new_c, put_c, esc_c}
-use Rattle.fy_phrase.specs.Copy.{CopyState, CopyMove, copy_step, demanded, byte_or_end}
+use Rattle.fy_phrase.specs.Contexts.{CopyContext, op_1, op_l, if_c, case_c, arg_c, pick_c, then_c, assign_c, store_c, while_c, loop_c, new_c, cells_c, put_c, esc_c}
+use Rattle.fy_phrase.specs.Copy.{CopyState, CopyMove, copy_step, byte_or_end}
 use Rattle.fy_phrase.specs.Copy as copy
 use Rattle.fy_derive.specs.Atoms.{data_atom, acceptor_atom, datum_atom, operand_atom, unary_atom, binary_atom, put_atom}
 use Rattle.fy_derive.specs.Shapes.{PlainShape, at_end, a_call, a_field, a_value, an_assignment, a_run, erase}
@@ -29,7 +29,7 @@ use Rattle.pe_right.proofs.Demanding.{EachAnswers}
 use Rattle.pe_right.proofs.ClosingLemmas.{closed_with-more, closed_by-var, kind-closed}
 use Rattle.pe_right.proofs.FrameLemmas.{Below, oldest-itself, marks_in}
 use Rattle.pe_right.proofs.AnswerLemmas.{erase-below, run-up, data-erase, acceptor-erase, operand-erase, put-erase, run-erase, in_scope, answers-above, merge-left, merge-right, begins-shape}
-use Rattle.pe_right.proofs.Invariants.{Compiled, Above, marked, rank_of, Answered, IsNode, FramesAnswer, ThunkAnswers, CodeAnswers, EachCodeAnswers, ContextTakes, unary_operand, left_operand, condition, index, procedure, selected, first_command, assigned_value, acceptor, loop_test, endless_body, first_value, put_datum, escape_body, Behind}
+use Rattle.pe_right.proofs.Invariants.{Compiled, IndexKnown, Above, marked, rank_of, Answered, IsNode, FramesAnswer, ThunkAnswers, CodeAnswers, EachCodeAnswers, ContextTakes, unary_operand, left_operand, condition, index, procedure, selected, first_command, assigned_value, acceptor, loop_test, endless_body, first_value, cells_wanted, put_datum, escape_body, Behind}
 use Rattle.pe_right.proofs.ConstantLemmas.{constant-value, value-closed, value-path}
 use Rattle.pe_right.proofs.Merges.{merges, value-merges}
 use Rattle.pe_right.proofs.NodeLemmas.{constant-spare, part, body}
@@ -60,6 +60,10 @@ module _ (g : Compiled) where
   pair-above : (k : ℕ) {D : PlainPaths} {R : PlainPath} → HasBelow D R → EachPath (λ Q. HasPairOf g.table k (erase Q)) D → HasPairOf g.table k (erase R)
   pair-above k (here low) each = subst (λ (t : PlainShape). HasPairOf g.table k t) (erase-below low) each.0
   pair-above k (there some) each = pair-above k some each.1
+
+  -- a part that is entered as a value tells the number of its shape
+  index-known : (a j : ℕ) → Enters g.table g.code j (at_end a_value) a → IndexKnown g
+  index-known a j en = (en.0, (g.right.sequences.value en.0).1 en.1)
 
   module _ (s : PeState) (at_here : Pointer) (qs : List Tree) (G : List PlainPaths) (env : FramesAnswer g s.frames at_here.frame qs G) where
     abbrev pub At : ℕ → ℕ → CopyState → Type 0
@@ -184,10 +188,10 @@ module _ (g : Compiled) where
     merge-followed : (p q : Tree) (at : Place) (k : ℕ) (P : PlainPath) (c : CopyState) → IsNode g (length G) k (merge p q at) → Answered g G k (merge p q at) P →
         IsRightAt g.handed g.table g.code (length G) k (merge p q at) (erase P) at_here.address → c.focus ≡ closed_by 0 qs (merge p q at) → Behind g s c P →
         ((j : ℕ) (d : CopyState) → IsNode g (length G) j p → Answered g G j p P → Enters g.table g.code j (erase P) at_here.address → d.focus ≡ closed_by 0 qs p →
-        Behind g s d P → At (rank_of p) (suc (merges p)) d) →
+        Behind g s d P → At (rank_of p) (suc (suc (merges p))) d) →
         ((j : ℕ) (d : CopyState) → IsNode g (length G) j q → Answered g G j q P → Enters g.table g.code j (erase P) at_here.address → d.focus ≡ closed_by 0 qs q →
-        Behind g s d P → At (rank_of q) (suc (merges q)) d) →
-        At 0 (suc (merges (merge p q at))) c
+        Behind g s d P → At (rank_of q) (suc (suc (merges q))) d) →
+        At 0 (suc (suc (merges (merge p q at)))) c
     merge-followed p q at k P c n a (kind, is, inl (b, en)) f w left right =
         moves-weaker g {r = 0} (omega arith) (omega arith)
         (earlier g
@@ -229,13 +233,13 @@ module _ (g : Compiled) where
         )
 
     pub executed-followed : (node : Tree) (k : ℕ) (P : PlainPath) (c : CopyState) → IsNode g (length G) k node → Answered g G k node P → Enters g.table g.code k (erase P) at_here.address →
-        c.focus ≡ closed_by 0 qs node → Behind g s c P → At (rank_of node) (suc (merges node)) c
+        c.focus ≡ closed_by 0 qs node → Behind g s c P → At (rank_of node) (suc (suc (merges node))) c
     executed-followed (var j at) k P c n a e f w =
         let it : Item k (var j at) P = g.right.right (length G) k at_here.address (var j at) (erase P) n.stands e in
         let v = insn-is g.handed g.table g.code it.2.insn in
         let x = variable-found g s.frames s.next j at_here.frame qs G at w.2 env (in_scope G j P a.1) in
         executes it.0 (insn.UseVar j v.0) it.0.depth it.0.place it.1 v.2 refl refl
-        (subst (λ (o : Option Frame). MovesIn g (extra g) 2 1 c (with_variable o (λ t. entered g.code v.0 t s))) (sym x.1)
+        (subst (λ (o : Option Frame). MovesIn g (extra g) 2 2 c (with_variable o (λ t. entered g.code v.0 t s))) (sym x.1)
         (entered-followed g (handed_on x.0.number x.0.binding) (phrase_at qs j at) (paths_at G j) v.0 P s c v.1 a.1 x.2 (f ∙ closed_by-var qs j at) w))
     executed-followed (lit u at) k P c n a e f w =
         let it : Item k (lit u at) P = g.right.right (length G) k at_here.address (lit u at) (erase P) n.stands e in
@@ -295,7 +299,7 @@ module _ (g : Compiled) where
         let it : Item k (app p q at) P = g.right.right (length G) k at_here.address (app p q at) (erase P) n.stands e in
         let v = insn-is g.handed g.table g.code it.2.insn in
         executes it.0 it.0.insn it.0.depth at it.1 refl refl it.2.place
-        (app-followed p q at k v.0 it.0.insn it.0.depth (suc (merges (app p q at))) a.1.0 P c n v.2 a.1.1 a.1.2 v.1 f w (omega arith))
+        (app-followed p q at k v.0 it.0.insn it.0.depth (suc (suc (merges (app p q at)))) a.1.0 P c n v.2 a.1.1 a.1.2 v.1 f w (omega arith))
     executed-followed (field i p at) k P c n a e f w =
         let it : Item k (field i p at) P = g.right.right (length G) k at_here.address (field i p at) (erase P) n.stands e in
         let v = insn-is g.handed g.table g.code it.2.insn in
@@ -321,7 +325,7 @@ module _ (g : Compiled) where
         let it : Item k (let_in d p b at) P = g.right.right (length G) k at_here.address (let_in d p b at) (erase P) n.stands e in
         let v = insn-is g.handed g.table g.code it.2.insn in
         executes it.0 it.0.insn d at it.1 refl (it.2.depth ∙ sym n.depths.0) it.2.place
-        (let-followed d p b at k v.0 it.0.insn (suc (merges (let_in d p b at))) a.1.0 P c n v.2 a.1.1 a.1.2 v.1 f w (omega arith))
+        (let-followed d p b at k v.0 it.0.insn (suc (suc (merges (let_in d p b at)))) a.1.0 P c n v.2 a.1.1 a.1.2 v.1 f w (omega arith))
     executed-followed (rec d A b at) k P c n a e f w =
         let it : Item k (rec d A b at) P = g.right.right (length G) k at_here.address (rec d A b at) (erase P) n.stands e in
         let v = insn-is g.handed g.table g.code it.2.insn in
@@ -391,7 +395,7 @@ module _ (g : Compiled) where
         let it : Item k (escape d b at) P = g.right.right (length G) k at_here.address (escape d b at) (erase P) n.stands e in
         let v = insn-is g.handed g.table g.code it.2.insn in
         executes it.0 (insn.Escape v.0) d it.0.place it.1 v.2 (it.2.depth ∙ sym n.depths.0) refl
-        (escape-followed d v.0 b at (k + 1) c (suc (merges (escape d b at))) (body g n (in_first itself) n.closed n.depths.1) a.2 v.1
+        (escape-followed d v.0 b at (k + 1) c (suc (suc (merges (escape d b at)))) (body g n (in_first itself) n.closed n.depths.1) a.2 v.1
         (focus-step c (escape d (closed_by 1 qs b) at) f) (subst (λ (R : PlainPath). Behind g s c R) a.1 w) (omega arith))
     executed-followed (accept d D b at) k P c n a e f w =
         let it : Item k (accept d D b at) P = g.right.right (length G) k at_here.address (accept d D b at) (erase P) n.stands e in
@@ -416,5 +420,22 @@ module _ (g : Compiled) where
         (takes_byte (λ byte. copy.focus_on (closed_by 0 qs p) (copy.push (store_c (byte_or_end byte)) c)) no_step (omega arith) (focus-step c (read (closed_by 0 qs p) at) f)
         (λ byte. pushed-simulates g s c (end atoms.IntAcc) (end atoms.Comm) (store_c (byte_or_end byte)) (store_c (byte_or_end byte)) (Here v.0) (closed_by 0 qs p) refl h
         (acceptor data_type.Int (byte-typed byte)) (subst (λ (R : PlainPath). Behind g s c R) a.1 w)))
-    executed-followed (cells d i b at) k P c n a e f w = absurd a
+    executed-followed (cells d i b at) k P c n a e f w =
+        let it : Item k (cells d i b at) P = g.right.right (length G) k at_here.address (cells d i b at) (erase P) n.stands e in
+        let v = insn-is g.handed g.table g.code it.2.insn in
+        executes it.0 (insn.Cells v.0 v.1) d at it.1 v.4 (it.2.depth ∙ sym n.depths.0) it.2.place
+        (starts c v.0 (closed_by 0 qs i) (end atoms.Int) P (cells_c d (Here v.1) at) (cells_c d (closed_by 1 qs b) at) (omega arith) refl
+        (focus-step c (cells d (closed_by 0 qs i) (closed_by 1 qs b) at) f)
+        (code-as v.0 (k + 1) i (end atoms.Int) (at_end a_value) refl (part g n (in_first itself) n.closed.0 n.depths.1) a.2 v.2)
+        (cells_wanted a.1 (index-known v.0 (k + 1) v.2) (
+          k + 1 + nodes i,
+          b,
+          qs,
+          G,
+          body g n (in_later (in_first itself)) n.closed.1 n.depths.2,
+          a.3,
+          subst (λ (t : PlainShape). Enters g.table g.code (k + 1 + nodes i) t v.1) (sym (run-erase a.1)) v.3,
+          env,
+          refl,
+        )) w)
     executed-followed (mark m at) k P c n a e f w = absurd a

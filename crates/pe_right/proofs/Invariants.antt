@@ -1,29 +1,33 @@
 -- What stands between a state of the machine and one of the copy rule: each focus answers a path, each context takes one and gives one, and both are read in the frames that they keep.
-use Rattle.std.proofs.Common.{ℕ, suc, ◌+◌, ◌≤◌, ◌≡◌, ◌⊎◌, true, false, List, [], ◌∷◌, length, Option, Some, None}
+use Rattle.std.proofs.Common.{ℕ, suc, ◌+◌, ◌<◌, ◌≤◌, ◌≡◌, ◌⊎◌, Bool, true, false, List, [], ◌∷◌, length, replicate, Option, Some, None, pos}
 use Rattle.fy_base.specs.declared.data.Place.{Place}
 use Rattle.fy_base.specs.declared.data.Datum.{Datum}
+use Rattle.fy_base.specs.declared.data.Datum.TheVariants as datum_kind
 use Rattle.fy_base.specs.declared.data.UnOp.{UnOp}
 use Rattle.fy_base.specs.declared.data.BinOp.{BinOp}
 use Rattle.fy_base.specs.declared.data.PutKind.{PutKind}
+use Rattle.fy_types.specs.declared.types.Atom.{Atom}
 use Rattle.fy_types.specs.declared.types.Atom.TheVariants as atoms
 use Rattle.fy_types.specs.Paths.{PlainPath, PlainPaths, end, call, pick, paths}
 use Rattle.fy_types.specs.PathOrder.{HasBelow}
 use Rattle.fy_phrase.specs.declared.phrase.DataTy.{DataTy}
+use Rattle.fy_phrase.specs.declared.phrase.DataTy.TheVariants as data_type
 use Rattle.fy_phrase.specs.declared.phrase.MarkKind.TheVariants as marks
 use Rattle.fy_phrase.specs.declared.shapes.ShapeTable.{ShapeTable}
 use Rattle.fy_phrase.specs.Tree.{Tree, Trees, no_trees, and_tree, var, lit, skip, mark}
 use Rattle.fy_phrase.specs.Sizes.{nodes}
 use Rattle.fy_phrase.specs.WellMade.{IsClosed, IsClosedUnder, HasDepths, HasDepthsUnder}
 use Rattle.fy_phrase.specs.Contexts.{CopyContext, op_1, op_l, op_r, if_c, case_c, arg_c, pick_c, then_c, assign_c, store_c, while_c, body_c, loop_c, new_c, drop_c, put_c, esc_c, cells_c, fill_c, element_c, Pushed}
-use Rattle.fy_phrase.specs.Copy.{CopyState}
-use Rattle.fy_derive.specs.Atoms.{data_atom, acceptor_atom, cell_type, datum_atom, operand_atom, unary_atom, takes, binary_atom, put_atom}
+use Rattle.fy_phrase.specs.Copy.{several, Which, own, element, CopyState}
+use Rattle.fy_derive.specs.Atoms.{data_atom, acceptor_atom, cell_type, sequence_type, datum_atom, operand_atom, unary_atom, takes, binary_atom, put_atom}
 use Rattle.fy_derive.specs.Shapes.{erase}
 use Rattle.fy_derive.specs.ShapeTables.{HasPairOf}
 use Rattle.fy_derive.proofs.PathTyping.{IsRun}
+use Rattle.fy_derive.proofs.StateTyping.{AreInts}
 use Rattle.pe_code.specs.declared.code.PeItem.{PeItem}
 use Rattle.pe_code.specs.declared.code.PeCode.{PeCode}
 use Rattle.pe_code.specs.Code.{item_at, picked_from}
-use Rattle.pe_machine.specs.States.{Pointer, Thunk, source, datum, cell_of, jump_of, sequence_of, Binding, to_thunk, to_cell, to_escape, to_sequence, Frame, Focus, code_at, value, completed, PeContext, Held, PeState, oldest, is_named}
+use Rattle.pe_machine.specs.States.{Pointer, Thunk, source, datum, cell_of, jump_of, sequence_of, Binding, to_thunk, to_cell, to_escape, to_sequence, Frame, Focus, code_at, value, completed, Wanted, PeContext, Held, PeState, oldest, is_named}
 use Rattle.pe_right.specs.Closing.{closed_by}
 use Rattle.pe_right.specs.Constants.{constant}
 use Rattle.pe_right.specs.Right.{IsNodeUnder, is_variable, Enters, IsCodeOf}
@@ -31,7 +35,7 @@ use Rattle.pe_right.specs.Typed.{IsTableOf}
 use Rattle.pe_right.specs.ReadsBack.{cells_in}
 use Rattle.pe_right.proofs.Merges.{spare}
 use Rattle.pe_right.proofs.Demanding.{Answers}
-use Rattle.pe_right.proofs.FrameLemmas.{Below, HasFrame, IsEscape, Mark, a_cell, an_escape, marks_in}
+use Rattle.pe_right.proofs.FrameLemmas.{Below, HasFrame, IsEscape, Mark, a_row, an_escape, marks_in}
 
 -- a closed phrase, the table of an accepted derivation, the data of constants that are known, and code that is right for these
 pub record Compiled : Type 0 where
@@ -49,22 +53,47 @@ pub record Compiled : Type 0 where
 abbrev pub Above : PlainPaths → (PlainPath → Type 0) → Type 0
 Above D F = (P : PlainPath) → HasBelow D P → F P
 
--- the binding is a cell with a datum of the type
-abbrev pub HoldsDatum : DataTy → Binding → Type 0
-HoldsDatum X (to_thunk t) = ⊥
-HoldsDatum X (to_cell v) = datum_atom v ≡ data_atom X
-HoldsDatum X to_escape = ⊥
-HoldsDatum X (to_sequence c) = ⊥
+-- the cell of a variable has a datum of the type
+abbrev pub OwnHolds : Which → DataTy → Datum → Type 0
+OwnHolds own X v = datum_atom v ≡ data_atom X
+OwnHolds (element i) X v = ⊥
 
-abbrev pub HasCell : DataTy → ℕ → List Frame → Type 0
-HasCell X n fs = HasFrame (λ b. HoldsDatum X b) n fs
+-- the cells of a sequence have integers
+abbrev pub ElementHolds : Which → DataTy → List Datum → Type 0
+ElementHolds own X vs = ⊥
+ElementHolds (element i) X vs = (i < length vs) × AreInts vs × (data_type.Int ≡ X)
+
+-- the binding has the cell, with a datum of the type
+abbrev pub HoldsDatum : Which → DataTy → Binding → Type 0
+HoldsDatum which X (to_thunk t) = ⊥
+HoldsDatum which X (to_cell v) = OwnHolds which X v
+HoldsDatum which X to_escape = ⊥
+HoldsDatum which X (to_sequence c) = ElementHolds which X c.values
+
+abbrev pub HasCell : Which → DataTy → ℕ → List Frame → Type 0
+HasCell which X n fs = HasFrame (λ b. HoldsDatum which X b) n fs
+
+-- the binding is a sequence of cells
+abbrev pub HoldsInts : Binding → Type 0
+HoldsInts (to_thunk t) = ⊥
+HoldsInts (to_cell v) = ⊥
+HoldsInts to_escape = ⊥
+HoldsInts (to_sequence c) = AreInts c.values
+
+abbrev pub HasSequence : ℕ → List Frame → Type 0
+HasSequence n fs = HasFrame (λ b. HoldsInts b) n fs
+
+-- how a cell that is wanted is used
+abbrev pub wanted_atom : Bool → Atom
+wanted_atom true = atoms.IntAcc
+wanted_atom false = atoms.Int
 
 abbrev pub HasEscape : ℕ → List Frame → Type 0
 HasEscape n fs = HasFrame (λ b. IsEscape b) n fs
 
 -- the marks with the context's own in front
 abbrev pub marked : PeContext → List Mark → List Mark
-marked (drop_c n) ms = a_cell n ∷ ms
+marked (drop_c n) ms = a_row n ∷ ms
 marked (esc_c n) ms = an_escape n ∷ ms
 marked (op_1 op at) ms = ms
 marked (op_l op c at) ms = ms
@@ -102,6 +131,10 @@ module _ (g : Compiled) where
     pub closed : IsClosedUnder d q
     pub depths : HasDepthsUnder d q
 
+  -- the shape of an index has a number
+  abbrev pub IndexKnown : Type 0
+  IndexKnown = (n : ℕ) × (g.code.sequences.value ≡ Some n)
+
   -- ---- frames
 
   -- a thunk stands for a phrase that answers the paths D; E says what frames stand for
@@ -112,16 +145,18 @@ module _ (g : Compiled) where
   ThunkAnswersIn E fs (datum v) q D =
       (constant q ≡ Some v) × (nodes q ≤ spare g.phrase + 1) × Above D (λ P. P ≡ end (datum_atom v)) × (((at : Place) × (q ≡ lit v at)) ⊎ (g.handed q ≡ Some v))
   ThunkAnswersIn E fs (cell_of n) q D =
-      (at : Place) × (X : DataTy) × (q ≡ mark (marks.Cell n) at) × HasCell X n fs × Above D (λ P. HasBelow (paths (cell_type X)) P)
+      (at : Place) × (X : DataTy) × (q ≡ mark (marks.Cell n) at) × HasCell own X n fs × Above D (λ P. HasBelow (paths (cell_type X)) P)
   ThunkAnswersIn E fs (jump_of n) q D = (at : Place) × (q ≡ mark (marks.Jump n) at) × HasEscape n fs × Above D (λ P. IsRun P)
-  ThunkAnswersIn E fs (sequence_of n) q D = ⊥
+  ThunkAnswersIn E fs (sequence_of n) q D =
+      (at : Place) × (q ≡ mark (marks.Sequence n) at) × IndexKnown × HasSequence n fs × Above D (λ P. HasBelow (paths sequence_type) P)
 
   abbrev pub BindingAnswersIn : (Option ℕ → List Tree → List PlainPaths → Type 0) → List Frame → ℕ → Binding → Tree → PlainPaths → Type 0
   BindingAnswersIn E fs n (to_thunk t) q D = ThunkAnswersIn E fs t q D
   BindingAnswersIn E fs n (to_cell v) q D =
       (at : Place) × (X : DataTy) × (q ≡ mark (marks.Cell n) at) × (datum_atom v ≡ data_atom X) × Above D (λ P. HasBelow (paths (cell_type X)) P)
   BindingAnswersIn E fs n to_escape q D = (at : Place) × (q ≡ mark (marks.Jump n) at) × Above D (λ P. IsRun P)
-  BindingAnswersIn E fs n (to_sequence c) q D = ⊥
+  BindingAnswersIn E fs n (to_sequence c) q D =
+      (at : Place) × (q ≡ mark (marks.Sequence n) at) × IndexKnown × AreInts c.values × Above D (λ P. HasBelow (paths sequence_type) P)
 
   -- the frame that is named, and those around it, stand for the phrases qs with the paths G
   abbrev pub FramesAnswer : List Frame → Option ℕ → List Tree → List PlainPaths → Type 0
@@ -181,6 +216,9 @@ module _ (g : Compiled) where
     endless_body : {c : Pointer} {q : Tree} {P : PlainPath} → CodeAnswers fs c q P → ContextTakes fs (loop_c c) (loop_c q) (end atoms.Comm) P
     first_value : {d : ℕ} {c : Pointer} {b : Tree} {P : PlainPath} (D : DataTy) → IsRun P → BodyAnswers fs c b (paths (cell_type D)) P →
         ContextTakes fs (new_c d c) (new_c d b) (end (data_atom D)) P
+    cells_wanted : {d : ℕ} {c : Pointer} {b : Tree} {at : Place} {P : PlainPath} → IsRun P → IndexKnown → BodyAnswers fs c b (paths sequence_type) P →
+        ContextTakes fs (cells_c d c at) (cells_c d b at) (end atoms.Int) P
+    element_wanted : {w : Wanted} → HasSequence w.number fs → ContextTakes fs (element_c w) (element_c w.number) (end atoms.Int) (end (wanted_atom w.is_written))
     cell_body : {n : ℕ} {P : PlainPath} → IsRun P → ContextTakes fs (drop_c n) (drop_c n) P P
     put_datum : {kind : PutKind} → ContextTakes fs (put_c kind) (put_c kind) (end (put_atom kind)) (end atoms.Comm)
     escape_body : {n : ℕ} → ContextTakes fs (esc_c n) (esc_c n) (end atoms.Comm) (end atoms.Comm)
@@ -208,3 +246,35 @@ module _ (g : Compiled) where
 
   abbrev pub Simulates : ℕ → PeState → CopyState → Type 0
   Simulates r s c = (P : PlainPath) × FocusAnswers r s.frames s.focus c.focus P × Behind s c P
+
+  -- a state in which a sequence is filled: the datum in focus says how many of its cells are there, and no frame holds it yet
+  pub record Fills (s : PeState) (c : CopyState) : Type 0 where
+    pub made : ℕ
+    pub wanted : ℕ
+    pub few : made ≤ wanted
+    -- the context that is filled, and those behind it
+    pub depth : ℕ
+    pub body : Pointer
+    pub phrase : Tree
+    pub place : Place
+    pub base : ℕ
+    pub behind : List Held
+    pub copy_behind : List (Pushed CopyContext)
+    pub focus : s.focus ≡ value (datum_kind.Int (pos made))
+    pub contexts : s.contexts ≡ (record { base = base; frames = length s.frames; context = fill_c s.next wanted depth body place }) ∷ behind
+    pub here : Place
+    pub copy_focus : c.focus ≡ lit (datum_kind.Int (pos made)) here
+    pub copy_contexts : c.contexts ≡ (record { base = base; context = fill_c s.next wanted depth phrase place }) ∷ copy_behind
+    -- the body runs behind them
+    pub path : PlainPath
+    pub run : IsRun path
+    pub known : IndexKnown
+    pub answers : BodyAnswers s.frames body phrase (paths sequence_type) path
+    pub takes_path : ContextsTake s.frames behind copy_behind path
+    pub store : c.store ≡ (record { number = s.next; content = several place (replicate made (datum_kind.Int (pos 0))) }) ∷ cells_in s.frames
+    pub below : Below s.next s.frames
+    pub next : c.next ≡ s.next
+    pub load : c.load ≡ s.load
+
+  abbrev pub Follows : ℕ → PeState → CopyState → Type 0
+  Follows r s c = Simulates r s c ⊎ Fills s c

@@ -12,9 +12,10 @@ pub mod Growing
 pub mod ContextLemmas
 pub mod Moves
 pub mod Evaluating
+pub mod CellLemmas
 pub mod MeetingLemmas
-pub mod EnteringLemmas
 pub mod TakingLemmas
+pub mod EnteringLemmas
 pub mod InstructionLemmas
 pub mod Reading
 pub mod RunLemmas

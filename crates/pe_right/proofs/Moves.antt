@@ -17,7 +17,7 @@ use Rattle.pe_right.specs.Right.{is_variable, Enters}
 use Rattle.pe_right.proofs.ClosingLemmas.{closed_with-more}
 use Rattle.pe_right.proofs.FrameLemmas.{marks_in, oldest-all}
 use Rattle.pe_right.proofs.Merges.{spare}
-use Rattle.pe_right.proofs.Invariants.{Compiled, marked, rank_of, Answered, IsNode, FramesAnswer, ThunkAnswers, ContextTakes, CodeAnswers, Behind, Simulates}
+use Rattle.pe_right.proofs.Invariants.{Compiled, marked, rank_of, Answered, IsNode, FramesAnswer, ThunkAnswers, ContextTakes, CodeAnswers, Behind, Simulates, Fills}
 use Rattle.pe_right.proofs.Growing.{env-shut}
 use Rattle.pe_right.proofs.ContextLemmas.{contexts-pushed, contexts-newer}
 
@@ -56,6 +56,8 @@ module _ (g : Compiled) where
   -- at most b steps of the copy rule go with the machine's, and x more where it comes to a datum; where none does, the rank falls below r
   pub data MovesIn (x : ℕ) : (r b : ℕ) → CopyState → PeMove → Type 0 where
     goes_on : {r b j : ℕ} {m : PeState} {c d : CopyState} (s : ℕ) → Steps j c d → j ≤ b + at_datum x m.focus → (j ≡ 0 → s < r) → s ≤ 2 → Simulates g s m d → MovesIn x r b c (goes m)
+    -- on to a state in which a sequence is filled
+    fills : {r b j : ℕ} {m : PeState} {c d : CopyState} → Steps j c d → j ≤ b → 1 ≤ j → Fills g m d → MovesIn x r b c (goes m)
     takes_byte : {r b j : ℕ} {go : Option ℕ → PeState} {c d : CopyState} (to : Option ℕ → CopyState) → Steps j c d → suc j ≤ b → copy_step d ≡ copy.takes to →
         ((byte : Option ℕ) → Simulates g 2 (go byte) (to byte)) → MovesIn x r b c (takes go)
 
@@ -82,10 +84,12 @@ module _ (g : Compiled) where
 
   pub earlier : {x r s b : ℕ} {m : PeMove} {c d : CopyState} → copy_step c ≡ copy.goes d → MovesIn x r b d m → MovesIn x s (suc b) c m
   earlier e (goes_on s x l z w t) = goes_on s (and_step e x) (omega arith) (λ f. absurd (omega arith)) w t
+  earlier e (fills x l k t) = fills (and_step e x) (omega arith) (omega arith) t
   earlier e (takes_byte to x l f t) = takes_byte to (and_step e x) (omega arith) f t
 
   pub moves-weaker : {x r s a b : ℕ} {m : PeMove} {c : CopyState} → r ≤ s → a ≤ b → MovesIn x r a c m → MovesIn x s b c m
   moves-weaker q l (goes_on s x k z w t) = goes_on s x (omega arith) (λ f. let y = z f in omega arith) w t
+  moves-weaker q l (fills x k z t) = fills x (omega arith) z t
   moves-weaker q l (takes_byte to x k f t) = takes_byte to x (omega arith) f t
 
   pub followed-weaker : {x r s a b : ℕ} {m : PeMove} {c : CopyState} → r ≤ s → a ≤ b → IsFollowedIn x r a c m → IsFollowedIn x s b c m

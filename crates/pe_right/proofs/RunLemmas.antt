@@ -25,11 +25,11 @@ use Rattle.pe_machine.specs.Run.{Standing, going, ended, faulted, stuck, gone, s
 use Rattle.pe_right.specs.Follows.{StandAlike, StandNearlyAlike, IsReached, IsAsFarAs, FollowsCopyRule}
 use Rattle.pe_right.proofs.ClosingLemmas.{closed_by-nothing}
 use Rattle.pe_right.proofs.DerivedLemmas.{table-answers}
-use Rattle.pe_right.proofs.Invariants.{Compiled, ContextsTake, FocusAnswers, Behind, Simulates}
+use Rattle.pe_right.proofs.Invariants.{Compiled, ContextsTake, FocusAnswers, Behind, Simulates, Fills, Follows}
 use Rattle.pe_right.proofs.Merges.{merges, merges-few, spare}
 use Rattle.pe_right.proofs.NodeLemmas.{under-merges, whole}
-use Rattle.pe_right.proofs.Moves.{Steps, no_step, and_step, at_datum, rank-two, extra, MovesIn, goes_on, takes_byte, IsFollowedIn, by_moves, puts_text, faults_at, moves-weaker, followed-weaker}
-use Rattle.pe_right.proofs.MeetingLemmas.{value-followed, finished-followed}
+use Rattle.pe_right.proofs.Moves.{Steps, no_step, and_step, at_datum, rank-two, extra, MovesIn, goes_on, fills, takes_byte, IsFollowedIn, by_moves, puts_text, faults_at, moves-weaker, followed-weaker}
+use Rattle.pe_right.proofs.MeetingLemmas.{value-followed, finished-followed, fills-followed}
 use Rattle.pe_right.proofs.InstructionLemmas.{executed-followed}
 use Rattle.pe_right.proofs.Reading.{state-reads}
 
@@ -187,9 +187,9 @@ module _ (g : Compiled) where
 
   -- how many steps of the copy rule go with one from the focus, and how many more where it comes to a datum
   abbrev base : Focus → ℕ
-  base (code_at p) = suc (merges g.phrase)
-  base (value v) = 1
-  base completed = 1
+  base (code_at p) = suc (suc (merges g.phrase))
+  base (value v) = 2
+  base completed = 2
 
   abbrev more : Focus → ℕ
   more (code_at p) = extra g
@@ -256,6 +256,11 @@ module _ (g : Compiled) where
       followed-weaker g (omega arith) (omega arith)
       (finished-followed g a.0 s c P a.1 a.2 (λ none. let f = sym (ap (λ (cs : List Held). standing_at completed cs) none) ∙ up in cc) b)
 
+  state-followed : (k : ℕ) (s : PeState) (c : CopyState) → Follows g k s c → standing_of s ≡ going → IsFollowedIn g (more s.focus) k (base s.focus) c (pe_step g.code s)
+  state-followed k s c (inl t) up = step-followed k s.focus t.0 s c t.1 t.2 up
+  state-followed k s c (inr h) up =
+      subst (λ (f : Focus). IsFollowedIn g (more f) k (base f) c (pe_step g.code s)) (sym h.focus) (followed-weaker g (omega arith) (omega arith) (fills-followed g s c h))
+
   standing-alike : (k : ℕ) (fs : List Frame) (f : Focus) (q : Tree) (cs : List Held) (xs : List (Pushed CopyContext)) (P : PlainPath) → FocusAnswers g k fs f q P →
       ContextsTake g fs cs xs P → StandNearlyAlike (standing_at f cs) (copy.standing_at q xs)
   standing-alike k fs (code_at p) q cs xs P a t = copy-standing q xs
@@ -265,11 +270,21 @@ module _ (g : Compiled) where
   standing-alike k fs completed q [] (x ∷ xs) P a t = absurd t
   standing-alike k fs completed q (c ∷ cs) [] P a t = absurd t
 
+  -- where a sequence is filled, both go on
+  filling-alike : (s : PeState) (c : CopyState) → Fills g s c → StandNearlyAlike (standing_of s) (copy.standing_of c)
+  filling-alike s c h =
+      subst (λ (f : Focus). StandNearlyAlike (standing_at f s.contexts) (copy.standing_of c)) (sym h.focus)
+      (inl (ap (λ (q : Tree). copy.standing_at q c.contexts) h.copy_focus))
+
+  states-alike : (k : ℕ) (s : PeState) (c : CopyState) → Follows g k s c → StandNearlyAlike (standing_of s) (copy.standing_of c)
+  states-alike k s c (inl t) = standing-alike k s.frames s.focus c.focus s.contexts c.contexts t.0 t.1 t.2.0
+  states-alike k s c (inr h) = filling-alike s c h
+
   -- ---- runs
 
   -- the run of the machine is that of the copy rule, and the state of one that goes on has the rank
   record SameRun (k : ℕ) (r : PeRun) (c : CopyRun) : Type 0 where
-    state : Simulates g k r.state c.state
+    state : Follows g k r.state c.state
     standing : StandNearlyAlike r.standing c.standing
     input : r.input ≡ c.input
     output : r.output ≡ c.output
@@ -286,11 +301,11 @@ module _ (g : Compiled) where
     before : (i : ℕ) → i < steps → (copy.after_more i c).standing ≡ copy.going
 
   -- after a step to states that simulate
-  fresh-run : (k : ℕ) (s : PeState) (d : CopyState) (i j o p : Bytes) → Simulates g k s d → i ≡ j → o ≡ p →
+  fresh-run : (k : ℕ) (s : PeState) (d : CopyState) (i j o p : Bytes) → Follows g k s d → i ≡ j → o ≡ p →
       SameRun k (record { state = s; input = i; output = o; standing = standing_of s }) (record { state = d; input = j; output = p; standing = copy.standing_of d })
   fresh-run k s d i j o p t e f = record {
     state = t;
-    standing = standing-alike k s.frames s.focus d.focus s.contexts d.contexts t.0 t.1 t.2.0;
+    standing = states-alike k s d t;
     input = e;
     output = f;
     fresh = λ up. (up, refl);
@@ -307,9 +322,25 @@ module _ (g : Compiled) where
         least = w;
         lower = λ up none. z none;
         same = record {
-          state = subst (λ (e : CopyState). Simulates g n s e) (sym y.state) t;
-          standing = subst (λ (e : copy.Standing). StandNearlyAlike (standing_of s) e) (sym y.standing)
-              (standing-alike n s.frames s.focus d.focus s.contexts d.contexts t.0 t.1 t.2.0);
+          state = subst (λ (e : CopyState). Follows g n s e) (sym y.state) (inl t);
+          standing = subst (λ (e : copy.Standing). StandNearlyAlike (standing_of s) e) (sym y.standing) (states-alike n s d (inl t));
+          input = ei ∙ sym y.input;
+          output = eo ∙ sym y.output;
+          fresh = λ up. (up, y.standing ∙ ap (λ (e : CopyState). copy.standing_of e) (sym y.state));
+        };
+        before = y.before;
+      }
+  moves-tick h k r c m room left st ei eo (fills {j = j} {m = s} {d = d} x l some t) =
+      let y = after-steps c refl st x in
+      record {
+        steps = j;
+        rank = 2;
+        few = (let most = gap-few s.focus in omega (arith, l, left, most));
+        least = omega arith;
+        lower = λ up none. absurd (omega arith);
+        same = record {
+          state = subst (λ (e : CopyState). Follows g 2 s e) (sym y.state) (inr t);
+          standing = subst (λ (e : copy.Standing). StandNearlyAlike (standing_of s) e) (sym y.standing) (states-alike 2 s d (inr t));
           input = ei ∙ sym y.input;
           output = eo ∙ sym y.output;
           fresh = λ up. (up, y.standing ∙ ap (λ (e : CopyState). copy.standing_of e) (sym y.state));
@@ -330,11 +361,11 @@ module _ (g : Compiled) where
         lower = λ up none. absurd (omega arith);
         same = subst (λ (z : CopyRun). SameRun 2 (settled (takes go) r) z) (sym one.0)
             (subst (λ (o : Option ℕ). SameRun 2 (record { state = go o; input = drop 1 r.input; output = r.output; standing = standing_of (go o) }) (copy.settled (copy.takes to) (copy.after_more j c))) (sym byte)
-            (fresh-run 2 (go u) (to u) (drop 1 r.input) (drop 1 (copy.after_more j c).input) r.output (copy.after_more j c).output (t u) (ap (λ (i : Bytes). drop 1 i) here) (eo ∙ sym y.output)));
+            (fresh-run 2 (go u) (to u) (drop 1 r.input) (drop 1 (copy.after_more j c).input) r.output (copy.after_more j c).output (inl (t u)) (ap (λ (i : Bytes). drop 1 i) here) (eo ∙ sym y.output)));
         before = one.1;
       }
 
-  followed-tick : {x b : ℕ} (h k : ℕ) (r : PeRun) (c : CopyRun) (m : PeMove) → Room x b h m → b + spare g.phrase ≤ nodes g.phrase + 1 → Simulates g k r.state c.state → k ≤ 2 → c.standing ≡ copy.standing_of c.state → r.input ≡ c.input → r.output ≡ c.output →
+  followed-tick : {x b : ℕ} (h k : ℕ) (r : PeRun) (c : CopyRun) (m : PeMove) → Room x b h m → b + spare g.phrase ≤ nodes g.phrase + 1 → Follows g k r.state c.state → k ≤ 2 → c.standing ≡ copy.standing_of c.state → r.input ≡ c.input → r.output ≡ c.output →
       IsFollowedIn g x k b c.state m → Ticked h k (settled m r) c
   followed-tick h k r c m room left now least st ei eo (by_moves x) = moves-tick h k r c m room left st ei eo x
   followed-tick h k r c m room left now least st ei eo (puts_text {text = text} {m = s} {d = d} l e t) =
@@ -347,7 +378,7 @@ module _ (g : Compiled) where
         least = omega arith;
         lower = λ up none. absurd (omega arith);
         same = subst (λ (z : CopyRun). SameRun 2 (settled (puts text s) r) z) (sym one.0)
-            (fresh-run 2 s d r.input (copy.after_more 0 c).input (r.output ++ text) ((copy.after_more 0 c).output ++ text) t (ei ∙ sym y.input)
+            (fresh-run 2 s d r.input (copy.after_more 0 c).input (r.output ++ text) ((copy.after_more 0 c).output ++ text) (inl t) (ei ∙ sym y.input)
             (ap (λ (o : Bytes). o ++ text) (eo ∙ sym y.output)));
         before = one.1;
       }
@@ -361,7 +392,7 @@ module _ (g : Compiled) where
         least = least;
         lower = λ up none. absurd (omega arith);
         same = subst (λ (z : CopyRun). SameRun k (settled (faults kind at) r) z) (sym one.0) (record {
-          state = subst (λ (d : CopyState). Simulates g k r.state d) (sym y.state) now;
+          state = subst (λ (d : CopyState). Follows g k r.state d) (sym y.state) now;
           standing = refl;
           input = ei ∙ sym y.input;
           output = eo ∙ sym y.output;
@@ -385,9 +416,8 @@ module _ (g : Compiled) where
   run-tick : (h k : ℕ) (r : PeRun) (c : CopyRun) (st : Standing) → Room (more r.state.focus) (base r.state.focus) h (pe_step g.code r.state) → r.standing ≡ st → k ≤ 2 → SameRun k r c →
       Ticked h k (ticked g.code st r) c
   run-tick h k r c going room e least same =
-      let now = same.state in
       let up = same.fresh e in
-      followed-tick h k r c (pe_step g.code r.state) room (room-left r.state.focus) now least up.1 same.input same.output (step-followed k r.state.focus now.0 r.state c.state now.1 now.2 up.0)
+      followed-tick h k r c (pe_step g.code r.state) room (room-left r.state.focus) same.state least up.1 same.input same.output (state-followed k r.state c.state same.state up.0)
   run-tick h k r c ended room e least same = no-tick h k r c least (λ f. let q = sym e ∙ f in cc) same
   run-tick h k r c (faulted kind at) room e least same = no-tick h k r c least (λ f. let q = sym e ∙ f in cc) same
   run-tick h k r c stuck room e least same = no-tick h k r c least (λ f. let q = sym e ∙ f in cc) same
@@ -429,7 +459,7 @@ module _ (g : Compiled) where
     far = λ up. omega arith;
     same = subst (λ (r : PeRun). SameRun 2 r (copy_after g.phrase input 0)) (sym (pe_zero g.code (start_run input)))
         (subst (λ (c : CopyRun). SameRun 2 (start_run input) c) (sym (after_zero (copy.start_run g.phrase input)))
-        (fresh-run 2 pe_start (copy.start g.phrase) input input [] [] start-simulates refl refl));
+        (fresh-run 2 pe_start (copy.start g.phrase) input input [] [] (inl start-simulates) refl refl));
     before = λ i l. absurd (omega arith);
   }
 
@@ -490,15 +520,19 @@ module _ (g : Compiled) where
   reached input zero = reached-none input
   reached input (suc n) = reached-more input n (reached input n)
 
-  -- a state of the copy rule that the one after n steps simulates
-  pub simulated : (input : Bytes) (n : ℕ) → (k : ℕ) × (c : CopyState) × Simulates g k (pe_after g.code input n).state c
+  -- a state of the copy rule that the one after n steps follows
+  pub simulated : (input : Bytes) (n : ℕ) → (k : ℕ) × (c : CopyState) × Follows g k (pe_after g.code input n).state c
   simulated input n = let h = reached input n in (h.rank, (copy_after g.phrase input h.steps).state, h.same.state)
 
   -- ---- the law's clauses
 
+  same-load : (k : ℕ) (s : PeState) (c : CopyState) → Follows g k s c → c.load ≡ s.load
+  same-load k s c (inl t) = t.2.4
+  same-load k s c (inr h) = h.load
+
   reads-back : (input : Bytes) (n : ℕ) → Reached input n → IsReached g.handed g.phrase g.code input n
   reads-back input n h =
-      let e = h.same.state.2.4 in
+      let e = same-load h.rank (pe_after g.code input n).state (copy_after g.phrase input h.steps).state h.same.state in
       record {
         steps = h.steps;
         few = (let few = h.few in omega arith);

@@ -130,7 +130,7 @@ module _ (cv : ℕ → Option Datum) where
   sequence_in-swap to_escape = refl
   sequence_in-swap (to_sequence c) = refl
 
-  sequence_at-swap : (n : ℕ) (fs : List Frame) → sequence_at n (swap_frames fs) ≡ sequence_at n fs
+  pub sequence_at-swap : (n : ℕ) (fs : List Frame) → sequence_at n (swap_frames fs) ≡ sequence_at n fs
   sequence_at-swap n [] = refl
   sequence_at-swap n (f ∷ fs) =
       ap₂ (λ (x : Option Sequence) (y : Option Sequence). cond (nat_eq n f.number) x y) (sequence_in-swap f.binding) (sequence_at-swap n fs)

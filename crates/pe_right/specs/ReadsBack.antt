@@ -1,12 +1,13 @@
 -- Reading back: which state of the copy rule a state of the push-enter machine stands for. An address may stand for any node that is entered there, so for an operand and for its merge; a variable
 -- stands for what its frame does.
-use Rattle.std.specs.Prelude.{ℕ, ◌≡◌, ◌⊎◌, false, List, [], ◌∷◌, Option, Some, None}
+use Rattle.std.specs.Prelude.{ℕ, ◌≡◌, ◌⊎◌, false, List, [], ◌∷◌, ◌++◌, replicate, Option, Some, None, pos}
 use Rattle.fy_base.specs.declared.data.Place.{Place}
 use Rattle.fy_base.specs.declared.data.Datum.{Datum}
+use Rattle.fy_base.specs.declared.data.Datum.TheVariants as datum_kind
 use Rattle.fy_phrase.specs.declared.phrase.MarkKind.TheVariants as marks
 use Rattle.fy_phrase.specs.Tree.{Tree, Trees, lit, skip, mark, no_trees, and_tree}
 use Rattle.fy_phrase.specs.Contexts.{CopyContext, op_1, op_l, op_r, if_c, case_c, arg_c, pick_c, then_c, assign_c, store_c, while_c, body_c, loop_c, new_c, drop_c, put_c, esc_c, cells_c, fill_c, element_c, Pushed}
-use Rattle.fy_phrase.specs.Copy.{Row, single, CopyState}
+use Rattle.fy_phrase.specs.Copy.{Row, single, several, CopyState}
 use Rattle.fy_derive.specs.Shapes.{IsNodeAt}
 use Rattle.pe_code.specs.declared.code.PeItem.{PeItem}
 use Rattle.pe_code.specs.declared.code.PeCode.{PeCode}
@@ -22,13 +23,13 @@ module _ (handed : Tree → Option Datum) (p : Tree) (code : PeCode) where
   ThunkStands E (datum v) q = ((at : Place) × (q ≡ lit v at)) ⊎ (handed q ≡ Some v)
   ThunkStands E (cell_of n) q = (at : Place) × (q ≡ mark (marks.Cell n) at)
   ThunkStands E (jump_of n) q = (at : Place) × (q ≡ mark (marks.Jump n) at)
-  ThunkStands E (sequence_of n) q = ⊥
+  ThunkStands E (sequence_of n) q = (at : Place) × (q ≡ mark (marks.Sequence n) at)
 
   abbrev pub BindingStands : (Option ℕ → List Tree → Type 0) → ℕ → Binding → Tree → Type 0
   BindingStands E n (to_thunk t) q = ThunkStands E t q
   BindingStands E n (to_cell v) q = (at : Place) × (q ≡ mark (marks.Cell n) at)
   BindingStands E n to_escape q = (at : Place) × (q ≡ mark (marks.Jump n) at)
-  BindingStands E n (to_sequence c) q = ⊥
+  BindingStands E n (to_sequence c) q = (at : Place) × (q ≡ mark (marks.Sequence n) at)
 
   -- the frame that is named, and those around it, stand for these phrases, the innermost first; each thunk names an older frame
   abbrev pub FramesStand : List Frame → Option ℕ → List Tree → Type 0
@@ -74,9 +75,9 @@ module _ (handed : Tree → Option Datum) (p : Tree) (code : PeCode) where
   ContextStands fs (drop_c n) x = x ≡ drop_c n
   ContextStands fs (put_c kind) x = x ≡ put_c kind
   ContextStands fs (esc_c n) x = x ≡ esc_c n
-  ContextStands fs (cells_c d c at) x = ⊥
-  ContextStands fs (fill_c n v d c at) x = ⊥
-  ContextStands fs (element_c n) x = ⊥
+  ContextStands fs (cells_c d c at) x = (q : Tree) × (x ≡ cells_c d q at) × CodeStandsUnder 1 fs c q
+  ContextStands fs (fill_c n v d c at) x = (q : Tree) × (x ≡ fill_c n v d q at) × CodeStandsUnder 1 fs c q
+  ContextStands fs (element_c w) x = x ≡ element_c w.number
 
   -- each context stands for one, in the frames that stood when it was pushed
   abbrev pub ContextsStand : List Frame → List Held → List (Pushed CopyContext) → Type 0
@@ -90,20 +91,34 @@ module _ (handed : Tree → Option Datum) (p : Tree) (code : PeCode) where
   FocusStands fs (value v) q = (at : Place) × (q ≡ lit v at)
   FocusStands fs completed q = (at : Place) × (q ≡ skip at)
 
--- the cell of frame n, if it holds one, before the others
+-- the cell or the sequence of cells of frame n, if it holds one, before the others
 abbrev pub with_cell_of : ℕ → Binding → List Row → List Row
 with_cell_of n (to_thunk t) cs = cs
 with_cell_of n (to_cell v) cs = (record { number = n; content = single v }) ∷ cs
 with_cell_of n to_escape cs = cs
-with_cell_of n (to_sequence c) cs = cs
+with_cell_of n (to_sequence c) cs = (record { number = n; content = several c.place c.values }) ∷ cs
 
 -- the cells that the frames hold
 abbrev pub cells_in : List Frame → List Row
 cells_in [] = []
 cells_in (f ∷ fs) = with_cell_of f.number f.binding (cells_in fs)
 
--- the state of the machine stands for the copy state; places of literals, finished commands and marks that a step made are open, and numbers of cells and escapes are the same on both sides
+-- the sequence that a context fills, which has k cells so far, each with 0
+abbrev pub filled_by : ℕ → PeContext → List Row
+filled_by k (fill_c n v d c at) = (record { number = n; content = several at (replicate k (datum_kind.Int (pos 0))) }) ∷ []
+filled_by k c = []
+
+abbrev pub filled_under : ℕ → List Held → List Row
+filled_under k [] = []
+filled_under k (c ∷ cs) = filled_by k c.context
+
+-- a sequence that is filled, which no frame holds yet: it has as many cells as the datum in focus says
+abbrev pub filling : Focus → List Held → List Row
+filling (value (datum_kind.Int (pos k))) cs = filled_under k cs
+filling f cs = []
+
+-- the state of the machine stands for the copy state; places of literals, finished commands and marks that a step made are open, and numbers of cells, of sequences of cells and of escapes are the same on both sides
 pub record ReadsBack (handed : Tree → Option Datum) (p : Tree) (code : PeCode) (s : PeState) (c : CopyState) : Type 0 where
   pub focus : FocusStands handed p code s.frames s.focus c.focus
   pub contexts : ContextsStand handed p code s.frames s.contexts c.contexts
-  pub store : c.store ≡ cells_in s.frames
+  pub store : c.store ≡ filling s.focus s.contexts ++ cells_in s.frames

@@ -17,7 +17,8 @@ use Rattle.pe_code.specs.declared.code.PeInsn.{PeInsn}
 use Rattle.pe_code.specs.declared.code.PeInsn.TheVariants as insn
 use Rattle.pe_code.specs.declared.code.PeItem.{PeItem}
 use Rattle.pe_code.specs.declared.code.PeCode.{PeCode}
-use Rattle.pe_code.specs.Code.{item_at, entry_of, no_sequences}
+use Rattle.pe_code.specs.declared.code.SequenceShapes.{SequenceShapes}
+use Rattle.pe_code.specs.Code.{item_at, entry_of}
 
 -- ---- nodes of a phrase, with the number of binders around them
 
@@ -162,6 +163,8 @@ module _ (handed : Tree → Option Datum) (table : ShapeTable) (code : PeCode) w
         Enters table code (k + 1) (at_end a_run) x → IsInsnOf k (forever c at) s (insn.Loop x)
     of_new : {k d x y : ℕ} {D : DataTy} {e b : Tree} {at : Place} {s : PlainShape} →
         Enters table code (k + 1) (at_end a_value) x → Enters table code (k + 1 + nodes e) (at_end a_run) y → IsInsnOf k (new d D e b at) s (insn.New x y)
+    of_cells : {k d x y : ℕ} {e b : Tree} {at : Place} {s : PlainShape} →
+        Enters table code (k + 1) (at_end a_value) x → Enters table code (k + 1 + nodes e) (at_end a_run) y → IsInsnOf k (cells d e b at) s (insn.Cells x y)
     of_escape : {k d x : ℕ} {b : Tree} {at : Place} {s : PlainShape} →
         Enters table code (k + 1) (at_end a_run) x → IsInsnOf k (escape d b at) s (insn.Escape x)
     of_accept : {k d x : ℕ} {D : DataTy} {b : Tree} {at : Place} {s : PlainShape} →
@@ -183,6 +186,17 @@ module _ (handed : Tree → Option Datum) (table : ShapeTable) (code : PeCode) w
       (kind : Kind) × (kind_of q ≡ Some kind) × ((shape_begins kind s ≡ true) × Enters table code (k + 1 + nodes p) s a ⊎ (shape_begins kind s ≡ false) × Enters table code (k + 1) s a)
   IsRightAt d k q s a = (item : PeItem) × (item_at code a ≡ Some item) × IsItemOf d k q s item
 
+-- the number of the shape, where the table has it
+abbrev pub IsNumberOf : ShapeTable → Option ℕ → PlainShape → Type 0
+IsNumberOf table o s = (n : ℕ) → (o ≡ Some n) ↔ (shape_at table n ≡ Some s)
+
+-- the numbers of the shapes of an index, of a cell that an index picks to be read and to be written, and of the length, which is the field 0
+pub record AreSequencesOf (table : ShapeTable) (shapes : SequenceShapes) : Type 0 where
+  pub value : IsNumberOf table shapes.value (at_end a_value)
+  pub element : IsNumberOf table shapes.element (a_call (at_end a_value))
+  pub assigned_element : IsNumberOf table shapes.assigned_element (a_call (at_end an_assignment))
+  pub row_length : IsNumberOf table shapes.row_length (a_field 0 (at_end a_value))
+
 -- the code is that of the phrase and the table, with the data that are known in place of thunks
 pub record IsCodeOf (handed : Tree → Option Datum) (p : Tree) (table : ShapeTable) (code : PeCode) : Type 0 where
   -- there is an entry for each pair of the table, and for no other
@@ -191,6 +205,6 @@ pub record IsCodeOf (handed : Tree → Option Datum) (p : Tree) (table : ShapeTa
   pub program : Enters table code 0 (at_end a_run) 0
   pub right : (d k a : ℕ) (q : Tree) (s : PlainShape) → IsNodeUnder 0 0 p d k q → Enters table code k s a → IsRightAt handed table code d k q s a
   pub shapes : code.shapes ≡ length table.shapes
-  pub assignment : (n : ℕ) → (code.assignment ≡ Some n) ↔ (shape_at table n ≡ Some (at_end an_assignment))
-  pub sequences : code.sequences ≡ no_sequences
+  pub assignment : IsNumberOf table code.assignment (at_end an_assignment)
+  pub sequences : AreSequencesOf table code.sequences
   pub thunks : code.thunks ≡ thunk_nodes 0 p

@@ -4,7 +4,7 @@ use Rattle.std.proofs.Common.{ℕ, ◌+◌, ◌≡◌, Bool, true, false, if◌t
 use Rattle.fy_types.specs.declared.types.Atom.TheVariants.{Comm}
 use Rattle.fy_types.specs.Types.{PlainType, atom}
 use Rattle.fy_types.specs.Paths.{PlainPath, end, paths}
-use Rattle.fy_phrase.specs.Tree.{Tree, Trees, no_trees, and_tree, case, lam, merge, cells, mark}
+use Rattle.fy_phrase.specs.Tree.{Tree, Trees, no_trees, and_tree, case, lam, merge, mark}
 use Rattle.fy_derive.specs.Kinds.{Kind, kind_of}
 use Rattle.fy_derive.specs.Derivations.{PlainDerivation, PlainDerivations, alt, left, right, rule}
 use Rattle.fy_derive.specs.Rules.{Premise, premises, of_parts as parts_premises, is_atom}
@@ -103,7 +103,6 @@ premises-parts : (p : Tree) → IfSome (premises p) (λ Ps. parts_of p ≡ subje
 premises-parts (case e parts at) = ap (λ qs. e ∷ qs) (subjects-parts parts)
 premises-parts (lam d As b at) = tt
 premises-parts (merge p q at) = tt
-premises-parts (cells d e b at) = tt
 premises-parts (mark m at) = tt
 premises-parts p = refl
 

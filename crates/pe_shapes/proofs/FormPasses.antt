@@ -21,7 +21,7 @@ use Rattle.fy_derive.specs.Derivations.{PlainDerivation, PlainDerivations}
 use Rattle.fy_derive.specs.Tables.{type_at}
 use Rattle.fy_derive.specs.Rules.{nothing, Premise, premises, of_parts as parts_premises, provided, is_atom, same_type, are_operands, fits_operator, chosen, all_same, picked_type, applied, selected, command_behind, is_assignment, fits_assignment, conclusion}
 use Rattle.fy_derive.specs.Judging.{concludes, alternative, operands, judged}
-use Rattle.fy_derive.specs.Shapes.{EndShape, a_value, an_assignment, a_run, PlainShape, at_end, a_call, a_field, end_shape, erase, HasPath, first_path, later_path, HasPair, own, PremiseHasPair, this_premise, later_premise, shape_begins, PassesEach, to_this, to_later, Passes, of_app, of_sel, of_lam, of_definition, of_right, of_left, of_let, of_rec, of_test, of_then, of_else, of_index, of_parts, of_unary, of_operand, of_operand_behind, of_put, of_target, of_value, of_read, of_first, of_second, of_forever, of_escape, of_accept, of_while_test, of_while_body, of_new_value, of_new_body}
+use Rattle.fy_derive.specs.Shapes.{EndShape, a_value, an_assignment, a_run, PlainShape, at_end, a_call, a_field, end_shape, erase, HasPath, first_path, later_path, HasPair, own, PremiseHasPair, this_premise, later_premise, shape_begins, PassesEach, to_this, to_later, Passes, of_app, of_sel, of_lam, of_definition, of_right, of_left, of_let, of_rec, of_test, of_then, of_else, of_index, of_parts, of_unary, of_operand, of_operand_behind, of_put, of_target, of_value, of_read, of_first, of_second, of_forever, of_escape, of_accept, of_while_test, of_while_body, of_new_value, of_new_body, of_cells_count, of_cells_body}
 use Rattle.fy_derive.proofs.SubsumptionLemmas.{or_cases}
 use Rattle.fy_derive.proofs.RuleLemmas.{same_type-true}
 use Rattle.fy_derive.proofs.PathTyping.{World, EachPath, Answers}
@@ -232,6 +232,10 @@ rule-passes (of_new_value {D = D}) ds G Bs A Q c among g =
     λ h. first-ends (data_atom D) (command-inner (data_atom D) (type_at Bs 0) (type_at Bs 1) A c).0 (data_atom-shape D) h
 rule-passes (of_new_body {D = D}) ds G Bs A Q c among g =
     let x = command-inner (data_atom D) (type_at Bs 0) (type_at Bs 1) A c in
+    λ h. second-ends x.1.0 x.1.1 x.1.2 h
+rule-passes of_cells_count ds G Bs A Q c among g = λ h. first-ends Int (command-inner Int (type_at Bs 0) (type_at Bs 1) A c).0 refl h
+rule-passes of_cells_body ds G Bs A Q c among g =
+    let x = command-inner Int (type_at Bs 0) (type_at Bs 1) A c in
     λ h. second-ends x.1.0 x.1.1 x.1.2 h
 
 -- ---- abstractions and merges

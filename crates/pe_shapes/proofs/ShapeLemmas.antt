@@ -7,12 +7,13 @@ use Rattle.fy_phrase.specs.declared.shapes.ShapeElem.{ShapeElem}
 use Rattle.fy_phrase.specs.declared.shapes.ShapeElem.TheVariants as elem
 use Rattle.fy_phrase.specs.declared.shapes.ShapeEnd.{ShapeEnd}
 use Rattle.fy_types.specs.declared.types.Atom.{Atom}
+use Rattle.fy_types.specs.declared.types.Atom.TheVariants.{Int}
 use Rattle.fy_types.specs.Types.{PlainType, PlainTypes, ns, atom, arrow, field, meet, no_types, and_type}
 use Rattle.fy_types.specs.Paths.{PlainPath, PlainPaths, end, call, pick, no_paths, and_path, append, paths, all_paths}
 use Rattle.fy_types.specs.Reading.{types_from}
 use Rattle.fy_phrase.specs.declared.phrase.DataTy.{DataTy}
 use Rattle.fy_phrase.specs.declared.phrase.DataTy.TheVariants as data_type
-use Rattle.fy_derive.specs.Atoms.{data_atom, acceptor_atom, cell_type}
+use Rattle.fy_derive.specs.Atoms.{data_atom, acceptor_atom, cell_type, sequence_type}
 use Rattle.fy_derive.specs.Shapes.{PlainShape, a_value, an_assignment, end_shape, at_end, a_call, a_field, erase, HasPath, first_path, later_path}
 use Rattle.fy_derive.specs.ShapeTables.{plain_end}
 use Rattle.pe_shapes.specs.declared.error.ShapeError.{ShapeError}
@@ -223,3 +224,18 @@ AreJust-cell D =
 
     acceptor : (D : DataTy) → AreJust (at_end an_assignment ∷ []) (atom (acceptor_atom D))
     acceptor D = subst (λ e. AreJust (at_end e ∷ []) (atom (acceptor_atom D))) (acceptor_end D) (AreJust-atom (acceptor_atom D))
+
+AreJust-joined : (As : List PlainType) (B : PlainType) (S T : List PlainShape) → AreJust S (meet (types_from As)) → AreJust T B →
+    AreJust (S ++ T) (meet (types_from (As ++ B ∷ [])))
+AreJust-joined As B S T j k =
+    AreJust-both As B S T (S ++ T) j k (λ s h. Contains-append_left S T s h) (λ s h. Contains-append_right S T s h) (λ s h. Contains-append_cases S T s h)
+
+-- the shapes of a sequence
+pub AreJust-sequence : AreJust (a_call (at_end a_value) ∷ a_call (at_end an_assignment) ∷ a_field 0 (at_end a_value) ∷ []) sequence_type
+AreJust-sequence =
+    AreJust-joined (arrow (atom Int) (cell_type data_type.Int) ∷ []) (field 0 (atom Int)) (a_call (at_end a_value) ∷ a_call (at_end an_assignment) ∷ [])
+    (a_field 0 (at_end a_value) ∷ [])
+    (AreJust-joined [] (arrow (atom Int) (cell_type data_type.Int)) [] (a_call (at_end a_value) ∷ a_call (at_end an_assignment) ∷ []) AreJust-no_meet
+    (AreJust-front elem.Call (arrow (atom Int) (cell_type data_type.Int)) (cell_type data_type.Int) (atom Int, refl) (at_end a_value ∷ at_end an_assignment ∷ [])
+    (AreJust-cell data_type.Int)))
+    (AreJust-front (elem.Field 0) (field 0 (atom Int)) (atom Int) refl (at_end a_value ∷ []) (AreJust-atom Int))

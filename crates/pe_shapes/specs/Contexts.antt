@@ -5,7 +5,7 @@ use Rattle.fy_types.specs.declared.types.Atom.TheVariants.{Compl}
 use Rattle.fy_types.specs.Types.{PlainType, atom}
 use Rattle.fy_types.specs.Reading.{plain_type}
 use Rattle.fy_phrase.specs.Reads.{reads}
-use Rattle.fy_derive.specs.Atoms.{data_atom, cell_type}
+use Rattle.fy_derive.specs.Atoms.{data_atom, cell_type, sequence_type}
 use Rattle.fy_derive.specs.Rules.{Binder, nothing, first, given, Premise}
 use Rattle.pe_shapes.specs.declared.context.Given.{Given}
 use Rattle.pe_shapes.specs.declared.context.Given.TheVariants as by
@@ -20,6 +20,7 @@ use Rattle.pe_shapes.specs.declared.parts.Part.{Part}
 abbrev pub given_type : Given → PlainType
 given_type (by.Type T) = plain_type T.now
 given_type (by.Cell D) = cell_type D
+given_type by.Sequence = sequence_type
 given_type (by.Value D) = atom (data_atom D)
 given_type by.Exit = atom Compl
 

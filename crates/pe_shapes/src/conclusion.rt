@@ -59,7 +59,7 @@ fn origin_of(p: &Phrase) -> Origin
         Phrase::WhileDo(..) => Origin::End(ShapeEnd::Run),
         Phrase::Forever(..) => Origin::End(ShapeEnd::Run),
         Phrase::New(..) => Origin::Second,
-        Phrase::Cells(..) => Origin::Nothing,
+        Phrase::Cells(..) => Origin::Second,
         Phrase::Escape(..) => Origin::End(ShapeEnd::Run),
         Phrase::Accept(..) => Origin::End(ShapeEnd::Assign),
         Phrase::Put(..) => Origin::End(ShapeEnd::Run),

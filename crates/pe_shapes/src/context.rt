@@ -15,6 +15,8 @@ pub enum Given<'a> {
     Type(&'a Ty),
     /// The type of a cell.
     Cell(DataTy),
+    /// The type of a sequence of cells.
+    Sequence,
     /// A data type.
     Value(DataTy),
     /// The type of what leaves an escape.

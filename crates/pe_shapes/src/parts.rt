@@ -80,7 +80,6 @@ pub fn parts<'a>(alloc: Global, p: &'a Phrase) -> Result<Vec<Part<'a>>, OutOfMem
         Phrase::Binary(_, p, q, _)
         | Phrase::App(p, q, _)
         | Phrase::Merge(p, q, _)
-        | Phrase::Cells(_, p, q, _)
         | Phrase::Seq(p, q, _)
         | Phrase::Assign(p, q, _)
         | Phrase::WhileDo(p, q, _) => {
@@ -102,6 +101,10 @@ pub fn parts<'a>(alloc: Global, p: &'a Phrase) -> Result<Vec<Part<'a>>, OutOfMem
         }
         Phrase::New(_, ty, e, body, _) => {
             let all = Vec::from_array(alloc, [plain(e), behind_given(Given::Cell(*ty), body)])?;
+            Ok(all)
+        }
+        Phrase::Cells(_, e, body, _) => {
+            let all = Vec::from_array(alloc, [plain(e), behind_given(Given::Sequence, body)])?;
             Ok(all)
         }
         Phrase::Escape(_, body, _) => {

@@ -1,12 +1,12 @@
 //! The shapes of written types.
 
-ghost use Rattle.std.specs.Prelude.{◌≡◌, IfOk, OnOk};
+ghost use Rattle.std.specs.Prelude.{◌≡◌, ◌<◌, [], ◌∷◌, IfOk, OnOk};
 ghost use Rattle.fy_types.specs.Types.{meet};
 ghost use Rattle.fy_types.specs.Reading.{plain_type, plain_types};
-ghost use Rattle.fy_derive.specs.Shapes.{end_shape};
+ghost use Rattle.fy_derive.specs.Shapes.{a_call, a_field, a_value, an_assignment, at_end, end_shape};
 ghost use Rattle.fy_derive.specs.ShapeTables.{plain_end};
 ghost use Rattle.pe_shapes.specs.Contexts.{given_type};
-ghost use Rattle.pe_shapes.specs.Shown.{Extends, AreIn};
+ghost use Rattle.pe_shapes.specs.Shown.{shown, total, all_shown, Extends, AreIn};
 ghost use Rattle.pe_shapes.specs.Standing.{AreMade};
 
 use crate::context::Given;
@@ -14,13 +14,17 @@ use crate::error::ShapeError;
 use crate::node::ShapeNode;
 use crate::numbers::ShapeNumbers;
 use crate::sets::{add_all, fronted, listed, single};
+use fy_base::OutOfMemory;
 use fy_phrase::{ShapeElem, ShapeEnd};
-use fy_types::{Atom, Ty, TyList};
+use fy_types::{Atom, Name, Ty, TyList};
 use indexmap::IndexSet;
 use std::alloc::Global;
 
 /// How many shapes may be asked for.
 pub const MOST_SHAPES: usize = 256;
+
+// The number of the name `len`.
+const LENGTH: Name = 0;
 
 fn end_of(atom: Atom) -> ShapeEnd
     ensures { plain_end result ≡ end_shape atom }
@@ -103,9 +107,11 @@ pub fn shapes_of_given(
     match given {
         Given::Type(ty) => shapes_of_type(alloc, numbers, ty),
         Given::Cell(_) => {
-            let mut all = single(alloc, numbers, ShapeEnd::Value)?;
-            let number = numbers.number(ShapeNode::End(ShapeEnd::Assign))?;
-            all.push(number)?;
+            let all = shapes_of_cell(alloc, numbers)?;
+            Ok(all)
+        }
+        Given::Sequence => {
+            let all = shapes_of_sequence(alloc, numbers)?;
             Ok(all)
         }
         Given::Value(_) => {
@@ -117,4 +123,40 @@ pub fn shapes_of_given(
             Ok(all)
         }
     }
+}
+
+// A cell is a value and an acceptor.
+fn shapes_of_cell(alloc: Global, numbers: &mut ShapeNumbers) -> Result<Vec<usize>, OutOfMemory>
+    ensures within { IfOk result (λ v. AreIn numbers.new v.items) }
+    ensures shown { IfOk result (λ v. all_shown numbers.new v.items ≡ at_end a_value ∷ at_end an_assignment ∷ []) }
+    ensures extends { OnOk result (Extends numbers.old numbers.new) }
+{
+    let mut all = single(alloc, numbers, ShapeEnd::Value)?;
+    let number = numbers.number(ShapeNode::End(ShapeEnd::Assign))?;
+    all.push(number)?;
+    Ok(all)
+}
+
+// A sequence is a cell for each index, and its length.
+fn shapes_of_sequence(alloc: Global, numbers: &mut ShapeNumbers) -> Result<Vec<usize>, OutOfMemory>
+    ensures within { IfOk result (λ v. AreIn numbers.new v.items) }
+    ensures shown { IfOk result (λ v. all_shown numbers.new v.items
+        ≡ a_call (at_end a_value) ∷ a_call (at_end an_assignment) ∷ a_field 0 (at_end a_value) ∷ []) }
+    ensures extends { OnOk result (Extends numbers.old numbers.new) }
+{
+    let cell = shapes_of_cell(alloc, numbers)?;
+    let mut all = fronted(alloc, numbers, ShapeElem::Call, &cell)?;
+    let length = number_of_length(numbers)?;
+    all.push(length)?;
+    Ok(all)
+}
+
+// The number of the length's shape.
+fn number_of_length(numbers: &mut ShapeNumbers) -> Result<usize, OutOfMemory>
+    ensures within { IfOk result (λ k. k < total numbers.new) }
+    ensures stands { IfOk result (λ k. shown numbers.new k ≡ a_field 0 (at_end a_value)) }
+    ensures extends { OnOk result (Extends numbers.old numbers.new) }
+{
+    let value = numbers.number(ShapeNode::End(ShapeEnd::Value))?;
+    numbers.number(ShapeNode::Front(ShapeElem::Field(LENGTH), value))
 }

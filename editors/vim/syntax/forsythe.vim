@@ -7,8 +7,8 @@ syntax case match
 syntax keyword forsytheWord let letrec lettype where in new escape accept if then else while do loop seq
 syntax keyword forsytheOperator and or not ord chr div rem
 syntax keyword forsytheConstant skip true false
-syntax keyword forsytheType ns int bool char comm compl intacc boolacc characc intvar boolvar charvar intseq boolseq charseq
-syntax keyword forsythePredefined putint putchar putbool read
+syntax keyword forsytheType ns int bool char comm compl intacc boolacc characc intvar boolvar charvar intseq boolseq charseq intvarseq
+syntax keyword forsythePredefined putint putchar putbool read newintseq
 syntax match forsytheSymbol #->\|:=\|<=\|<>\|==\|>=\|&\|\*\|+\|,\|-\|\.\|:\|;\|<\|=\|>\|\\\||#
 syntax match forsytheNumber #\<[0-9]\+\>#
 syntax match forsytheEscape #\\[nt\\'"]\|\\x[0-9A-Fa-f]\{2}# contained

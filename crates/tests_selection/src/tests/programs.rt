@@ -19,7 +19,7 @@ struct Row<'a> {
     end: Ending,
 }
 
-const ROWS: [Row<'static>; 7] = [
+const ROWS: [Row<'static>; 8] = [
     Row {
         text: b"putint(1+2)",
         input: b"",
@@ -69,6 +69,16 @@ let p == \c:comm. new a:int := 5 in new b:int := 6 in while true do (k := k + a;
         input: b"abc",
         output: b"abc",
         end: Ending::Ended,
+    },
+    Row {
+        text: br"newintseq 3 (\a: intvarseq.
+(a 0 := 5; a 2 := a 0 + 1; putint (a 0 + a 1 + a 2); putint a.len; putint (a 3)))",
+        input: b"",
+        output: b"113",
+        end: Ending::Fault {
+            kind: FaultKind::Range,
+            place: Place { line: 1, col: 1 },
+        },
     },
 ];
 
@@ -139,7 +149,7 @@ fn recursions_use_up_the_stack(rt: HostRuntime) -> Result<(), Fail> {
         let spent = CopyRun {
             end: Ending::Spent,
             steps: steps as u64,
-            peak: 8209,
+            peak: 8606,
         };
         assert_eq!(rt; copied, spent);
         assert_eq!(rt; output.bytes(), put);

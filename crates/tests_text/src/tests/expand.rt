@@ -47,11 +47,11 @@ fn puts_the_program_inside_the_prelude(rt: HostRuntime) -> Result<(), Fail> {
     let alloc = rt.alloc();
     // `putint (1 + 1)`
     let phrase = expand(alloc, &put(alloc, sum(alloc, 2)?)?)?;
-    assert_eq!(rt; node_count(&phrase), 21);
-    assert_eq!(rt; visits(&phrase), 21);
+    assert_eq!(rt; node_count(&phrase), 29);
+    assert_eq!(rt; visits(&phrase), 29);
     // `\x: int | int. skip`
     let phrase = expand(alloc, &abstraction(alloc, 2, Surface::Skip(AT))?)?;
-    assert_eq!(rt; node_count(&phrase), 18);
-    assert_eq!(rt; visits(&phrase), 19);
+    assert_eq!(rt; node_count(&phrase), 26);
+    assert_eq!(rt; visits(&phrase), 27);
     Ok(())
 }

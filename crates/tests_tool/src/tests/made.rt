@@ -18,7 +18,10 @@ pub const FILES: &[(&str, &[u8])] = &[
     ("three.fy", b"putint(1+2)"),
     ("skip.fy", b"skip"),
     ("cut.fy", b"putint(1+2"),
-    ("by_hand", b"rule 2 ns rule 2 ns rule 2 ns rule 2 ns rule 0"),
+    (
+        "by_hand",
+        b"rule 2 ns rule 2 ns rule 2 ns rule 2 ns rule 2 ns rule 0",
+    ),
     // It writes `A` and ends.
     (
         "image",

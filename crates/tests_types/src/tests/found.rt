@@ -1,6 +1,6 @@
 use crate::tests::made::{AT, boxed, first_of, types_of};
-use fy_base::{Datum, OutOfMemory};
-use fy_derive::{Derivation, DeriveError, check_as, nesting_of, nodes_of};
+use fy_base::{BinOp, Datum, OutOfMemory, PutKind};
+use fy_derive::{Derivation, DeriveError, check, check_as, nesting_of, nodes_of};
 use fy_least::{FindError, find, find_as};
 use fy_phrase::Phrase;
 use fy_types::{Ty, TyList};
@@ -86,5 +86,43 @@ fn no_types_of_free_variables(rt: HostRuntime) -> Result<(), Fail> {
     let alloc = rt.alloc();
     let p = calls(alloc)?;
     assert!(rt; matches!(find(alloc, &p), Err(FindError::NoType(_))));
+    Ok(())
+}
+
+// The cell with the index of the sequence in scope.
+fn cell(alloc: Global, index: Datum) -> Result<Box<Phrase>, OutOfMemory> {
+    let sequence = boxed(alloc, Phrase::Var(0, AT))?;
+    let index = boxed(alloc, Phrase::Lit(index, AT))?;
+    boxed(alloc, Phrase::App(sequence, index, AT))
+}
+
+// So many cells, of which one is assigned 7; it and their number are put together.
+fn cells(alloc: Global, count: Datum, index: Datum) -> Result<Phrase, OutOfMemory> {
+    let seven = boxed(alloc, Phrase::Lit(Datum::Int(7), AT))?;
+    let assign = Phrase::Assign(cell(alloc, index)?, seven, AT);
+    let length = Phrase::Sel(boxed(alloc, Phrase::Var(0, AT))?, 0, AT);
+    let sum = Phrase::Binary(BinOp::Add, cell(alloc, index)?, boxed(alloc, length)?, AT);
+    let put = Phrase::Put(PutKind::Int, boxed(alloc, sum)?, AT);
+    let body = Phrase::Seq(boxed(alloc, assign)?, boxed(alloc, put)?, AT);
+    let count = boxed(alloc, Phrase::Lit(count, AT))?;
+    Ok(Phrase::Cells(0, count, boxed(alloc, body)?, AT))
+}
+
+// What is found for a sequence of cells is accepted; a count and an index are integers.
+#[test]
+fn types_of_sequences_of_cells(rt: HostRuntime) -> Result<(), Fail> {
+    let alloc = rt.alloc();
+    let two = Datum::Int(2);
+    let truth = Datum::Bool(true);
+    let p = cells(alloc, two, two)?;
+    let d = find(alloc, &p)?;
+    if nodes_of(&d) > 262144 || nesting_of(&d) > 2048 {
+        return Err(Fail::from("past the limits"));
+    }
+    check(alloc, &p, &d)?;
+    for (count, index) in [(truth, two), (two, truth)] {
+        let p = cells(alloc, count, index)?;
+        assert!(rt; matches!(find(alloc, &p), Err(FindError::NoType(_))));
+    }
     Ok(())
 }

@@ -5,7 +5,7 @@ use Rattle.fy_derive.specs.Rules.{conclusion, is_atom, command_behind}
 use Rattle.fy_derive.specs.Shown.{shown, total, all_shown}
 use Rattle.fy_derive.specs.Contexts.{numbers}
 use Rattle.fy_derive.proofs.RuleLemmas.{slice_get-shown, slice_get-in, by_test}
-use Rattle.fy_derive.proofs.FormLemmas.{Var-tree, Unary-concludes, Binary-concludes, Cond-concludes, App-concludes, Field-concludes, Sel-concludes, LetIn-concludes, Rec-concludes, Seq-concludes, Assign-concludes, WhileDo-concludes, Forever-concludes, New-concludes, Escape-concludes, Accept-concludes, Put-concludes, Read-concludes}
+use Rattle.fy_derive.proofs.FormLemmas.{Var-tree, Unary-concludes, Binary-concludes, Cond-concludes, App-concludes, Field-concludes, Sel-concludes, LetIn-concludes, Rec-concludes, Seq-concludes, Assign-concludes, WhileDo-concludes, Forever-concludes, New-concludes, Cells-concludes, Escape-concludes, Accept-concludes, Put-concludes, Read-concludes}
 use Rattle.fy_derive.proofs.rules.conclusion.Goals as goal
 use Rattle.fy_derive.proofs.rules.conclusion.Goals.{then-is_atom, else-is_atom}
 
@@ -111,3 +111,7 @@ pub returns-in-New-clause-shown : goal.returns-in-New-clause-shown
 returns-in-New-clause-shown c =
     c.command_behind-in-New.ensures.shown
     ∙ (ap (λ a. command_behind a (shown c.args.table.now (get_or c.args.done.now 0 0)) (shown c.args.table.now (get_or c.args.done.now 1 0))) c.data_atom.ensures ∙ (New-concludes c.args.table.now (all_shown c.args.table.now (numbers c.args.context.now)) c.args.p.now _ _ _ _ _ c.args.done.now c.in-New.is c.requires.all))
+
+pub returns-in-Cells-clause-shown : goal.returns-in-Cells-clause-shown
+returns-in-Cells-clause-shown c =
+    c.command_behind-in-Cells.ensures.shown ∙ (Cells-concludes c.args.table.now (all_shown c.args.table.now (numbers c.args.context.now)) c.args.p.now _ _ _ _ c.args.done.now c.in-Cells.is c.requires.all)

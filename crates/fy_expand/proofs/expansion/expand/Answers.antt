@@ -18,7 +18,7 @@ use Rattle.fy_expand.proofs.ProgramFrames.{AreSized-Name, AreSized-Outermost}
 use Rattle.fy_expand.proofs.expansion.expand.Goals as goal
 
 pub within-requires-clause-sized : goal.within-requires-clause-sized
-within-requires-clause-sized c = AreSized-Name 4 _ (AreSized-Name 3 _ (AreSized-Name 2 _ (AreSized-Name 1 _ AreSized-Outermost)))
+within-requires-clause-sized c = AreSized-Name 11 _ (AreSized-Name 4 _ (AreSized-Name 3 _ (AreSized-Name 2 _ (AreSized-Name 1 _ AreSized-Outermost))))
 
 pub returns-clause-closed : goal.returns-clause-closed
 returns-clause-closed c =

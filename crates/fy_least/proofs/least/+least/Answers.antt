@@ -171,6 +171,9 @@ found_in-returns-in-Mark-clause-ok = forms.found_in-returns-in-Mark-clause-ok
 pub found_in-returns-in-Cells-clause-ok : goal.found_in-returns-in-Cells-clause-ok
 found_in-returns-in-Cells-clause-ok = forms.found_in-returns-in-Cells-clause-ok
 
+pub found_in-returns-in-Cells-clause-large : goal.found_in-returns-in-Cells-clause-large
+found_in-returns-in-Cells-clause-large = forms.found_in-returns-in-Cells-clause-large
+
 pub found_in_unary-returns-in_err-part-clause-large : goal.found_in_unary-returns-in_err-part-clause-large
 found_in_unary-returns-in_err-part-clause-large t c =
     let G = scope_forms c.args.scope.now in
@@ -660,6 +663,18 @@ found_in_cell-returns-clause-ok = commands.found_in_cell-returns-clause-ok
 
 pub found_in_cell-returns-clause-large : goal.found_in_cell-returns-clause-large
 found_in_cell-returns-clause-large = commands.found_in_cell-returns-clause-large
+
+pub found_in_cells-returns-in_err-count-clause-large : goal.found_in_cells-returns-in_err-count-clause-large
+found_in_cells-returns-in_err-count-clause-large = commands.found_in_cells-returns-in_err-count-clause-large
+
+pub found_in_cells-returns-in_err-body-clause-large : goal.found_in_cells-returns-in_err-body-clause-large
+found_in_cells-returns-in_err-body-clause-large = commands.found_in_cells-returns-in_err-body-clause-large
+
+pub found_in_cells-returns-clause-ok : goal.found_in_cells-returns-clause-ok
+found_in_cells-returns-clause-ok = commands.found_in_cells-returns-clause-ok
+
+pub found_in_cells-returns-clause-large : goal.found_in_cells-returns-clause-large
+found_in_cells-returns-clause-large = commands.found_in_cells-returns-clause-large
 
 pub found_in_escape-returns-in_err-body-clause-large : goal.found_in_escape-returns-in_err-body-clause-large
 found_in_escape-returns-in_err-body-clause-large = commands.found_in_escape-returns-in_err-body-clause-large

@@ -72,6 +72,9 @@ decreases-found_in_endless_loop l = 4 * size-Phrase l.body.now + 3
 abbrev pub decreases-found_in_cell : goal.decreases-found_in_cell
 decreases-found_in_cell l = 4 * max (size-Phrase l.first.now) (size-Phrase l.body.now) + 3
 
+abbrev pub decreases-found_in_cells : goal.decreases-found_in_cells
+decreases-found_in_cells l = 4 * max (size-Phrase l.count.now) (size-Phrase l.body.now) + 3
+
 abbrev pub decreases-found_in_escape : goal.decreases-found_in_escape
 decreases-found_in_escape l = 4 * size-Phrase l.body.now + 3
 

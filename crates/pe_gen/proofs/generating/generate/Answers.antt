@@ -5,7 +5,6 @@ use Rattle.std.proofs.lemmas.Option.{MatchOption-at_some}
 use Rattle.fy_phrase.specs.declared.shapes.ShapeEnd.TheVariants as ending
 use Rattle.fy_phrase.specs.Reads.{reads}
 use Rattle.pe_code.specs.declared.code.PeCode.{PeCode}
-use Rattle.pe_code.specs.Code.{no_sequences}
 use Rattle.pe_gen.specs.declared.plan.Plan.{Plan}
 use Rattle.pe_gen.specs.declared.steps.ShapeStep.TheVariants.{End}
 use Rattle.pe_gen.specs.Preorder.{seen, thunks_from}
@@ -174,11 +173,11 @@ returns-clause-right c =
     (subst (λ ss. AreEntries (map seen c.deref-3.result.now) ss c.in_ok-pairs.pairs.items places c.in_ok-entries.entries) c.as_slice-shapes.ensures
     (subst (λ xs. AreEntries (map seen c.deref-3.result.now) c.as_slice-shapes.result.now xs places c.in_ok-entries.entries) c.deref-4.ensures.value c.in_ok-entries.ensures)) in
     let plan : Plan = record { nodes = c.in_ok-nodes.nodes; table = c.args.table; steps = c.in_ok-steps.steps; entries = c.in_ok-entries.entries } in
-    let code : PeCode = record { items = c.in_ok-items.items; entries = c.in_ok-entries.entries; shapes = length c.as_slice-shapes.result.now; assignment = c.number_of_step-assignment.result; sequences = no_sequences; thunks = c.in_ok-thunks.thunks } in
+    let code : PeCode = record { items = c.in_ok-items.items; entries = c.in_ok-entries.entries; shapes = length c.as_slice-shapes.result.now; assignment = c.number_of_step-assignment.result; sequences = c.sequence_shapes.result; thunks = c.in_ok-thunks.thunks } in
     let made = code-made (reads c.args.p.now) c.args.table.now (map seen c.in_ok-nodes.nodes.items) c.in_ok-steps.steps.keys c.in_ok-pairs.pairs.items b plan refl refl refl program places all entries code refl refl run
     (c.in_ok-items.ensures.all ∙ ap length c.as_slice-2.ensures.keys)
     (λ i x item at here. c.in_ok-items.ensures.each i x item (ap (λ xs. slice_get xs i) c.as_slice-2.ensures.keys ∙ at) here)
-    (ap length c.as_slice-shapes.ensures) c.number_of_step-assignment.ensures refl
+    (ap length c.as_slice-shapes.ensures) c.number_of_step-assignment.ensures c.sequence_shapes.ensures
     (c.in_ok-thunks.ensures ∙ ap (λ xs. thunks_from 0 (map seen xs)) c.deref-5.ensures.value) in
     code-of (reads c.args.p.now) c.args.table.now code made
 
@@ -196,11 +195,11 @@ returns-clause-valid c =
     (subst (λ ss. AreEntries (map seen c.deref-3.result.now) ss c.in_ok-pairs.pairs.items places c.in_ok-entries.entries) c.as_slice-shapes.ensures
     (subst (λ xs. AreEntries (map seen c.deref-3.result.now) c.as_slice-shapes.result.now xs places c.in_ok-entries.entries) c.deref-4.ensures.value c.in_ok-entries.ensures)) in
     let plan : Plan = record { nodes = c.in_ok-nodes.nodes; table = c.args.table; steps = c.in_ok-steps.steps; entries = c.in_ok-entries.entries } in
-    let code : PeCode = record { items = c.in_ok-items.items; entries = c.in_ok-entries.entries; shapes = length c.as_slice-shapes.result.now; assignment = c.number_of_step-assignment.result; sequences = no_sequences; thunks = c.in_ok-thunks.thunks } in
+    let code : PeCode = record { items = c.in_ok-items.items; entries = c.in_ok-entries.entries; shapes = length c.as_slice-shapes.result.now; assignment = c.number_of_step-assignment.result; sequences = c.sequence_shapes.result; thunks = c.in_ok-thunks.thunks } in
     let made = code-made (reads c.args.p.now) c.args.table.now (map seen c.in_ok-nodes.nodes.items) c.in_ok-steps.steps.keys c.in_ok-pairs.pairs.items b plan refl refl refl program places all entries code refl refl run
     (c.in_ok-items.ensures.all ∙ ap length c.as_slice-2.ensures.keys)
     (λ i x item at here. c.in_ok-items.ensures.each i x item (ap (λ xs. slice_get xs i) c.as_slice-2.ensures.keys ∙ at) here)
-    (ap length c.as_slice-shapes.ensures) c.number_of_step-assignment.ensures refl
+    (ap length c.as_slice-shapes.ensures) c.number_of_step-assignment.ensures c.sequence_shapes.ensures
     (c.in_ok-thunks.ensures ∙ ap (λ xs. thunks_from 0 (map seen xs)) c.deref-5.ensures.value) in
     valid-of (reads c.args.p.now) c.args.table.now code made c.requires.pairs c.requires.words
 
@@ -218,11 +217,11 @@ returns-clause-sizes c =
     (subst (λ ss. AreEntries (map seen c.deref-3.result.now) ss c.in_ok-pairs.pairs.items places c.in_ok-entries.entries) c.as_slice-shapes.ensures
     (subst (λ xs. AreEntries (map seen c.deref-3.result.now) c.as_slice-shapes.result.now xs places c.in_ok-entries.entries) c.deref-4.ensures.value c.in_ok-entries.ensures)) in
     let plan : Plan = record { nodes = c.in_ok-nodes.nodes; table = c.args.table; steps = c.in_ok-steps.steps; entries = c.in_ok-entries.entries } in
-    let code : PeCode = record { items = c.in_ok-items.items; entries = c.in_ok-entries.entries; shapes = length c.as_slice-shapes.result.now; assignment = c.number_of_step-assignment.result; sequences = no_sequences; thunks = c.in_ok-thunks.thunks } in
+    let code : PeCode = record { items = c.in_ok-items.items; entries = c.in_ok-entries.entries; shapes = length c.as_slice-shapes.result.now; assignment = c.number_of_step-assignment.result; sequences = c.sequence_shapes.result; thunks = c.in_ok-thunks.thunks } in
     let made = code-made (reads c.args.p.now) c.args.table.now (map seen c.in_ok-nodes.nodes.items) c.in_ok-steps.steps.keys c.in_ok-pairs.pairs.items b plan refl refl refl program places all entries code refl refl run
     (c.in_ok-items.ensures.all ∙ ap length c.as_slice-2.ensures.keys)
     (λ i x item at here. c.in_ok-items.ensures.each i x item (ap (λ xs. slice_get xs i) c.as_slice-2.ensures.keys ∙ at) here)
-    (ap length c.as_slice-shapes.ensures) c.number_of_step-assignment.ensures refl
+    (ap length c.as_slice-shapes.ensures) c.number_of_step-assignment.ensures c.sequence_shapes.ensures
     (c.in_ok-thunks.ensures ∙ ap (λ xs. thunks_from 0 (map seen xs)) c.deref-5.ensures.value) in
     sizes-of (reads c.args.p.now) c.args.table.now code made
 
@@ -240,11 +239,11 @@ returns-clause-laid_out c =
     (subst (λ ss. AreEntries (map seen c.deref-3.result.now) ss c.in_ok-pairs.pairs.items places c.in_ok-entries.entries) c.as_slice-shapes.ensures
     (subst (λ xs. AreEntries (map seen c.deref-3.result.now) c.as_slice-shapes.result.now xs places c.in_ok-entries.entries) c.deref-4.ensures.value c.in_ok-entries.ensures)) in
     let plan : Plan = record { nodes = c.in_ok-nodes.nodes; table = c.args.table; steps = c.in_ok-steps.steps; entries = c.in_ok-entries.entries } in
-    let code : PeCode = record { items = c.in_ok-items.items; entries = c.in_ok-entries.entries; shapes = length c.as_slice-shapes.result.now; assignment = c.number_of_step-assignment.result; sequences = no_sequences; thunks = c.in_ok-thunks.thunks } in
+    let code : PeCode = record { items = c.in_ok-items.items; entries = c.in_ok-entries.entries; shapes = length c.as_slice-shapes.result.now; assignment = c.number_of_step-assignment.result; sequences = c.sequence_shapes.result; thunks = c.in_ok-thunks.thunks } in
     let made = code-made (reads c.args.p.now) c.args.table.now (map seen c.in_ok-nodes.nodes.items) c.in_ok-steps.steps.keys c.in_ok-pairs.pairs.items b plan refl refl refl program places all entries code refl refl run
     (c.in_ok-items.ensures.all ∙ ap length c.as_slice-2.ensures.keys)
     (λ i x item at here. c.in_ok-items.ensures.each i x item (ap (λ xs. slice_get xs i) c.as_slice-2.ensures.keys ∙ at) here)
-    (ap length c.as_slice-shapes.ensures) c.number_of_step-assignment.ensures refl
+    (ap length c.as_slice-shapes.ensures) c.number_of_step-assignment.ensures c.sequence_shapes.ensures
     (c.in_ok-thunks.ensures ∙ ap (λ xs. thunks_from 0 (map seen xs)) c.deref-5.ensures.value) in
     laid-out (reads c.args.p.now) c.args.table.now code made
 
@@ -262,15 +261,15 @@ returns-clause-few c =
     (subst (λ ss. AreEntries (map seen c.deref-3.result.now) ss c.in_ok-pairs.pairs.items places c.in_ok-entries.entries) c.as_slice-shapes.ensures
     (subst (λ xs. AreEntries (map seen c.deref-3.result.now) c.as_slice-shapes.result.now xs places c.in_ok-entries.entries) c.deref-4.ensures.value c.in_ok-entries.ensures)) in
     let plan : Plan = record { nodes = c.in_ok-nodes.nodes; table = c.args.table; steps = c.in_ok-steps.steps; entries = c.in_ok-entries.entries } in
-    let code : PeCode = record { items = c.in_ok-items.items; entries = c.in_ok-entries.entries; shapes = length c.as_slice-shapes.result.now; assignment = c.number_of_step-assignment.result; sequences = no_sequences; thunks = c.in_ok-thunks.thunks } in
+    let code : PeCode = record { items = c.in_ok-items.items; entries = c.in_ok-entries.entries; shapes = length c.as_slice-shapes.result.now; assignment = c.number_of_step-assignment.result; sequences = c.sequence_shapes.result; thunks = c.in_ok-thunks.thunks } in
     let made = code-made (reads c.args.p.now) c.args.table.now (map seen c.in_ok-nodes.nodes.items) c.in_ok-steps.steps.keys c.in_ok-pairs.pairs.items b plan refl refl refl program places all entries code refl refl run
     (c.in_ok-items.ensures.all ∙ ap length c.as_slice-2.ensures.keys)
     (λ i x item at here. c.in_ok-items.ensures.each i x item (ap (λ xs. slice_get xs i) c.as_slice-2.ensures.keys ∙ at) here)
-    (ap length c.as_slice-shapes.ensures) c.number_of_step-assignment.ensures refl
+    (ap length c.as_slice-shapes.ensures) c.number_of_step-assignment.ensures c.sequence_shapes.ensures
     (c.in_ok-thunks.ensures ∙ ap (λ xs. thunks_from 0 (map seen xs)) c.deref-5.ensures.value) in
     items-few (reads c.args.p.now) c.args.table.now code made
 
 pub returns-clause-follows : goal.returns-clause-follows
 returns-clause-follows c =
-    let code : PeCode = record { items = c.in_ok-items.items; entries = c.in_ok-entries.entries; shapes = length c.as_slice-shapes.result.now; assignment = c.number_of_step-assignment.result; sequences = no_sequences; thunks = c.in_ok-thunks.thunks } in
+    let code : PeCode = record { items = c.in_ok-items.items; entries = c.in_ok-entries.entries; shapes = length c.as_slice-shapes.result.now; assignment = c.number_of_step-assignment.result; sequences = c.sequence_shapes.result; thunks = c.in_ok-thunks.thunks } in
     follows (record { phrase = reads c.args.p.now; table = c.args.table.now; code = code; closed = c.requires.closed; depths = c.requires.depths; typed = c.requires.table; handed = no_data; constants = λ q v e. absurd cc; right = returns-clause-right c })

@@ -12,7 +12,7 @@ use Rattle.pe_gen.specs.Plan.{nodes_in, AreDue}
 use Rattle.pe_right.specs.Right.{is_variable}
 use Rattle.pe_gen.specs.Sites.{is_merge, IsListed}
 use Rattle.pe_gen.proofs.Gets.{some_same}
-use Rattle.pe_gen.proofs.InsnLemmas.{form-asks, form-insn, Lit-tree, Skip-tree, Mark-tree, var-insn, lit-insn, unary-insn, binary-insn, cond-insn, case-insn, lam-insn, app-insn, app-variable-insn, field-insn, sel-insn, let-insn, let-variable-insn, rec-insn, skip-insn, seq-insn, assign-insn, while-insn, forever-insn, new-insn, escape-insn, accept-insn, put-insn, read-insn}
+use Rattle.pe_gen.proofs.InsnLemmas.{form-asks, form-insn, Lit-tree, Skip-tree, Mark-tree, var-insn, lit-insn, unary-insn, binary-insn, cond-insn, case-insn, lam-insn, app-insn, app-variable-insn, field-insn, sel-insn, let-insn, let-variable-insn, rec-insn, skip-insn, seq-insn, assign-insn, while-insn, forever-insn, new-insn, cells-insn, escape-insn, accept-insn, put-insn, read-insn}
 use Rattle.pe_gen.proofs.items.insn_of.Goals as goal
 
 pub entry_at_end-operand-requires-clause-asked : goal.entry_at_end-operand-requires-clause-asked
@@ -114,15 +114,31 @@ entry_at_end-value-requires-in-New-clause-asked c =
     let a = form-asks c.args.plan.now c.args.site.node c.args.site.shape (reads c.args.phrase.now) (new c.in-New.field-0 c.in-New.field-1 (reads c.in-New.field-2.value) (reads c.in-New.field-3.value) c.in-New.field-4) (New-tree c.args.phrase.now c.in-New.field-0 c.in-New.field-1 c.in-New.field-2 c.in-New.field-3 c.in-New.field-4 c.in-New.is) c.requires.asked in
     a.0.1
 
+pub entry_at_end-value-requires-in-Cells-clause-asked : goal.entry_at_end-value-requires-in-Cells-clause-asked
+entry_at_end-value-requires-in-Cells-clause-asked c =
+    let a = form-asks c.args.plan.now c.args.site.node c.args.site.shape (reads c.args.phrase.now) (cells c.in-Cells.field-0 (reads c.in-Cells.field-1.value) (reads c.in-Cells.field-2.value) c.in-Cells.field-3) (Cells-tree c.args.phrase.now c.in-Cells.field-0 c.in-Cells.field-1 c.in-Cells.field-2 c.in-Cells.field-3 c.in-Cells.is) c.requires.asked in
+    a.0.1
+
 pub behind-requires-in-New-clause-listed : goal.behind-requires-in-New-clause-listed
 behind-requires-in-New-clause-listed c =
     let a = form-asks c.args.plan.now c.args.site.node c.args.site.shape (reads c.args.phrase.now) (new c.in-New.field-0 c.in-New.field-1 (reads c.in-New.field-2.value) (reads c.in-New.field-3.value) c.in-New.field-4) (New-tree c.args.phrase.now c.in-New.field-0 c.in-New.field-1 c.in-New.field-2 c.in-New.field-3 c.in-New.field-4 c.in-New.is) c.requires.asked in
     ((reads c.in-New.field-2.value), a.0.0)
 
+pub behind-requires-in-Cells-clause-listed : goal.behind-requires-in-Cells-clause-listed
+behind-requires-in-Cells-clause-listed c =
+    let a = form-asks c.args.plan.now c.args.site.node c.args.site.shape (reads c.args.phrase.now) (cells c.in-Cells.field-0 (reads c.in-Cells.field-1.value) (reads c.in-Cells.field-2.value) c.in-Cells.field-3) (Cells-tree c.args.phrase.now c.in-Cells.field-0 c.in-Cells.field-1 c.in-Cells.field-2 c.in-Cells.field-3 c.in-Cells.is) c.requires.asked in
+    ((reads c.in-Cells.field-1.value), a.0.0)
+
 pub entry_at_end-body-requires-in-New-clause-asked : goal.entry_at_end-body-requires-in-New-clause-asked
 entry_at_end-body-requires-in-New-clause-asked c =
     let a = form-asks c.args.plan.now c.args.site.node c.args.site.shape (reads c.args.phrase.now) (new c.in-New.field-0 c.in-New.field-1 (reads c.in-New.field-2.value) (reads c.in-New.field-3.value) c.in-New.field-4) (New-tree c.args.phrase.now c.in-New.field-0 c.in-New.field-1 c.in-New.field-2 c.in-New.field-3 c.in-New.field-4 c.in-New.is) c.requires.asked in
     let second = c.behind-in-New.ensures (reads c.in-New.field-2.value) a.0.0 in
+    subst (λ m. HasPairOf c.args.plan.now.table.now m (at_end a_run)) (sym second) a.1.1
+
+pub entry_at_end-body-requires-in-Cells-clause-asked : goal.entry_at_end-body-requires-in-Cells-clause-asked
+entry_at_end-body-requires-in-Cells-clause-asked c =
+    let a = form-asks c.args.plan.now c.args.site.node c.args.site.shape (reads c.args.phrase.now) (cells c.in-Cells.field-0 (reads c.in-Cells.field-1.value) (reads c.in-Cells.field-2.value) c.in-Cells.field-3) (Cells-tree c.args.phrase.now c.in-Cells.field-0 c.in-Cells.field-1 c.in-Cells.field-2 c.in-Cells.field-3 c.in-Cells.is) c.requires.asked in
+    let second = c.behind-in-Cells.ensures (reads c.in-Cells.field-1.value) a.0.0 in
     subst (λ m. HasPairOf c.args.plan.now.table.now m (at_end a_run)) (sym second) a.1.1
 
 pub behind-second-requires-clause-listed : goal.behind-second-requires-clause-listed
@@ -211,16 +227,12 @@ entry_at-requires-clause-asked c =
     let a = form-asks c.args.plan.now c.args.site.node c.args.site.shape (reads c.args.phrase.now) (rec c.in-Rec.field-0 (plain_type c.in-Rec.field-1) (reads c.in-Rec.field-2.value) c.in-Rec.field-3) (Rec-tree c.args.phrase.now c.in-Rec.field-0 c.in-Rec.field-1 c.in-Rec.field-2 c.in-Rec.field-3 c.in-Rec.is) c.requires.asked in
     (c.requires.asked.0, c.requires.asked.1, a.1)
 
-pub unreachable-requires-in-Merge : goal.unreachable-requires-in-Merge
-unreachable-requires-in-Merge c =
+pub unreachable-requires : goal.unreachable-requires
+unreachable-requires c =
     elim c.in-Merge.is [
       | inl x ↦ let e = sym (ap is_merge (Merge-tree c.args.phrase.now x.0 x.1 x.2 x.3)) ∙ c.requires.whole in absurd cc
       | inr x ↦ form-asks c.args.plan.now c.args.site.node c.args.site.shape (reads c.args.phrase.now) (mark x.0 x.1) (Mark-tree c.args.phrase.now x.0 x.1 x.2) c.requires.asked
     ]
-
-pub unreachable-requires : goal.unreachable-requires
-unreachable-requires c =
-    form-asks c.args.plan.now c.args.site.node c.args.site.shape (reads c.args.phrase.now) (cells c.in-Cells.field-0 (reads c.in-Cells.field-1.value) (reads c.in-Cells.field-2.value) c.in-Cells.field-3) (Cells-tree c.args.phrase.now c.in-Cells.field-0 c.in-Cells.field-1 c.in-Cells.field-2 c.in-Cells.field-3 c.in-Cells.is) c.requires.asked
 
 pub returns-in-Var : goal.returns-in-Var
 returns-in-Var c = λ s is.
@@ -271,6 +283,13 @@ returns-in-New c = λ s is.
     let second = c.behind-in-New.ensures (reads c.in-New.field-2.value) a.0.0 in
     form-insn c.args.plan.now c.args.site.node (reads c.args.phrase.now) (new c.in-New.field-0 c.in-New.field-1 (reads c.in-New.field-2.value) (reads c.in-New.field-3.value) c.in-New.field-4) s (insn.New c.entry_at_end-value-in-New.result c.entry_at_end-body-in-New.result) (New-tree c.args.phrase.now c.in-New.field-0 c.in-New.field-1 c.in-New.field-2 c.in-New.field-3 c.in-New.field-4 c.in-New.is)
     (new-insn c.args.plan.now c.args.site.node c.in-New.field-0 c.in-New.field-1 (reads c.in-New.field-2.value) (reads c.in-New.field-3.value) c.in-New.field-4 s c.behind-in-New.result c.entry_at_end-value-in-New.result c.entry_at_end-body-in-New.result second c.entry_at_end-value-in-New.ensures c.entry_at_end-body-in-New.ensures)
+
+pub returns-in-Cells : goal.returns-in-Cells
+returns-in-Cells c = λ s is.
+    let a = form-asks c.args.plan.now c.args.site.node c.args.site.shape (reads c.args.phrase.now) (cells c.in-Cells.field-0 (reads c.in-Cells.field-1.value) (reads c.in-Cells.field-2.value) c.in-Cells.field-3) (Cells-tree c.args.phrase.now c.in-Cells.field-0 c.in-Cells.field-1 c.in-Cells.field-2 c.in-Cells.field-3 c.in-Cells.is) c.requires.asked in
+    let second = c.behind-in-Cells.ensures (reads c.in-Cells.field-1.value) a.0.0 in
+    form-insn c.args.plan.now c.args.site.node (reads c.args.phrase.now) (cells c.in-Cells.field-0 (reads c.in-Cells.field-1.value) (reads c.in-Cells.field-2.value) c.in-Cells.field-3) s (insn.Cells c.entry_at_end-value-in-Cells.result c.entry_at_end-body-in-Cells.result) (Cells-tree c.args.phrase.now c.in-Cells.field-0 c.in-Cells.field-1 c.in-Cells.field-2 c.in-Cells.field-3 c.in-Cells.is)
+    (cells-insn c.args.plan.now c.args.site.node c.in-Cells.field-0 (reads c.in-Cells.field-1.value) (reads c.in-Cells.field-2.value) c.in-Cells.field-3 s c.behind-in-Cells.result c.entry_at_end-value-in-Cells.result c.entry_at_end-body-in-Cells.result second c.entry_at_end-value-in-Cells.ensures c.entry_at_end-body-in-Cells.ensures)
 
 pub returns-in-Cond : goal.returns-in-Cond
 returns-in-Cond c = λ s is.

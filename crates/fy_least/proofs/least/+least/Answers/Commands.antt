@@ -1,17 +1,17 @@
 use Rattle.std.proofs.Common.{◌+◌, ◌∷◌, refl, sym, subst}
 use Rattle.std.proofs.lemmas.Result.{err_from_is_err_and}
-use Rattle.fy_types.specs.declared.types.Atom.TheVariants.{Comm, Compl}
+use Rattle.fy_types.specs.declared.types.Atom.TheVariants.{Int, Comm, Compl}
 use Rattle.fy_types.specs.Paths.{paths}
-use Rattle.fy_phrase.specs.Tree.{seq, assign, while_do, forever, new, escape, accept, put, read}
+use Rattle.fy_phrase.specs.Tree.{seq, assign, while_do, forever, new, cells, escape, accept, put, read}
 use Rattle.fy_phrase.specs.Reads.{reads}
 use Rattle.fy_phrase.specs.Sizes as sizes
-use Rattle.fy_derive.specs.Atoms.{data_atom, cell_type}
+use Rattle.fy_derive.specs.Atoms.{data_atom, cell_type, sequence_type}
 use Rattle.fy_derive.specs.Least.{has, one_end, least_type, visits}
 use Rattle.fy_least.specs.Scopes.{scope_forms}
 use Rattle.fy_least.specs.Visited.{IsRefused}
 use Rattle.fy_least.proofs.ArmLemmas.{ok-of, scope-under}
 use Rattle.fy_least.proofs.RefusedLemmas.{one-refused, two-refused, only-part, first-part, second-part}
-use Rattle.fy_least.proofs.RuleFound.{forever-found, escape-found, accept-found, put-found, read-found, while-found, command-same, seq-found, new-found, assign-found}
+use Rattle.fy_least.proofs.RuleFound.{forever-found, escape-found, accept-found, put-found, read-found, while-found, command-same, seq-found, new-found, cells-found, assign-found}
 use Rattle.fy_least.proofs.least.+least.Goals as goal
 
 pub found_in_sequence-returns-in_err-first-clause-large : goal.found_in_sequence-returns-in_err-first-clause-large
@@ -211,6 +211,50 @@ found_in_cell-returns-clause-large t c =
     (subst (λ P. IsRefused P (f.total + g.total))
     (sym (command-same (has (least_type G p) (data_atom c.args.ty)) (least_type (paths (cell_type c.args.ty) ∷ G) q)))
     (rw (c.data_atom.ensures, hf.paths, hg.paths) at (c.command.ensures.large e)))
+
+pub found_in_cells-returns-in_err-count-clause-large : goal.found_in_cells-returns-in_err-count-clause-large
+found_in_cells-returns-in_err-count-clause-large t c =
+    let G = scope_forms c.args.scope.now in
+    let p = reads c.args.count.now in
+    let q = reads c.args.body.now in
+    let err = err_from_is_err_and c.from_residual.result c.from_residual.ensures.1 in
+    rw (err.1, err.2) (λ d e. first-part G p (cells d p q c.args.at)
+    (λ m. visits (m + 1 + sizes.nodes p) (paths sequence_type ∷ G) q) (λ m. refl) (c.in_err-count.ensures.large e))
+
+pub found_in_cells-returns-in_err-body-clause-large : goal.found_in_cells-returns-in_err-body-clause-large
+found_in_cells-returns-in_err-body-clause-large t c =
+    let G = scope_forms c.args.scope.now in
+    let p = reads c.args.count.now in
+    let q = reads c.args.body.now in
+    let err = err_from_is_err_and c.from_residual-in_err-body.result c.from_residual-in_err-body.ensures.1 in
+    rw (err.1, err.2) (λ d e. second-part G (paths sequence_type ∷ G) p q (cells d p q c.args.at) (λ m. refl)
+    (rw (scope-under, c.of_distinct-bound.ensures, c.in_ok-sequence.ensures) at (c.in_err-body.ensures.large e)))
+
+pub found_in_cells-returns-clause-ok : goal.found_in_cells-returns-clause-ok
+found_in_cells-returns-clause-ok t c =
+    let G = scope_forms c.args.scope.now in
+    let p = reads c.args.count.now in
+    let q = reads c.args.body.now in
+    let f = c.in_ok-count.count in
+    let g = c.in_ok-body.body in
+    let hf = c.in_ok-count.ensures.ok in
+    let hg = rw (scope-under, c.of_distinct-bound.ensures, c.in_ok-sequence.ensures) at c.in_ok-body.ensures.ok in
+    λ d. ok-of c.command.result refl (λ r. cells-found G d p q c.args.at f g r hf hg)
+    c.command.ensures.made c.command.ensures.derived
+
+pub found_in_cells-returns-clause-large : goal.found_in_cells-returns-clause-large
+found_in_cells-returns-clause-large t c =
+    let G = scope_forms c.args.scope.now in
+    let p = reads c.args.count.now in
+    let q = reads c.args.body.now in
+    let f = c.in_ok-count.count in
+    let g = c.in_ok-body.body in
+    let hf = c.in_ok-count.ensures.ok in
+    let hg = rw (scope-under, c.of_distinct-bound.ensures, c.in_ok-sequence.ensures) at c.in_ok-body.ensures.ok in
+    λ d e. two-refused G (paths sequence_type ∷ G) p q (cells d p q c.args.at) f g hf hg refl (λ m. refl)
+    (subst (λ P. IsRefused P (f.total + g.total))
+    (sym (command-same (has (least_type G p) Int) (least_type (paths sequence_type ∷ G) q)))
+    (rw (hf.paths, hg.paths) at (c.command.ensures.large e)))
 
 pub found_in_escape-returns-in_err-body-clause-large : goal.found_in_escape-returns-in_err-body-clause-large
 found_in_escape-returns-in_err-body-clause-large t c =

@@ -1,13 +1,12 @@
 use Rattle.std.proofs.Common.{refl, sym, subst}
 use Rattle.fy_phrase.specs.Tree.{var, lit, skip}
-use Rattle.fy_phrase.specs.Reads.{reads}
 use Rattle.fy_derive.proofs.FormLemmas.{Var-tree, Unary-tree, Binary-tree, Cond-tree, Case-tree, Lam-tree, App-tree, Field-tree, Sel-tree, Merge-tree, LetIn-tree, Rec-tree, Seq-tree, Assign-tree, WhileDo-tree, Forever-tree, New-tree, Escape-tree, Accept-tree, Put-tree, Read-tree, Cells-tree}
 use Rattle.fy_least.specs.Scopes.{scope_forms}
 use Rattle.fy_least.specs.Visited.{IsFound}
 use Rattle.fy_least.proofs.ArmLemmas.{Lit-tree, Skip-tree, Mark-tree, ok-of, same-ok, large-of}
 use Rattle.fy_least.proofs.FormFound.{var-found}
 use Rattle.fy_least.proofs.RefusedLemmas.{none-refused}
-use Rattle.fy_least.proofs.RuleFound.{lit-found, skip-found, mark-found, cells-found}
+use Rattle.fy_least.proofs.RuleFound.{lit-found, skip-found, mark-found}
 use Rattle.fy_least.proofs.least.+least.Goals as goal
 
 pub found_in-returns-in-Var-clause-ok : goal.found_in-returns-in-Var-clause-ok
@@ -300,6 +299,11 @@ found_in-returns-in-Mark-clause-ok t c =
 pub found_in-returns-in-Cells-clause-ok : goal.found_in-returns-in-Cells-clause-ok
 found_in-returns-in-Cells-clause-ok t c =
     let G = scope_forms c.args.scope.now in
-    let shape = Cells-tree c.args.p.now c.in-Cells.field-0 c.in-Cells.field-1 c.in-Cells.field-2 c.in-Cells.at c.in-Cells.is in
-    let h = cells-found G c.in-Cells.field-0 (reads c.in-Cells.field-1.value) (reads c.in-Cells.field-2.value) c.in-Cells.at c.none-in-Cells.result c.none-in-Cells.ensures.made c.none-in-Cells.ensures.derived in
-    subst (λ q. IsFound G q c.none-in-Cells.result) (sym shape) h
+    let shape = Cells-tree c.args.p.now c.in-Cells.field-0 c.in-Cells.count c.in-Cells.body c.in-Cells.at c.in-Cells.is in
+    same-ok G c.found_in_cells.result shape (rw (c.deref-in-Cells.ensures, c.deref-in-Cells-2.ensures) at (c.found_in_cells.ensures.ok c.in-Cells.field-0))
+
+pub found_in-returns-in-Cells-clause-large : goal.found_in-returns-in-Cells-clause-large
+found_in-returns-in-Cells-clause-large t c =
+    let G = scope_forms c.args.scope.now in
+    let shape = Cells-tree c.args.p.now c.in-Cells.field-0 c.in-Cells.count c.in-Cells.body c.in-Cells.at c.in-Cells.is in
+    λ e. large-of G shape (rw (c.deref-in-Cells.ensures, c.deref-in-Cells-2.ensures) at (c.found_in_cells.ensures.large c.in-Cells.field-0 e))
