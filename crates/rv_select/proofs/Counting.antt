@@ -74,7 +74,7 @@ pub push_frame_words : (entry label : ℕ) → entry < 2 ^ 28 → block_words (p
 push_frame_words entry label lt = let few = set_short (entry_word entry) (omega arith) in omega arith
 
 -- an index is entered through a row
-pub index_words : (code : PeCode) (entry : ℕ) (o : Option ℕ) → entry < 2 ^ 28 → ForSome o (λ s. row_address code s < 2 ^ 31) → block_words (index_block code entry o) ≤ 48
+pub index_words : (code : PeCode) (entry : ℕ) (o : Option ℕ) → entry < 2 ^ 28 → ForSome o (λ s. row_address code s < 2 ^ 31) → block_words (index_block code entry o) ≤ 47
 index_words code entry None few row = omega arith
 index_words code entry (Some s) few row =
     let small = set_short (entry_word entry) (omega arith) in

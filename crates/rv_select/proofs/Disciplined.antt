@@ -79,8 +79,6 @@ module _ (code : PeCode) (b : Bounds) (fit : Fits code b) where
         low code b fit filled_label (omega arith),
         low code b fit exhausted (omega arith),
         low code b fit outside_label (omega arith),
-        low code b fit read_label (omega arith),
-        low code b fit write_label (omega arith),
         low code b fit meet (omega arith),
         low code b fit leave_label (omega arith),
       )

@@ -1,5 +1,5 @@
 -- An index meets the context of a sequence of cells.
-use Rattle.std.proofs.Common.{◌≡◌, ℕ, ◌+◌, ◌*◌, ◌<◌, ◌≤◌, Bool, true, false, List, [], ◌∷◌, length, pos, negsuc, Some, None, refl, sym, ap, ◌∙◌, subst, inl, inr, arith, lt-ltb, le-ltb}
+use Rattle.std.proofs.Common.{◌≡◌, ℕ, ◌+◌, ◌*◌, ◌<◌, ◌≤◌, Bool, true, false, List, ◌∷◌, length, pos, negsuc, Some, None, refl, sym, ap, ◌∙◌, subst, inl, inr, arith, lt-ltb, le-ltb}
 use Rattle.std.proofs.lemmas.Bool.{cases_lt, cond-true, cond-false}
 use Rattle.std.specs.Prelude.{nat_lt, slice_index}
 use Rattle.std.specs.declared.option.Option.{Option}
@@ -11,46 +11,46 @@ use Rattle.fy_phrase.specs.Copy.{element}
 use Rattle.pe_code.specs.declared.code.PeInsn.TheVariants as insn
 use Rattle.pe_code.specs.declared.code.PeCode.{PeCode}
 use Rattle.pe_machine.specs.States.{Sequence, Wanted}
-use Rattle.pe_items.specs.Items.{Item, address_on, sequence_at, value_at, ItemState}
+use Rattle.pe_items.specs.Items.{Item, address_on, sequence_at, ItemState}
 use Rattle.pe_items.specs.Step as item
-use Rattle.pe_items.specs.Step.{ItemMove, cell_entered, element_picked, newest_of}
+use Rattle.pe_items.specs.Step.{ItemMove, cell_entered, element_picked}
 use Rattle.rv_insn.specs.declared.instructions.RegOp.TheVariants as reg
 use Rattle.rv_insn.specs.Operations.{shift_value}
 use Rattle.rv_insn.specs.declared.instructions.ShiftOp.TheVariants.{Slli}
 use Rattle.rv_word.specs.declared.micros.Register.TheVariants.{Frame, Context, Top, Datum, First, Second}
 use Rattle.rv_insn.specs.declared.instructions.BranchOp.TheVariants.{Bgeu}
-use Rattle.rv_word.specs.declared.micros.Micro.TheVariants.{Shift, Alu, Test, Jump}
+use Rattle.rv_word.specs.declared.micros.Micro.TheVariants.{Shift, Alu, Test}
 use Rattle.rv_word.specs.Word.{Data, Code, word_address, block}
 use Rattle.rv_operators.specs.Operators.{word_of}
 use Rattle.rv_operators.specs.Laws.{IsDatum}
-use Rattle.rv_select.specs.Numbers.{read_label, write_label, read_element_label, write_element_label, outside_label, element_entry, label_of, entry_number, entry_word}
+use Rattle.rv_select.specs.Numbers.{read_element_label, write_element_label, outside_label, element_entry, label_of, entry_number, entry_word}
 use Rattle.rv_select.specs.Blocks.{element_block, outside_block}
 use Rattle.rv_select.specs.Layout.{word_in, count_address, HoldsItems}
 use Rattle.rv_select.proofs.Runs.{Later, wider}
-use Rattle.rv_select.proofs.Wp.{Wp, at, with_value, by_blocks}
+use Rattle.rv_select.proofs.Wp.{Wp, with_value, by_blocks}
 use Rattle.rv_select.proofs.Values.{moves, moves_by, moves_back, adds, eightfold, taken_above, untaken_above}
 use Rattle.rv_select.proofs.Memory.{SequenceIs, sequence_is}
 use Rattle.rv_select.proofs.SelectedCode.{IsEntry, IsSelected}
 use Rattle.rv_select.proofs.Follows.{Helpers}
 use Rattle.rv_select.proofs.Landing.{Keeps}
-use Rattle.rv_select.proofs.Entering.{cell_read, assigned_at}
+use Rattle.rv_select.proofs.Entering.{cell_block, cell_by}
 use Rattle.rv_select.proofs.Meeting.{IsMet, Q, From, Kept, negative_small, nothing, fault_told, cut}
 
--- the blocks where an index is met, and where its cell is entered
+-- the block where an index is met
 abbrev pub element_label : Bool → ℕ
 element_label true = write_element_label
 element_label false = read_element_label
 
-abbrev pub cell_label : Bool → ℕ
-cell_label true = write_label
-cell_label false = read_label
+cell_few : (b : Bool) → length (cell_block b) ≤ 6
+cell_few true = omega arith
+cell_few false = omega arith
 
 module _ (code : PeCode) (w : Code) (sel : IsSelected code w) (help : Helpers) (e0 : Data) where
   pub element_leads : (b : Bool) → IsEntry w (element_entry b) (element_label b)
   element_leads true = sel.fixed 11 (omega arith)
   element_leads false = sel.fixed 10 (omega arith)
 
-  element_is : (b : Bool) → block w (element_label b) ≡ element_block (cell_label b)
+  element_is : (b : Bool) → block w (element_label b) ≡ element_block (cell_block b)
   element_is true = sel.own 15 (omega arith)
   element_is false = sel.own 14 (omega arith)
 
@@ -111,7 +111,7 @@ module _ (code : PeCode) (w : Code) (sel : IsSelected code w) (help : Helpers) (
 
       -- what the block does up to the test
       tested : (mv : ItemMove) → Wp w (Later w 60 (Q code w sel help e0 mv))
-          (Test Bgeu Datum Second outside_label ∷ Shift Slli Datum Datum 3 ∷ Alu reg.Add Frame First Datum ∷ Jump (cell_label k.is_written) ∷ []) left → Meets mv
+          (Test Bgeu Datum Second outside_label ∷ Shift Slli Datum Datum 3 ∷ Alu reg.Add Frame First Datum ∷ cell_block k.is_written) left → Meets mv
       tested mv go =
           let n = k.number in
           let room = met.room in
@@ -119,7 +119,8 @@ module _ (code : PeCode) (w : Code) (sel : IsSelected code w) (help : Helpers) (
           let fits = met.memory.fits in
           let few = met.memory.few in
           let spot : n + 2 + 0 ≡ n + 2 = omega arith in
-          by_blocks w (Q code w sel help e0 mv) (element_label k.is_written) (element_block (cell_label k.is_written)) e 60 200 (element_is k.is_written) (omega arith) (
+          let short = cell_few k.is_written in
+          by_blocks w (Q code w sel help e0 mv) (element_label k.is_written) (element_block (cell_block k.is_written)) e 60 200 (element_is k.is_written) (omega arith) (
             address_on older,
             met.newest_is,
             omega arith,
@@ -163,30 +164,20 @@ module _ (code : PeCode) (w : Code) (sel : IsSelected code w) (help : Helpers) (
       kept : (i : ℕ) → Keeps e0.input e0.output (length e0.words) (entered_data i)
       kept i = record { input_is = keeps.input_is; output_is = keeps.output_is; size_is = keeps.size_is }
 
-      enters_cell : (b : Bool) (i : ℕ) → Later w 60 (Q code w sel help e0 (cell_entered b (element i) k.number stack)) (at w (cell_label b) (entered_data i))
-      enters_cell true i =
-          inr (assigned_at code w sel stack e0 (element i) k.number (entered_data i) (holds i) (kept i) refl (newest_of stack) refl)
-      enters_cell false i =
-          inr (wider w (Q code w sel help e0 (cell_entered false (element i) k.number stack)) 40 60 (record { rest = block w read_label; held = entered_data i }) (omega arith)
-          (cell_read code w sel stack e0 (element i) k.number (entered_data i) (holds i) (kept i) refl (value_at (element i) k.number older) refl))
-
       hits : (i : ℕ) → e.named.datum ≡ i → i < length c.values → Meets (cell_entered k.is_written (element i) k.number stack)
       hits i is lt =
           let within = r.within in
           let fits = met.memory.fits in
           let few = met.memory.few in
-          tested (cell_entered k.is_written (element i) k.number stack) (
+          cell_by code w sel stack e0 (element i) k.number (entered_data i) (holds i) (kept i) refl 60 Meets (nothing code w sel help e0 200 (element_label k.is_written) e (omega arith)) k.is_written
+          (λ mv go. tested mv (
             λ t. absurd (let past = taken_above e.named.datum (length c.values) t in omega arith),
             λ u. (
               8 * i,
               ap (λ v. shift_value Slli v 3) is ∙ eightfold i (omega arith),
-              (
-                word_address (k.number + 2 + i),
-                adds (count_address k.number) (8 * i) (word_address (k.number + 2 + i)) (omega arith) (omega arith),
-                enters_cell k.is_written i,
-              ),
+              (word_address (k.number + 2 + i), adds (count_address k.number) (8 * i) (word_address (k.number + 2 + i)) (omega arith) (omega arith), go),
             ),
-          )
+          ))
 
       picks : (i : ℕ) → e.named.datum ≡ i → Meets (element_picked (kind.Int (pos i)) k (Some c) stack)
       picks i is = elim (cases_lt i (length c.values)) [

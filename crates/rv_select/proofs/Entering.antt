@@ -16,15 +16,16 @@ use Rattle.pe_code.specs.Valid.{LeadsTo}
 use Rattle.pe_machine.specs.States.{Thunk, source, datum, cell_of, jump_of, sequence_of, value, PeContext}
 use Rattle.pe_machine.specs.Step.{is_assignment}
 use Rattle.pe_items.specs.Items as stack
-use Rattle.pe_items.specs.Items.{Item, address_on, FoundContext, context_at, datum_at, escape_at, value_at, ItemState}
+use Rattle.pe_items.specs.Items.{Item, address_on, FoundContext, context_at, escape_at, value_at, ItemState}
 use Rattle.pe_items.specs.Step.{ItemMove, sticks, focused, loaded, assigned, assignment_meets, cell_entered, left_by, jumped, at_entry, entered_plain, taken, newest_of}
 use Rattle.rv_insn.specs.declared.instructions.RegOp.TheVariants as reg
 use Rattle.rv_word.specs.declared.micros.Register.TheVariants.{Frame, Context, Top, Datum, Second, Third}
-use Rattle.rv_word.specs.declared.micros.Micro.TheVariants.{Set, Alu, Window, Get, Save, Look, Jump, Enter}
+use Rattle.rv_word.specs.declared.micros.Micro.{Micro}
+use Rattle.rv_word.specs.declared.micros.Micro.TheVariants.{Set, Alu, Window, Get, Look, Jump, Enter}
 use Rattle.rv_word.specs.Word.{Data, Code, State, Led, word_address, table_address, block}
 use Rattle.rv_operators.specs.Operators.{word_of}
 use Rattle.rv_select.specs.Numbers.{meet, datum_label, read_label, write_label, leave_label, pop_label, datum_entry, read_entry, write_entry, leave_entry, label_of, entry_number, entry_word, row_words, place_in, column_word, column_of, row_address}
-use Rattle.rv_select.specs.Blocks.{move}
+use Rattle.rv_select.specs.Blocks.{move, read_block, write_block}
 use Rattle.rv_select.specs.Program.{node_word, row}
 use Rattle.rv_select.specs.Layout.{frames_from, column, payload, IsGoodThunk, HoldsItems}
 use Rattle.rv_select.proofs.Runs.{Reach, Later, wider}
@@ -74,6 +75,11 @@ node_found code node shape k h =
     ∙ get_or-map (λ n. node_word code (entry_of code n shape)) code.thunks p 0 0 (slice_get_within code.thunks p node listed)
     ∙ ap (λ n. node_word code (entry_of code n shape)) (get_or_from_slice_get code.thunks p node 0 listed)
 
+-- what ends a block where a cell is written or read
+abbrev pub cell_block : Bool → List Micro
+cell_block true = write_block
+cell_block false = read_block
+
 module _ (code : PeCode) (w : Code) (sel : IsSelected code w) where
   -- the word of the table is looked up and entered
   pub looked : (Q : Led → Type 0) (shape col k label : ℕ) (e : Data) → shape < code.shapes → col < row_words code → slice_index (row code shape) col ≡ entry_word k → IsEntry w k label
@@ -99,13 +105,11 @@ module _ (code : PeCode) (w : Code) (sel : IsSelected code w) where
     -- a cell of either sort is entered
     module _ (which : Which) (x : ℕ) (e : Data) (h : HoldsItems code s.newest s.items e) (keeps : Keeps e0.input e0.output (length e0.words) e) (f : e.named.frame ≡ word_address (cell_spot which x)) where
       -- it is read
-      pub cell_read : (o : Option DatumType) → value_at which x s.items ≡ o → Reach w (Q (loaded o s)) 40 (record { rest = block w read_label; held = e })
-      cell_read None is = nothing 40 (record { rest = block w read_label; held = e }) (omega arith)
-      cell_read (Some v) is =
+      reads : (n : ℕ) (v : DatumType) → value_at which x s.items ≡ Some v → Wp w (Later w n (Q (loaded (Some v) s))) read_block e
+      reads n v is =
           let c = value_is code e.words s.items which x v is h.memory.laid in
           let within = c.within in
-          let fits = h.memory.fits in
-          by_block w (Q (loaded (Some v) s)) read_label (Window Frame 3 ∷ Get Datum Frame 2 ∷ Jump meet ∷ []) e 40 (sel.own 3 (omega arith)) (omega arith) (
+          let fits = h.memory.fits in (
             cell_spot which x,
             f,
             omega arith,
@@ -115,24 +119,22 @@ module _ (code : PeCode) (w : Code) (sel : IsSelected code w) where
               f,
               omega arith,
               c.value_is,
-              went_value code w s.newest s.items v (with_value Datum (word_of v) e) e0.input e0.output (length e0.words) (record { newest_is = h.newest_is; top_is = h.top_is; memory = h.memory; bytes = h.bytes }) refl c.good
-                  (record { input_is = keeps.input_is; output_is = keeps.output_is; size_is = keeps.size_is }),
+              inl (
+                  went_value code w s.newest s.items v (with_value Datum (word_of v) e) e0.input e0.output (length e0.words) (record { newest_is = h.newest_is; top_is = h.top_is; memory = h.memory; bytes = h.bytes }) refl c.good
+                  (record { input_is = keeps.input_is; output_is = keeps.output_is; size_is = keeps.size_is })),
             ),
           )
 
       -- or written
-      cell_written : (v : DatumType) (outside : ℕ) (older : List Item) → StandsAt code e.words s.items s.newest (record { content = store_c v; outside = outside; older = older }) → (o : Option DatumType) → value_at which x s.items ≡ o
-          → Reach w (Q (assigned o which x v (record s { newest = outside }))) 60 (record { rest = block w write_label; held = e })
-      cell_written v outside older at None is = nothing 60 (record { rest = block w write_label; held = e }) (omega arith)
-      cell_written v outside older at (Some u) is =
+      writes : (n : ℕ) (v : DatumType) (outside : ℕ) (older : List Item) → StandsAt code e.words s.items s.newest (record { content = store_c v; outside = outside; older = older }) → (u : DatumType) → value_at which x s.items ≡ Some u
+          → Wp w (Later w n (Q (assigned (Some u) which x v (record s { newest = outside })))) write_block e
+      writes n v outside older at u is =
           let c = value_is code e.words s.items which x u is h.memory.laid in
           let within = c.within in
           let fits = h.memory.fits in
           let inside = at.within in
           let spot = at.spot in
-          let newest = h.newest_is ∙ ap word_address spot in
-          by_block w (Q (assigned (Some u) which x v (record s { newest = outside }))) write_label
-          (Window Context 3 ∷ Get Datum Context 2 ∷ Get Context Context 1 ∷ Window Frame 3 ∷ Save Frame 2 Datum ∷ Jump meet ∷ []) e 60 (sel.own 4 (omega arith)) (omega arith) (
+          let newest = h.newest_is ∙ ap word_address spot in (
             address_on older,
             newest,
             omega arith,
@@ -156,7 +158,7 @@ module _ (code : PeCode) (w : Code) (sel : IsSelected code w) where
                     cell_spot which x,
                     f,
                     omega arith,
-                    λ n1 w1.
+                    λ n1 w1. inl (
                         went_completed code w outside (stack.with_value which x v s.items) (record (with_value Context (word_address outside) (with_value Datum (word_of v) e)) { words = n1 }) e0.input e0.output (length e0.words)
                         (record {
                           newest_is = refl;
@@ -169,21 +171,36 @@ module _ (code : PeCode) (w : Code) (sel : IsSelected code w) where
                           };
                           bytes = h.bytes;
                         })
-                        (record { input_is = keeps.input_is; output_is = keeps.output_is; size_is = w1.size ∙ keeps.size_is }),
+                        (record { input_is = keeps.input_is; output_is = keeps.output_is; size_is = w1.size ∙ keeps.size_is })),
                   ),
                 ),
               ),
             ),
           )
 
-      assigned_by : (c : PeContext) (outside : ℕ) (older : List Item) → StandsAt code e.words s.items s.newest (record { content = c; outside = outside; older = older })
-          → Reach w (Q (assignment_meets which x c (record s { newest = outside }))) 60 (record { rest = block w write_label; held = e })
-      assigned_by (store_c v) outside older at = cell_written v outside older at (value_at which x s.items) refl
-      assigned_by _ outside older at = nothing 60 (record { rest = block w write_label; held = e }) (omega arith)
+      -- by what is asked, at the end of whatever block
+      module _ (n : ℕ) (Goal : ItemMove → Type 0) (stuck : Goal sticks) where
+        read_by : (o : Option DatumType) → value_at which x s.items ≡ o → ((mv : ItemMove) → Wp w (Later w n (Q mv)) read_block e → Goal mv) → Goal (loaded o s)
+        read_by None is go = stuck
+        read_by (Some v) is go = go (loaded (Some v) s) (reads n v is)
 
-      pub assigned_at : (o : Option FoundContext) → newest_of s ≡ o → Reach w (Q (taken (assignment_meets which x) o s)) 60 (record { rest = block w write_label; held = e })
-      assigned_at None is = nothing 60 (record { rest = block w write_label; held = e }) (omega arith)
-      assigned_at (Some c) is = assigned_by c.content c.outside c.older (stands_at code e.words s.items s.newest c is h.memory.laid)
+        written_by : (v : DatumType) (outside : ℕ) (older : List Item) → StandsAt code e.words s.items s.newest (record { content = store_c v; outside = outside; older = older }) → (o : Option DatumType) → value_at which x s.items ≡ o
+            → ((mv : ItemMove) → Wp w (Later w n (Q mv)) write_block e → Goal mv) → Goal (assigned o which x v (record s { newest = outside }))
+        written_by v outside older at None is go = stuck
+        written_by v outside older at (Some u) is go = go (assigned (Some u) which x v (record s { newest = outside })) (writes n v outside older at u is)
+
+        assigned_by : (c : PeContext) (outside : ℕ) (older : List Item) → StandsAt code e.words s.items s.newest (record { content = c; outside = outside; older = older })
+            → ((mv : ItemMove) → Wp w (Later w n (Q mv)) write_block e → Goal mv) → Goal (assignment_meets which x c (record s { newest = outside }))
+        assigned_by (store_c v) outside older at go = written_by v outside older at (value_at which x s.items) refl go
+        assigned_by _ outside older at go = stuck
+
+        assigned_at : (o : Option FoundContext) → newest_of s ≡ o → ((mv : ItemMove) → Wp w (Later w n (Q mv)) write_block e → Goal mv) → Goal (taken (assignment_meets which x) o s)
+        assigned_at None is go = stuck
+        assigned_at (Some c) is go = assigned_by c.content c.outside c.older (stands_at code e.words s.items s.newest c is h.memory.laid) go
+
+        pub cell_by : (b : Bool) → ((mv : ItemMove) → Wp w (Later w n (Q mv)) (cell_block b) e → Goal mv) → Goal (cell_entered b which x s)
+        cell_by true go = assigned_at (newest_of s) refl go
+        cell_by false go = read_by (value_at which x s.items) refl go
 
     -- an escape is entered, and leaves the newest contexts
     module _ (x : ℕ) (e : Data) (h : HoldsItems code s.newest s.items e) (keeps : Keeps e0.input e0.output (length e0.words) e) (f : e.named.frame ≡ word_address x) where
@@ -250,13 +267,15 @@ module _ (code : PeCode) (w : Code) (sel : IsSelected code w) where
       cell_enters x e true is h keeps second f =
           let e1 = with_value Second (entry_word write_entry) (with_value Third (row_address code shape) e) in
           looked (Later w n (Q (cell_entered true own x s))) shape 1 write_entry write_label e lt (omega arith) (cond-true (is_assignment code.assignment shape) (entry_word write_entry) (entry_word read_entry) is) (sel.fixed 4 (omega arith)) second
-          (inr (wider w (Q (cell_entered true own x s)) 60 n (record { rest = block w write_label; held = e1 }) (omega arith)
-          (assigned_at own x e1 (record { newest_is = h.newest_is; top_is = h.top_is; memory = h.memory; bytes = h.bytes }) (record { input_is = keeps.input_is; output_is = keeps.output_is; size_is = keeps.size_is }) f (newest_of s) refl)))
+          (inr (cell_by own x e1 (record { newest_is = h.newest_is; top_is = h.top_is; memory = h.memory; bytes = h.bytes }) (record { input_is = keeps.input_is; output_is = keeps.output_is; size_is = keeps.size_is }) f 0
+          (λ (mv : ItemMove). Reach w (Q mv) n (record { rest = block w write_label; held = e1 })) (nothing n (record { rest = block w write_label; held = e1 }) (omega arith)) true
+          (λ mv go. by_blocks w (Q mv) write_label write_block e1 0 n (sel.own 4 (omega arith)) (omega arith) go)))
       cell_enters x e false is h keeps second f =
           let e1 = with_value Second (entry_word read_entry) (with_value Third (row_address code shape) e) in
           looked (Later w n (Q (cell_entered false own x s))) shape 1 read_entry read_label e lt (omega arith) (cond-false (is_assignment code.assignment shape) (entry_word write_entry) (entry_word read_entry) is) (sel.fixed 3 (omega arith)) second
-          (inr (wider w (Q (cell_entered false own x s)) 40 n (record { rest = block w read_label; held = e1 }) (omega arith)
-          (cell_read own x e1 (record { newest_is = h.newest_is; top_is = h.top_is; memory = h.memory; bytes = h.bytes }) (record { input_is = keeps.input_is; output_is = keeps.output_is; size_is = keeps.size_is }) f (datum_at x s.items) refl)))
+          (inr (cell_by own x e1 (record { newest_is = h.newest_is; top_is = h.top_is; memory = h.memory; bytes = h.bytes }) (record { input_is = keeps.input_is; output_is = keeps.output_is; size_is = keeps.size_is }) f 0
+          (λ (mv : ItemMove). Reach w (Q mv) n (record { rest = block w read_label; held = e1 })) (nothing n (record { rest = block w read_label; held = e1 }) (omega arith)) false
+          (λ mv go. by_blocks w (Q mv) read_label read_block e1 0 n (sel.own 3 (omega arith)) (omega arith) go)))
 
       pub enters : (t : Thunk) (e : Data) → HasEntry t shape → HoldsItems code s.newest s.items e → Keeps e0.input e0.output (length e0.words) e → e.named.second ≡ column_word (column code t) → e.named.frame ≡ payload t
           → IsGoodThunk code (frames_from s.items) t → Enters t e

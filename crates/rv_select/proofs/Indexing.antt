@@ -1,5 +1,5 @@
 -- A sequence of cells is entered, by an index or for its length; and the block of a variable, whatever it is bound to.
-use Rattle.std.proofs.Common.{◌≡◌, ◌≢◌, ℕ, ◌+◌, ◌-◌, ◌^◌, ◌<◌, ◌≤◌, ◌⊎◌, Bool, true, false, List, [], ◌∷◌, ◌++◌, length, pos, Some, None, refl, sym, ap, ◌∙◌, subst, inl, inr, arith, length-append}
+use Rattle.std.proofs.Common.{◌≡◌, ◌≢◌, ℕ, ◌+◌, ◌-◌, ◌^◌, ◌<◌, ◌⊎◌, Bool, true, false, List, [], ◌∷◌, ◌++◌, length, pos, Some, None, refl, sym, ap, ◌∙◌, subst, inl, inr, arith, length-append}
 use Rattle.std.proofs.lemmas.Bool.{cond-true, cond-false, cond_both, eq-eqb, ne_eqb, le-leb}
 use Rattle.std.specs.Prelude.{slice_index, nat_eq}
 use Rattle.std.specs.declared.option.Option.{Option}
@@ -21,7 +21,7 @@ use Rattle.rv_word.specs.declared.micros.Micro.TheVariants.{Set, Alu, Window, Ge
 use Rattle.rv_word.specs.Word.{Data, Code, Led, word_address, block}
 use Rattle.rv_runtime.specs.Routines.{exhausted}
 use Rattle.rv_select.specs.Numbers.{meet, end_label, leave_label, length_label, no_room_label, index_read_label, index_write_label, end_entry, length_entry, index_read_entry, index_write_entry, element_entry, entry_word, column_word, escape_column, sequence_column, row_address}
-use Rattle.rv_select.specs.Blocks.{reach, indexing, index_block}
+use Rattle.rv_select.specs.Blocks.{reach, indexing, index_block, no_room_block}
 use Rattle.rv_select.specs.Layout.{word_in, frame_word, frames_from, column, count_address, payload, IsGoodThunk, HoldsItems}
 use Rattle.rv_select.proofs.Runs.{Reach, Later, wider}
 use Rattle.rv_select.proofs.Wp.{Wp, at, with_value, by_block, by_blocks}
@@ -77,58 +77,84 @@ module _ (code : PeCode) (w : Code) (sel : IsSelected code w) (help : Helpers) w
         (no_room code w sel help (focus_on h.0 under) e0.input e0.output (length e0.words) 97 e (omega arith) same lt)
 
     -- an escape needs none, since it leaves the context at once
-    same_left : (o : Option FoundContext) → left_by o under ≡ left_by o (record s { newest = outside })
+    same_left : (o : Option FoundContext) → left_by o under ≡ left_by o s
     same_left None = refl
     same_left (Some c) = refl
 
-    same_jump : (c : ℕ) → c < address_on s.items → jumped (Some c) under ≡ left_by (context_at c s.items) (record s { newest = outside })
+    same_jump : (c : ℕ) → c < address_on s.items → jumped (Some c) under ≡ left_by (context_at c s.items) s
     same_jump c lt =
         ap (λ o. left_by o under)
         (cond-false (nat_eq c (address_on s.items)) (Some (record { content = element_c k; outside = outside; older = s.items })) (context_at c s.items) (ne_eqb c (address_on s.items) (λ same. omega arith)))
         ∙ same_left (context_at c s.items)
 
-    leaves : (x : ℕ) (e : Data) → HoldsItems code outside s.items e → Keeps e0.input e0.output (length e0.words) e → e.named.frame ≡ word_address x → (o : Option ℕ) → escape_at x s.items ≡ o
+    leaves : (x : ℕ) (e : Data) → HoldsItems code s.newest s.items e → Keeps e0.input e0.output (length e0.words) e → e.named.frame ≡ word_address x → (o : Option ℕ) → escape_at x s.items ≡ o
         → Reach w (Q (jumped o under)) 90 (record { rest = block w leave_label; held = e })
     leaves x e h keeps f None is = nothing code w sel s e0 90 (record { rest = block w leave_label; held = e }) (omega arith)
     leaves x e h keeps f (Some c) is =
         let esc = escape_is code e.words s.items x c is h.memory.laid in
         subst (λ (m : ItemMove). Reach w (Q m) 90 (record { rest = block w leave_label; held = e })) (sym (same_jump c esc.below))
-        (left code w sel (record s { newest = outside }) e0 x e h keeps f c esc (context_at c s.items) refl)
+        (left code w sel s e0 x e h keeps f c esc (context_at c s.items) refl)
 
-    module _ (shape : ℕ) (e : Data) (h : HoldsItems code outside s.items e) (keeps : Keeps e0.input e0.output (length e0.words) e) (lt : length e0.words < address_on under.items) where
+    -- a thunk that is the argument of the newest context
+    abbrev Stood' : List Item → Thunk → Data → Type 0
+    Stood' older t e = StandsAt code e.words s.items s.newest (record { content = arg_c t; outside = outside; older = older })
+
+    module _ (shape : ℕ) (older : List Item) (e : Data) (h : HoldsItems code s.newest s.items e) (keeps : Keeps e0.input e0.output (length e0.words) e) (lt : length e0.words < address_on under.items) where
       abbrev Tight : Thunk → Type 0
-      Tight t = Reach w (Q (entered_plain code shape t under)) 124 (record { rest = block w no_room_label; held = e })
+      Tight t = Reach w (Q (entered_plain code shape t under)) 151 (record { rest = block w no_room_label; held = e })
 
-      abbrev marked : Data
-      marked = with_value First (column_word escape_column) e
+      abbrev marked : Thunk → Data
+      marked t = with_value First (column_word escape_column) (with_value Frame (payload t) (with_value Second (column_word (column code t)) e))
 
-      tight_other : (t : Thunk) → HasEntry code w sel under e0 t shape → column code t ≢ escape_column → e.named.second ≡ column_word (column code t) → Tight t
-      tight_other t he other second =
-          by_blocks w (Q (entered_plain code shape t under)) no_room_label (Set First (column_word escape_column) ∷ Test Bne Second First exhausted ∷ Jump leave_label ∷ []) e 97 124 (sel.own 18 (omega arith)) (omega arith) (
-            λ t'. runs_out (entered_plain code shape t under) marked (stays t shape he other) keeps.output_is lt,
-            λ u. absurd (other (let same = untaken_other e.named.second (column_word escape_column) u in omega arith)),
+      -- its column is compared with an escape's
+      compared : (mv : ItemMove) (t : Thunk) → Stood' older t e → Wp w (Later w 97 (Q mv)) (Test Bne Second First exhausted ∷ Jump leave_label ∷ []) (marked t)
+          → Reach w (Q mv) 151 (record { rest = block w no_room_label; held = e })
+      compared mv t found go =
+          let within = found.within in
+          let fits = h.memory.fits in
+          let newest = h.newest_is ∙ ap word_address found.spot in
+          by_blocks w (Q mv) no_room_label no_room_block e 97 151 (sel.own 18 (omega arith)) (omega arith) (
+            address_on older,
+            newest,
+            omega arith,
+            (
+              address_on older,
+              column_word (column code t),
+              newest,
+              omega arith,
+              found.here.parts.0,
+              (address_on older, payload t, newest, omega arith, found.here.parts.1, go),
+            ),
           )
 
-      tight : (t : Thunk) → HasEntry code w sel under e0 t shape → e.named.second ≡ column_word (column code t) → e.named.frame ≡ payload t → Tight t
-      tight (source node around) he second f = tight_other (source node around) he (λ q. omega (arith, q)) second
-      tight (datum v) he second f = tight_other (datum v) he (λ q. omega (arith, q)) second
-      tight (cell_of x) he second f = tight_other (cell_of x) he (λ q. omega (arith, q)) second
-      tight (sequence_of x) he second f = absurd he
-      tight (jump_of x) he second f =
-          by_blocks w (Q (jumped (escape_at x s.items) under)) no_room_label (Set First (column_word escape_column) ∷ Test Bne Second First exhausted ∷ Jump leave_label ∷ []) e 97 124 (sel.own 18 (omega arith)) (omega arith) (
-            λ t. absurd (taken_other e.named.second (column_word escape_column) t second),
-            λ u. inr (wider w (Q (jumped (escape_at x s.items) under)) 90 97 (record { rest = block w leave_label; held = marked }) (omega arith)
-                (leaves x marked (record { newest_is = h.newest_is; top_is = h.top_is; memory = h.memory; bytes = h.bytes }) (record { input_is = keeps.input_is; output_is = keeps.output_is; size_is = keeps.size_is }) f (escape_at x s.items) refl)),
+      tight_other : (t : Thunk) → HasEntry code w sel under e0 t shape → column code t ≢ escape_column → Stood' older t e → Tight t
+      tight_other t he other found =
+          compared (entered_plain code shape t under) t found (
+            λ t'. runs_out (entered_plain code shape t under) (marked t) (stays t shape he other) keeps.output_is lt,
+            λ u. absurd (other (let same = untaken_other (column_word (column code t)) (column_word escape_column) u in omega arith)),
+          )
+
+      tight : (t : Thunk) → HasEntry code w sel under e0 t shape → Stood' older t e → Tight t
+      tight (source node around) he found = tight_other (source node around) he (λ q. omega (arith, q)) found
+      tight (datum v) he found = tight_other (datum v) he (λ q. omega (arith, q)) found
+      tight (cell_of x) he found = tight_other (cell_of x) he (λ q. omega (arith, q)) found
+      tight (sequence_of x) he found = absurd he
+      tight (jump_of x) he found =
+          compared (jumped (escape_at x s.items) under) (jump_of x) found (
+            λ t. absurd (taken_other (column_word escape_column) (column_word escape_column) t refl),
+            λ u. inr (wider w (Q (jumped (escape_at x s.items) under)) 90 97 (record { rest = block w leave_label; held = marked (jump_of x) }) (omega arith)
+                (leaves x (marked (jump_of x)) (record { newest_is = h.newest_is; top_is = h.top_is; memory = h.memory; bytes = h.bytes }) (record { input_is = keeps.input_is; output_is = keeps.output_is; size_is = keeps.size_is }) refl (escape_at x s.items) refl)),
           )
 
     module _ (shape label : ℕ) (older : List Item) (e : Data) (is : block w label ≡ indexing (element_entry k.is_written) (row_address code shape)) (lt : shape < code.shapes) (h : HoldsItems code s.newest s.items e)
-        (keeps : Keeps e0.input e0.output (length e0.words) e) (f : e.named.frame ≡ count_address k.number) (inside : k.number + 4 ≤ address_on s.items) where
+        (keeps : Keeps e0.input e0.output (length e0.words) e) (f : e.named.frame ≡ count_address k.number) where
       abbrev Takes : Thunk → Type 0
-      Takes t = StandsAt code e.words s.items s.newest (record { content = arg_c t; outside = outside; older = older }) → Reach w (Q (entered_plain code shape t under)) 290 (record { rest = block w label; held = e })
+      Takes t = Stood' older t e → Reach w (Q (entered_plain code shape t under)) 300 (record { rest = block w label; held = e })
 
       takes : (t : Thunk) → HasEntry code w sel under e0 t shape → Takes t
       takes t he found =
           let y = address_on s.items in
+          let a = address_on older in
           let entry = entry_word (element_entry k.is_written) in
           let col = column_word (column code t) in
           let within = found.within in
@@ -137,73 +163,70 @@ module _ (code : PeCode) (w : Code) (sel : IsSelected code w) (help : Helpers) w
           let size = keeps.size_is in
           let newest = h.newest_is ∙ ap word_address found.spot in
           let good = thunk_deeper code (frames_from older) (frames_from s.items) found.deeper t found.here.parts.2 in
-          let e1 = with_value Context (word_address outside) (with_value Frame (payload t) (with_value Second col (with_value Datum (count_address k.number) e))) in
-          by_blocks w (Q (entered_plain code shape t under)) label (indexing (element_entry k.is_written) (row_address code shape)) e 124 290 is (omega arith) (
-            count_address k.number,
-            moves e.named.frame (count_address k.number) f (omega arith),
-            (
-              address_on older,
-              newest,
-              omega arith,
+          let e1 = with_value Context (word_address outside) (with_value Frame (payload t) (with_value Second col e)) in
+          by_blocks w (Q (entered_plain code shape t under)) label (indexing (element_entry k.is_written) (row_address code shape)) e 151 300 is (omega arith) (
+            y,
+            h.top_is,
+            λ past. inr (tight shape older e h keeps (omega arith) t he found),
+            λ le. (
+              y,
+              h.top_is,
+              le,
               (
-                address_on older,
-                col,
-                newest,
+                y,
+                h.top_is,
                 omega arith,
-                found.here.parts.0,
-                (
-                  address_on older,
-                  payload t,
+                λ n1 w1. (
+                  a,
                   newest,
-                  omega arith,
-                  found.here.parts.1,
+                  (let z1 = w1.size in omega arith),
                   (
-                    address_on older,
-                    word_address outside,
+                    a,
+                    col,
                     newest,
-                    omega arith,
-                    found.here.outside_is,
+                    (let z1 = w1.size in omega arith),
+                    w1.else (a + 2) (λ q. omega arith) ∙ found.here.parts.0,
                     (
-                      y,
-                      h.top_is,
-                      λ past. inr (tight shape e1 (record { newest_is = refl; top_is = h.top_is; memory = h.memory; bytes = h.bytes }) (record { input_is = keeps.input_is; output_is = keeps.output_is; size_is = keeps.size_is }) (omega arith) t he refl refl),
-                      λ le. (
-                        y,
-                        h.top_is,
-                        le,
+                      a,
+                      payload t,
+                      newest,
+                      (let z1 = w1.size in omega arith),
+                      w1.else (a + 3) (λ q. omega arith) ∙ found.here.parts.1,
+                      (
+                        a,
+                        word_address outside,
+                        newest,
+                        (let z1 = w1.size in omega arith),
+                        w1.else (a + 1) (λ q. omega arith) ∙ found.here.outside_is,
                         (
                           y,
                           h.top_is,
-                          omega arith,
-                          λ n1 w1. (
+                          (let z1 = w1.size in omega arith),
+                          λ n2 w2. (
                             y,
                             h.top_is,
-                            (let z1 = w1.size in omega arith),
-                            λ n2 w2. (
-                              y,
-                              h.top_is,
-                              (let z1 = w1.size in let z2 = w2.size in omega arith),
-                              λ n3 w3.
-                                  let same1 = same_wrote y e.words n1 (y + 0) entry w1 (omega arith) in
-                                  let same2 = same_wrote y n1 n2 (y + 1) (word_address outside) w2 (omega arith) in
-                                  let same3 = same_wrote y n2 n3 (y + 2) (count_address k.number) w3 (omega arith) in
-                                  let same = same_then y e.words n2 n3 (same_then y e.words n1 n2 same1 same2) same3 in
-                                  let out : word_in n3 y 1 ≡ word_address outside = unwritten n2 n3 y 2 1 (count_address k.number) (word_address outside) w3 (λ q. omega (arith, q)) w2.here in
-                                  let first : word_in n3 y 0 ≡ entry =
-                                  unwritten n2 n3 y 2 0 (count_address k.number) entry w3 (λ q. omega (arith, q)) (unwritten n1 n2 y 1 0 (word_address outside) entry w2 (λ q. omega (arith, q)) w1.here) in
-                                  let e2 = with_value Top (word_address (address_on (context (element_c k) outside ∷ s.items))) (with_value Context (word_address y) (record (with_value First entry e1) { words = n3 })) in (
-                                    word_address y,
-                                    moves e.named.top (word_address y) h.top_is (omega arith),
-                                    (
-                                      word_address (address_on (context (element_c k) outside ∷ s.items)),
-                                      moves_on e.named.top y (address_on (context (element_c k) outside ∷ s.items)) 32 h.top_is (omega arith) (omega arith),
-                                      enters code w sel under e0 shape 124 lt (omega arith) t e2 he
-                                          (record { newest_is = refl; top_is = refl; memory = has_more code s.items (element_c k) outside e.words n3 h.memory same (record { outside_is = out; parts = (first, w3.here) }) le; bytes = h.bytes })
-                                          (record { input_is = keeps.input_is; output_is = keeps.output_is; size_is = w3.size ∙ w2.size ∙ w1.size ∙ keeps.size_is }) refl refl
-                                          (thunk_deeper code (frames_from s.items) (frames_from under.items) (λ g d. frames_more (context (element_c k) outside) s.items g d) t good),
-                                    ),
+                            (let z1 = w1.size in let z2 = w2.size in omega arith),
+                            λ n3 w3.
+                                let same1 = same_wrote y e.words n1 (y + 2) e.named.frame w1 (omega arith) in
+                                let same2 = same_wrote y n1 n2 (y + 0) entry w2 (omega arith) in
+                                let same3 = same_wrote y n2 n3 (y + 1) (word_address outside) w3 (omega arith) in
+                                let same = same_then y e.words n2 n3 (same_then y e.words n1 n2 same1 same2) same3 in
+                                let first : word_in n3 y 0 ≡ entry = unwritten n2 n3 y 1 0 (word_address outside) entry w3 (λ q. omega (arith, q)) w2.here in
+                                let number : word_in n3 y 2 ≡ count_address k.number =
+                                unwritten n2 n3 y 1 2 (word_address outside) (count_address k.number) w3 (λ q. omega (arith, q))
+                                (unwritten n1 n2 y 0 2 entry (count_address k.number) w2 (λ q. omega (arith, q)) (w1.here ∙ f)) in
+                                let e2 = with_value Top (word_address (address_on (context (element_c k) outside ∷ s.items))) (with_value Context (word_address y) (record (with_value First entry e1) { words = n3 })) in (
+                                  word_address y,
+                                  moves e.named.top (word_address y) h.top_is (omega arith),
+                                  (
+                                    word_address (address_on (context (element_c k) outside ∷ s.items)),
+                                    moves_on e.named.top y (address_on (context (element_c k) outside ∷ s.items)) 32 h.top_is (omega arith) (omega arith),
+                                    enters code w sel under e0 shape 151 lt (omega arith) t e2 he
+                                        (record { newest_is = refl; top_is = refl; memory = has_more code s.items (element_c k) outside e.words n3 h.memory same (record { outside_is = w3.here; parts = (first, number) }) le; bytes = h.bytes })
+                                        (record { input_is = keeps.input_is; output_is = keeps.output_is; size_is = w3.size ∙ w2.size ∙ w1.size ∙ keeps.size_is }) refl refl
+                                        (thunk_deeper code (frames_from s.items) (frames_from under.items) (λ g d. frames_more (context (element_c k) outside) s.items g d) t good),
                                   ),
-                            ),
+                                ),
                           ),
                         ),
                       ),
@@ -215,17 +238,17 @@ module _ (code : PeCode) (w : Code) (sel : IsSelected code w) (help : Helpers) w
           )
 
       takes_node : (node : ℕ) (around : Option ℕ) (o : Option ℕ) → entry_of code node shape ≡ o
-          → StandsAt code e.words s.items s.newest (record { content = arg_c (source node around); outside = outside; older = older }) → Reach w (Q (at_entry o around under)) 290 (record { rest = block w label; held = e })
-      takes_node node around None entry found = nothing code w sel s e0 290 (record { rest = block w label; held = e }) (omega arith)
+          → Stood' older (source node around) e → Reach w (Q (at_entry o around under)) 300 (record { rest = block w label; held = e })
+      takes_node node around None entry found = nothing code w sel s e0 300 (record { rest = block w label; held = e }) (omega arith)
       takes_node node around (Some a) entry found =
-          subst (λ (o : Option ℕ). Reach w (Q (at_entry o around under)) 290 (record { rest = block w label; held = e })) entry (takes (source node around) (a, entry) found)
+          subst (λ (o : Option ℕ). Reach w (Q (at_entry o around under)) 300 (record { rest = block w label; held = e })) entry (takes (source node around) (a, entry) found)
 
       pub takes_any : (t : Thunk) → Takes t
       takes_any (source node around) found = takes_node node around (entry_of code node shape) refl found
       takes_any (datum v) found = takes (datum v) tt found
       takes_any (cell_of x) found = takes (cell_of x) tt found
       takes_any (jump_of x) found = takes (jump_of x) tt found
-      takes_any (sequence_of x) found = nothing code w sel s e0 290 (record { rest = block w label; held = e }) (omega arith)
+      takes_any (sequence_of x) found = nothing code w sel s e0 300 (record { rest = block w label; held = e }) (omega arith)
 
   -- ---- a sequence is entered
 
@@ -247,23 +270,22 @@ module _ (code : PeCode) (w : Code) (sel : IsSelected code w) (help : Helpers) w
 
       -- by an index
       index_found : (b : Bool) (t : Thunk) (outside : ℕ) (older : List Item) (o : Option ℕ) → code.sequences.value ≡ o → Stood (arg_c t) outside older
-          → Reach w (Q' (index_entered code o (record { is_written = b; number = x }) t (record s { newest = outside }))) 290 (record { rest = block w (index_label b); held = e })
-      index_found b t outside older None is found = nothing code w sel s e0 290 (record { rest = block w (index_label b); held = e }) (omega arith)
+          → Reach w (Q' (index_entered code o (record { is_written = b; number = x }) t (record s { newest = outside }))) 300 (record { rest = block w (index_label b); held = e })
+      index_found b t outside older None is found = nothing code w sel s e0 300 (record { rest = block w (index_label b); held = e }) (omega arith)
       index_found b t outside older (Some shape) is found =
-          let within = (sequence_is code e.words s.items x c stands h.memory.laid).within in
-          takes_any s e0 (record { is_written = b; number = x }) outside shape (index_label b) older e (index_is b ∙ ap (λ o. index_block code (element_entry b) o) is) (sel.indexed shape is) h keeps f (omega arith) t found
+          takes_any s e0 (record { is_written = b; number = x }) outside shape (index_label b) older e (index_is b ∙ ap (λ o. index_block code (element_entry b) o) is) (sel.indexed shape is) h keeps f t found
 
       index_by : (b : Bool) (k : PeContext) (outside : ℕ) (older : List Item) → Stood k outside older
-          → Reach w (Q' (index_meets code (record { is_written = b; number = x }) k (record s { newest = outside }))) 290 (record { rest = block w (index_label b); held = e })
+          → Reach w (Q' (index_meets code (record { is_written = b; number = x }) k (record s { newest = outside }))) 300 (record { rest = block w (index_label b); held = e })
       index_by b (arg_c t) outside older found = index_found b t outside older code.sequences.value refl found
-      index_by b _ outside older found = nothing code w sel s e0 290 (record { rest = block w (index_label b); held = e }) (omega arith)
+      index_by b _ outside older found = nothing code w sel s e0 300 (record { rest = block w (index_label b); held = e }) (omega arith)
 
-      index_at : (b : Bool) (o : Option FoundContext) → newest_of s ≡ o → Reach w (Q' (taken (index_meets code (record { is_written = b; number = x })) o s)) 290 (record { rest = block w (index_label b); held = e })
-      index_at b None is = nothing code w sel s e0 290 (record { rest = block w (index_label b); held = e }) (omega arith)
+      index_at : (b : Bool) (o : Option FoundContext) → newest_of s ≡ o → Reach w (Q' (taken (index_meets code (record { is_written = b; number = x })) o s)) 300 (record { rest = block w (index_label b); held = e })
+      index_at b None is = nothing code w sel s e0 300 (record { rest = block w (index_label b); held = e }) (omega arith)
       index_at b (Some k) is = index_by b k.content k.outside k.older (stands_at code e.words s.items s.newest k is h.memory.laid)
 
       -- for its length
-      measured : (i outside : ℕ) (older : List Item) → Stood (pick_c i) outside older → Reach w (Q' (focused (value (Int (pos (length c.values)))) (record s { newest = outside }))) 290 (record { rest = block w length_label; held = e })
+      measured : (i outside : ℕ) (older : List Item) → Stood (pick_c i) outside older → Reach w (Q' (focused (value (Int (pos (length c.values)))) (record s { newest = outside }))) 300 (record { rest = block w length_label; held = e })
       measured i outside older found =
           let r = sequence_is code e.words s.items x c stands h.memory.laid in
           let room = r.within in
@@ -273,7 +295,7 @@ module _ (code : PeCode) (w : Code) (sel : IsSelected code w) (help : Helpers) w
           let m = length c.values in
           let newest = h.newest_is ∙ ap word_address found.spot in
           let spot : x + 2 + 0 ≡ x + 2 = omega arith in
-          by_block w (Q' (focused (value (Int (pos m))) (record s { newest = outside }))) length_label (Window Context 2 ∷ Get Context Context 1 ∷ Window Frame 1 ∷ Get Datum Frame 0 ∷ Jump meet ∷ []) e 290 (sel.own 17 (omega arith)) (omega arith) (
+          by_block w (Q' (focused (value (Int (pos m))) (record s { newest = outside }))) length_label (Window Context 2 ∷ Get Context Context 1 ∷ Window Frame 1 ∷ Get Datum Frame 0 ∷ Jump meet ∷ []) e 300 (sel.own 17 (omega arith)) (omega arith) (
             address_on older,
             newest,
             omega arith,
@@ -301,15 +323,15 @@ module _ (code : PeCode) (w : Code) (sel : IsSelected code w) (help : Helpers) w
             ),
           )
 
-      length_by : (k : PeContext) (outside : ℕ) (older : List Item) → Stood k outside older → Reach w (Q' (length_meets (length c.values) k (record s { newest = outside }))) 290 (record { rest = block w length_label; held = e })
+      length_by : (k : PeContext) (outside : ℕ) (older : List Item) → Stood k outside older → Reach w (Q' (length_meets (length c.values) k (record s { newest = outside }))) 300 (record { rest = block w length_label; held = e })
       length_by (pick_c i) outside older found =
-          cond_both (nat_eq i 0) (focused (value (Int (pos (length c.values)))) (record s { newest = outside })) sticks (λ (m : ItemMove). Reach w (Q' m) 290 (record { rest = block w length_label; held = e }))
+          cond_both (nat_eq i 0) (focused (value (Int (pos (length c.values)))) (record s { newest = outside })) sticks (λ (m : ItemMove). Reach w (Q' m) 300 (record { rest = block w length_label; held = e }))
           (λ t. measured i outside older found)
-          (λ u. nothing code w sel s e0 290 (record { rest = block w length_label; held = e }) (omega arith))
-      length_by _ outside older found = nothing code w sel s e0 290 (record { rest = block w length_label; held = e }) (omega arith)
+          (λ u. nothing code w sel s e0 300 (record { rest = block w length_label; held = e }) (omega arith))
+      length_by _ outside older found = nothing code w sel s e0 300 (record { rest = block w length_label; held = e }) (omega arith)
 
-      length_at : (o : Option FoundContext) → newest_of s ≡ o → Reach w (Q' (taken (length_meets (length c.values)) o s)) 290 (record { rest = block w length_label; held = e })
-      length_at None is = nothing code w sel s e0 290 (record { rest = block w length_label; held = e }) (omega arith)
+      length_at : (o : Option FoundContext) → newest_of s ≡ o → Reach w (Q' (taken (length_meets (length c.values)) o s)) 300 (record { rest = block w length_label; held = e })
+      length_at None is = nothing code w sel s e0 300 (record { rest = block w length_label; held = e }) (omega arith)
       length_at (Some k) is = length_by k.content k.outside k.older (stands_at code e.words s.items s.newest k is h.memory.laid)
 
     -- through the table
@@ -320,20 +342,17 @@ module _ (code : PeCode) (w : Code) (sel : IsSelected code w) (help : Helpers) w
         let mv = taken (index_meets code (record { is_written = true; number = x })) (newest_of s) s in
         let e1 = with_value Second (entry_word index_write_entry) (with_value Third (row_address code shape) e) in
         looked code w sel (Later w 300 (Q' mv)) shape 3 index_write_entry index_write_label e lt (omega arith) (sequence_word_is code shape ∙ ap asked_word asked) (sel.fixed 14 (omega arith)) second
-        (inr (wider w (Q' mv) 290 300 (record { rest = block w index_write_label; held = e1 }) (omega arith)
-        (index_at x c stands e1 (record { newest_is = h.newest_is; top_is = h.top_is; memory = h.memory; bytes = h.bytes }) (record { input_is = keeps.input_is; output_is = keeps.output_is; size_is = keeps.size_is }) f true (newest_of s) refl)))
+        (inr (index_at x c stands e1 (record { newest_is = h.newest_is; top_is = h.top_is; memory = h.memory; bytes = h.bytes }) (record { input_is = keeps.input_is; output_is = keeps.output_is; size_is = keeps.size_is }) f true (newest_of s) refl))
     sequence_enters shape x c (a_cell false) stands asked lt e h keeps second f =
         let mv = taken (index_meets code (record { is_written = false; number = x })) (newest_of s) s in
         let e1 = with_value Second (entry_word index_read_entry) (with_value Third (row_address code shape) e) in
         looked code w sel (Later w 300 (Q' mv)) shape 3 index_read_entry index_read_label e lt (omega arith) (sequence_word_is code shape ∙ ap asked_word asked) (sel.fixed 13 (omega arith)) second
-        (inr (wider w (Q' mv) 290 300 (record { rest = block w index_read_label; held = e1 }) (omega arith)
-        (index_at x c stands e1 (record { newest_is = h.newest_is; top_is = h.top_is; memory = h.memory; bytes = h.bytes }) (record { input_is = keeps.input_is; output_is = keeps.output_is; size_is = keeps.size_is }) f false (newest_of s) refl)))
+        (inr (index_at x c stands e1 (record { newest_is = h.newest_is; top_is = h.top_is; memory = h.memory; bytes = h.bytes }) (record { input_is = keeps.input_is; output_is = keeps.output_is; size_is = keeps.size_is }) f false (newest_of s) refl))
     sequence_enters shape x c a_length stands asked lt e h keeps second f =
         let mv = taken (length_meets (length c.values)) (newest_of s) s in
         let e1 = with_value Second (entry_word length_entry) (with_value Third (row_address code shape) e) in
         looked code w sel (Later w 300 (Q' mv)) shape 3 length_entry length_label e lt (omega arith) (sequence_word_is code shape ∙ ap asked_word asked) (sel.fixed 12 (omega arith)) second
-        (inr (wider w (Q' mv) 290 300 (record { rest = block w length_label; held = e1 }) (omega arith)
-        (length_at x c stands e1 (record { newest_is = h.newest_is; top_is = h.top_is; memory = h.memory; bytes = h.bytes }) (record { input_is = keeps.input_is; output_is = keeps.output_is; size_is = keeps.size_is }) f (newest_of s) refl)))
+        (inr (length_at x c stands e1 (record { newest_is = h.newest_is; top_is = h.top_is; memory = h.memory; bytes = h.bytes }) (record { input_is = keeps.input_is; output_is = keeps.output_is; size_is = keeps.size_is }) f (newest_of s) refl))
     sequence_enters shape x c no_part stands asked lt e h keeps second f =
         looked code w sel (Later w 300 (Q' sticks)) shape 3 end_entry end_label e lt (omega arith) (sequence_word_is code shape ∙ ap asked_word asked) (sel.fixed 1 (omega arith)) second (inl tt)
 

@@ -35,8 +35,8 @@ module _ (code : PeCode) where
       let all = words_joined (blocks_of code c i.depth i.insn) (item_blocks code (suc c) is) in
       omega arith
 
-  -- what every program has takes 883, and the far jumps to its entries 30
-  pub words_few : IsSelectable code → code_words (word_code code) ≤ 60 * length code.items + 913
+  -- what every program has takes 919, and the far jumps to its entries 30
+  pub words_few : IsSelectable code → code_words (word_code code) ≤ 60 * length code.items + 949
   words_few ok =
       let items = items_words 0 code.items (λ a i h. small_at code ok a i h) in
       let parts = ok.valid.parts in

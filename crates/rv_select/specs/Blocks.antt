@@ -23,7 +23,7 @@ use Rattle.rv_word.specs.declared.micros.Micro.{Micro}
 use Rattle.rv_word.specs.declared.micros.Micro.TheVariants.{Set, Imm, Shift, Alu, Window, Get, Save, Look, Room, Test, Jump, Enter, Put, Take, End, Fault}
 use Rattle.rv_runtime.specs.Routines.{exhausted, put_true, put_false, put_int, make_frame}
 use Rattle.rv_operators.specs.Operators.{word_of, unary_label, binary_label}
-use Rattle.rv_select.specs.Numbers.{meet, first_operator, read_label, write_label, leave_label, pop_label, count_label, no_count_label, fill_label, filled_label, outside_label, no_room_label, pop_entry, put_int_entry, put_char_entry, put_bool_entry, end_entry, element_entry, label_of, entry_number, entry_word, column_word, datum_column, cell_column, escape_column, sequence_column, column_of, row_address}
+use Rattle.rv_select.specs.Numbers.{meet, first_operator, leave_label, pop_label, count_label, no_count_label, fill_label, filled_label, outside_label, no_room_label, pop_entry, put_int_entry, put_char_entry, put_bool_entry, end_entry, element_entry, label_of, entry_number, entry_word, column_word, datum_column, cell_column, escape_column, sequence_column, column_of, row_address}
 
 -- ---- shared parts
 
@@ -271,11 +271,18 @@ filled_block =
     Window Context 1 ∷ Get Third Context 0 ∷ behind First Third 1 ∷ Save Context 0 First ∷ behind Second Context 2 ∷ Set First (column_word sequence_column)
     ∷ Enter Third ∷ []
 
--- an index meets the context of the sequence, and the cell is entered at a label as a frame's would be
-abbrev pub element_block : ℕ → List Micro
-element_block label =
+-- a cell is read or written. In use is its frame, or for cell i of a sequence what is i words behind the number of the cells
+abbrev pub read_block : List Micro
+read_block = Window Frame 3 ∷ Get Datum Frame 2 ∷ Jump meet ∷ []
+
+abbrev pub write_block : List Micro
+write_block = Window Context 3 ∷ Get Datum Context 2 ∷ Get Context Context 1 ∷ Window Frame 3 ∷ Save Frame 2 Datum ∷ Jump meet ∷ []
+
+-- an index meets the context of the sequence, and its cell is read or written
+abbrev pub element_block : (cell : List Micro) → List Micro
+element_block cell =
     Window Context 3 ∷ Get First Context 2 ∷ move Top Context ∷ Get Context Context 1 ∷ Window First 1 ∷ Get Second First 0
-    ∷ Test Bgeu Datum Second outside_label ∷ Shift Slli Datum Datum 3 ∷ Alu reg.Add Frame First Datum ∷ Jump label ∷ []
+    ∷ Test Bgeu Datum Second outside_label ∷ Shift Slli Datum Datum 3 ∷ Alu reg.Add Frame First Datum ∷ cell
 
 -- there is no such cell
 abbrev pub outside_block : List Micro
@@ -285,12 +292,13 @@ outside_block = Imm Addi First First (negsuc 15) ∷ Window First 1 ∷ Get Firs
 abbrev pub length_block : List Micro
 length_block = Window Context 2 ∷ Get Context Context 1 ∷ Window Frame 1 ∷ Get Datum Frame 0 ∷ Jump meet ∷ []
 
--- an index is taken, and entered through a row of the table under its own context
+-- an index is taken, and entered through a row of the table under its own context, which has the payload of the sequence that was in use
 abbrev pub indexing : (entry row : ℕ) → List Micro
 indexing entry row =
-    move Datum Frame ∷ Window Context words_of_context ∷ Get Second Context 2 ∷ Get Frame Context 3 ∷ Get Context Context 1
-    ∷ Room words_of_context no_room_label ∷ Window Top words_of_context ∷ Set First (entry_word entry) ∷ Save Top 0 First ∷ Save Top 1 Context ∷ Save Top 2 Datum
-    ∷ move Context Top ∷ behind Top Top words_of_context ∷ Set Third row ∷ Alu reg.Add Second Second Third ∷ Look Second Second ∷ Enter Second ∷ []
+    Room words_of_context no_room_label ∷ Window Top words_of_context ∷ Save Top 2 Frame
+    ∷ Window Context words_of_context ∷ Get Second Context 2 ∷ Get Frame Context 3 ∷ Get Context Context 1
+    ∷ Set First (entry_word entry) ∷ Save Top 0 First ∷ Save Top 1 Context ∷ move Context Top ∷ behind Top Top words_of_context
+    ∷ Set Third row ∷ Alu reg.Add Second Second Third ∷ Look Second Second ∷ Enter Second ∷ []
 
 -- at a shape; where indices have none, no sequence is entered so
 abbrev pub index_block : PeCode → ℕ → Option ℕ → List Micro
@@ -299,7 +307,9 @@ index_block code entry None = Jump meet ∷ []
 
 -- without room for that context; an escape leaves it at once, and needs none
 abbrev pub no_room_block : List Micro
-no_room_block = Set First (column_word escape_column) ∷ Test Bne Second First exhausted ∷ Jump leave_label ∷ []
+no_room_block =
+    Window Context words_of_context ∷ Get Second Context 2 ∷ Get Frame Context 3 ∷ Set First (column_word escape_column) ∷ Test Bne Second First exhausted
+    ∷ Jump leave_label ∷ []
 
 -- ---- the blocks that every program has
 
@@ -316,7 +326,7 @@ caller_blocks = (Window Context 1 ∷ Get First Context 0 ∷ Enter First ∷ []
 -- those of sequences of cells
 abbrev pub sequence_blocks : PeCode → List (List Micro)
 sequence_blocks code =
-    count_block ∷ no_count_block ∷ fill_block ∷ filled_block ∷ element_block read_label ∷ element_block write_label ∷ outside_block ∷ length_block ∷ no_room_block
+    count_block ∷ no_count_block ∷ fill_block ∷ filled_block ∷ element_block read_block ∷ element_block write_block ∷ outside_block ∷ length_block ∷ no_room_block
     ∷ index_block code (element_entry false) code.sequences.value ∷ index_block code (element_entry true) code.sequences.value ∷ []
 
 abbrev pub own_blocks : PeCode → List (List Micro)
@@ -325,8 +335,8 @@ own_blocks code =
     ∷ (End ∷ [])
     -- a binding that is a datum has it as its payload; a cell's and an escape's payload is its frame
     ∷ (move Datum Frame ∷ Jump meet ∷ [])
-    ∷ (Window Frame 3 ∷ Get Datum Frame 2 ∷ Jump meet ∷ [])
-    ∷ (Window Context 3 ∷ Get Datum Context 2 ∷ Get Context Context 1 ∷ Window Frame 3 ∷ Save Frame 2 Datum ∷ Jump meet ∷ [])
+    ∷ read_block
+    ∷ write_block
     ∷ (Window Frame 3 ∷ Get Context Frame 2 ∷ Jump pop_label ∷ [])
     ∷ (answer ++ (Jump meet ∷ []))
     ∷ (answer ++ (Jump put_int ∷ []))

@@ -42,6 +42,23 @@ const STACK_START: u64 = 1_073_741_824;
 // The first word past those of integers from 0 on.
 const PAST_INTEGERS: u64 = 9_223_372_036_854_775_808;
 
+// A cell is read.
+const READ: [Micro; 3] = [
+    Micro::Window(Frame, 3),
+    Micro::Get(Datum, Frame, 2),
+    Micro::Jump(MEET),
+];
+
+// A cell is written.
+const WRITE: [Micro; 6] = [
+    Micro::Window(Context, 3),
+    Micro::Get(Datum, Context, 2),
+    Micro::Get(Context, Context, 1),
+    Micro::Window(Frame, 3),
+    Micro::Save(Frame, 2, Datum),
+    Micro::Jump(MEET),
+];
+
 /// How many entries code has, and how many words its table has.
 #[derive(Clone, Copy)]
 pub struct Sizes {
@@ -132,21 +149,8 @@ fn add_bindings(items: &mut Vec<Item>, sizes: Sizes) -> Result<(), OutOfMemory>
 {
     let datum = [copy(Datum, Frame), Micro::Jump(MEET)];
     add(items, sizes, DATUM_LABEL, &datum)?;
-    let read = [
-        Micro::Window(Frame, 3),
-        Micro::Get(Datum, Frame, 2),
-        Micro::Jump(MEET),
-    ];
-    add(items, sizes, READ_LABEL, &read)?;
-    let write = [
-        Micro::Window(Context, 3),
-        Micro::Get(Datum, Context, 2),
-        Micro::Get(Context, Context, 1),
-        Micro::Window(Frame, 3),
-        Micro::Save(Frame, 2, Datum),
-        Micro::Jump(MEET),
-    ];
-    add(items, sizes, WRITE_LABEL, &write)?;
+    add(items, sizes, READ_LABEL, &READ)?;
+    add(items, sizes, WRITE_LABEL, &WRITE)?;
     let leave = [
         Micro::Window(Frame, 3),
         Micro::Get(Context, Frame, 2),
@@ -254,8 +258,8 @@ fn add_filling(items: &mut Vec<Item>, sizes: Sizes) -> Result<(), OutOfMemory>
 fn add_elements(items: &mut Vec<Item>, sizes: Sizes) -> Result<(), OutOfMemory>
     ensures { (code : PeCode) → OnOk result (AddsBlocks sizes READ_ELEMENT_LABEL (take 5 (drop 4 (sequence_blocks code))) items.old.items items.new.items) }
 {
-    add(items, sizes, READ_ELEMENT_LABEL, &element_ops(READ_LABEL))?;
-    add(items, sizes, WRITE_ELEMENT_LABEL, &element_ops(WRITE_LABEL))?;
+    add_element(items, sizes, READ_ELEMENT_LABEL, &READ)?;
+    add_element(items, sizes, WRITE_ELEMENT_LABEL, &WRITE)?;
     let outside = [
         Micro::Imm(ImmOp::Addi, First, First, -16),
         Micro::Window(First, 1),
@@ -273,6 +277,9 @@ fn add_elements(items: &mut Vec<Item>, sizes: Sizes) -> Result<(), OutOfMemory>
     ];
     add(items, sizes, LENGTH_LABEL, &length)?;
     let no_room = [
+        Micro::Window(Context, 4),
+        Micro::Get(Second, Context, 2),
+        Micro::Get(Frame, Context, 3),
         Micro::Set(First, ESCAPE_COLUMN),
         Micro::Test(BranchOp::Bne, Second, First, EXHAUSTED),
         Micro::Jump(LEAVE_LABEL),
@@ -280,12 +287,17 @@ fn add_elements(items: &mut Vec<Item>, sizes: Sizes) -> Result<(), OutOfMemory>
     add(items, sizes, NO_ROOM_LABEL, &no_room)
 }
 
-// The block of an index, by that which enters its cell.
-fn element_ops(label: u32) -> [Micro; 10]
-    ensures block { result ≡ element_block label }
-    ensures near { IsTrue (are_near result) }
+// The block of an index, whose cell is read or written behind it.
+fn add_element(
+    items: &mut Vec<Item>,
+    sizes: Sizes,
+    label: u32,
+    cell: &[Micro],
+) -> Result<(), OutOfMemory>
+    requires { IsTrue (are_near cell.now) }
+    ensures { OnOk result (AddsBlocks sizes label (element_block cell.now ∷ []) items.old.items items.new.items) }
 {
-    [
+    let index = [
         Micro::Window(Context, 3),
         Micro::Get(First, Context, 2),
         copy(Top, Context),
@@ -295,8 +307,9 @@ fn element_ops(label: u32) -> [Micro; 10]
         Micro::Test(BranchOp::Bgeu, Datum, Second, OUTSIDE_LABEL),
         Micro::Shift(ShiftOp::Slli, Datum, Datum, 3),
         Micro::Alu(RegOp::Add, Frame, First, Datum),
-        Micro::Jump(label),
-    ]
+    ];
+    add(items, sizes, label, &index)?;
+    lower_all(items, sizes.entries, sizes.table_words, cell)
 }
 
 // A cell of a sequence is entered: an index is taken, and entered at the shape of indices, if there is
@@ -313,17 +326,16 @@ fn add_index(
     match numbers.code().sequences.value {
         Some(shape) => {
             let index = [
-                copy(Datum, Frame),
+                Micro::Room(4, NO_ROOM_LABEL),
+                Micro::Window(Top, 4),
+                Micro::Save(Top, 2, Frame),
                 Micro::Window(Context, 4),
                 Micro::Get(Second, Context, 2),
                 Micro::Get(Frame, Context, 3),
                 Micro::Get(Context, Context, 1),
-                Micro::Room(4, NO_ROOM_LABEL),
-                Micro::Window(Top, 4),
                 Micro::Set(First, word_of_entry(entry)),
                 Micro::Save(Top, 0, First),
                 Micro::Save(Top, 1, Context),
-                Micro::Save(Top, 2, Datum),
                 copy(Context, Top),
                 words_behind(Top, Top, 4),
                 Micro::Set(Third, numbers.row(shape)),

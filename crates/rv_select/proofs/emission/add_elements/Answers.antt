@@ -4,9 +4,9 @@ use Rattle.rv_select.proofs.emission.add_elements.Goals as goal
 
 pub returns : goal.returns
 returns c =
-    λ code. if_ok c.add-5.result
+    λ code. if_ok c.add-3.result
     (λ last.
     same_blocks
-    (blocks_before c.in_ok-add.ensures (blocks_before c.in_ok-add-2.ensures (blocks_before c.in_ok-add-3.ensures (blocks_before c.in_ok-add-4.ensures last (omega arith)) (omega arith)) (omega arith)) (omega arith))
+    (blocks_before c.in_ok-add_element.ensures (blocks_before c.in_ok-add_element-2.ensures (blocks_before c.in_ok-add.ensures (blocks_before c.in_ok-add-2.ensures last (omega arith)) (omega arith)) (omega arith)) (omega arith))
     (cc))
-    c.add-5.ensures
+    c.add-3.ensures
