@@ -8,7 +8,7 @@ use Rattle.rv_insn.specs.Program.{AreRead}
 use Rattle.rv_insn.proofs.Reading.{read_none, read_more}
 use Rattle.rv_guard.specs.Patterns.{instructions_of, Setting}
 use Rattle.rv_guard.specs.declared.pieces.Piece.{Piece}
-use Rattle.rv_guard.specs.declared.pieces.Piece.TheVariants.{FarJump, StackCheck, TableCheck, Entry, ServiceCall, FaultCall, Single}
+use Rattle.rv_guard.specs.declared.pieces.Piece.TheVariants.{FarJump, StackCheck, NearCheck, TableCheck, Entry, ServiceCall, FaultCall, Single}
 use Rattle.rv_guard.specs.Cutting.{AreCut}
 use Rattle.rv_guard.specs.Rules.{KeepRules, BreaksFirstAt}
 use Rattle.rv_guard.specs.Joining.{total_words}
@@ -46,6 +46,7 @@ pub cut_values : (s : Setting) (code : List Insn) (pieces : List Piece) → AreC
 cut_values s code [] h = tt
 cut_values s code (StackCheck r high low ∷ pieces) h = (h.2.0, cut_values s h.0 pieces h.3)
 cut_values s code (FarJump r high low ∷ pieces) h = (tt, cut_values s h.0 pieces h.3)
+cut_values s code (NearCheck r low ∷ pieces) h = (tt, cut_values s h.0 pieces h.3)
 cut_values s code (TableCheck r high low ∷ pieces) h = (tt, cut_values s h.0 pieces h.3)
 cut_values s code (Entry r high low ∷ pieces) h = (tt, cut_values s h.0 pieces h.3)
 cut_values s code (ServiceCall k ∷ pieces) h = (tt, cut_values s h.0 pieces h.3)

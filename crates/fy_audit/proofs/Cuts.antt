@@ -5,7 +5,7 @@ use Rattle.std.proofs.lemmas.Bool.{cases_lt}
 use Rattle.rv_insn.specs.declared.instructions.Insn.{Insn}
 use Rattle.rv_guard.specs.Patterns.{instructions_of, word_count, HasHead, Setting}
 use Rattle.rv_guard.specs.declared.pieces.Piece.{Piece}
-use Rattle.rv_guard.specs.declared.pieces.Piece.TheVariants.{FarJump, StackCheck, TableCheck, Entry, ServiceCall, FaultCall, Single}
+use Rattle.rv_guard.specs.declared.pieces.Piece.TheVariants.{FarJump, StackCheck, NearCheck, TableCheck, Entry, ServiceCall, FaultCall, Single}
 use Rattle.rv_guard.specs.Cutting.{Begins, IsCutBy, AreCut}
 use Rattle.fy_audit.specs.Words.{IsFarJump, IsHeadCount}
 
@@ -36,6 +36,7 @@ pub some_size : (piece : Piece) → 1 ≤ word_count piece
 some_size (Single insn) = omega arith
 some_size (FarJump a b c) = omega arith
 some_size (StackCheck a b c) = omega arith
+some_size (NearCheck a c) = omega arith
 some_size (TableCheck a b c) = omega arith
 some_size (Entry a b c) = omega arith
 some_size (ServiceCall a) = omega arith
@@ -73,6 +74,7 @@ head_more heads code (FarJump a b l) h far begins =
           subst P e (h.up (suc g) (a, b, l, drop 2 (drop (2 * heads) code), begins, subst Q (sym next) k));
     }
 head_more heads code (StackCheck a b l) h far begins = absurd far
+head_more heads code (NearCheck a l) h far begins = absurd far
 head_more heads code (TableCheck a b l) h far begins = absurd far
 head_more heads code (Entry a b l) h far begins = absurd far
 head_more heads code (ServiceCall a) h far begins = absurd far

@@ -1,7 +1,7 @@
 //! Whether the operands of a pattern fit, and which piece is cut off.
 
 ghost use Rattle.std.specs.Prelude.{◌≡◌, ◌+◌, ◌^◌, ◌<◌, ◌≤◌, ◌↔◌, IsTrue, length, drop};
-ghost use Rattle.rv_guard.specs.Patterns.{IsNatural, IsCheckable, IsStackCheck, IsTableCheck, IsEntry, IsFaultCall, IsPattern, value};
+ghost use Rattle.rv_guard.specs.Patterns.{IsNatural, IsCheckable, IsStackCheck, IsNearCheck, IsTableCheck, IsEntry, IsFaultCall, IsPattern, value, below};
 ghost use Rattle.rv_guard.specs.Cutting.{Begins, IsCutBy};
 ghost use Rattle.fy_audit.specs.Words.{IsHeadCount, setting};
 
@@ -36,6 +36,25 @@ fn is_stack_check(register: u8, v: u64) -> bool
     ensures { IsTrue result ↔ IsStackCheck register v }
 {
     is_checkable(register) && v >= 8 && v <= 32768
+}
+
+// How far a number lies below 0, or 0.
+pub fn below_of(low: i16) -> u64
+    ensures value { result ≡ below low }
+    ensures small { result < 2 ^ 32 }
+{
+    if low < 0 {
+        low.unsigned_abs() as u64
+    } else {
+        0
+    }
+}
+
+fn is_near_check(register: u8, low: i16) -> bool
+    ensures { IsTrue result ↔ IsNearCheck register low }
+{
+    let v = below_of(low);
+    is_checkable(register) && v >= 8 && v <= 2048
 }
 
 fn is_table_check(register: u8, v: u64, code: &[Insn], table_words: usize, places: usize) -> bool
@@ -74,6 +93,7 @@ fn is_pattern(piece: Piece, code: &[Insn], heads: usize, table_words: usize, pla
             high,
             low,
         } => { is_natural(high, low) && is_stack_check(register, value_of(high, low)) }
+        Piece::NearCheck { register, low } => is_near_check(register, low),
         Piece::TableCheck {
             register,
             high,

@@ -19,6 +19,7 @@ pub fn size(piece: Piece) -> usize
     match piece {
         Piece::FarJump { .. } => 2,
         Piece::StackCheck { .. } => 8,
+        Piece::NearCheck { .. } => 5,
         Piece::TableCheck { .. } => 6,
         Piece::Entry { .. } => 7,
         Piece::ServiceCall { .. } => 2,

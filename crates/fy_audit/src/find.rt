@@ -51,7 +51,7 @@ fn service(insns: &[Insn]) -> Option<Piece>
     }
 }
 
-// Whether these are the last three of a table check of a register.
+// Whether these are the last three of a near check or a table check of a register.
 fn is_table_check_end(insns: &[Insn], register: u8) -> bool
     ensures { IsTrue result ↔ (insns.now ≡ table_check_end register ++ drop 3 insns.now) }
 {
@@ -181,6 +181,33 @@ fn stack_check(insns: &[Insn]) -> Option<Piece>
     }
 }
 
+fn near_check(insns: &[Insn]) -> Option<Piece>
+    ensures sound { IfSome result (λ piece. IsCompound piece × Begins piece insns.now) }
+    ensures complete { (r : ℕ) (low : ℤ) → Begins (Piece.NearCheck r low) insns.now → result ≡ Some (Piece.NearCheck r low) }
+{
+    match insns {
+        [
+            Insn::Branch {
+                op: BranchOp::Bltu,
+                rs1: r,
+                rs2: 2,
+                offset: 0,
+            },
+            Insn::Imm {
+                op: ImmOp::Addi,
+                rd: 31,
+                rs1: 3,
+                imm,
+            },
+            rest @ ..,
+        ] if is_table_check_end(rest, *r) => Some(Piece::NearCheck {
+            register: *r,
+            low: *imm,
+        }),
+        _ => None,
+    }
+}
+
 // Whether these are the last four of an entry.
 fn is_entry_end(insns: &[Insn]) -> bool
     ensures { IsTrue result ↔ (insns.now ≡ entry_end ++ drop 4 insns.now) }
@@ -297,6 +324,9 @@ pub fn shape(insns: &[Insn]) -> Option<Piece>
         return Some(piece);
     }
     if let Some(piece) = stack_check(insns) {
+        return Some(piece);
+    }
+    if let Some(piece) = near_check(insns) {
         return Some(piece);
     }
     if let Some(piece) = table_check(insns) {

@@ -36,6 +36,7 @@ pub fn changes(r: u8, piece: Piece) -> bool
     match piece {
         Piece::FarJump { link, .. } => r == 31 || r == link,
         Piece::StackCheck { .. } => r == 0 || r == 31,
+        Piece::NearCheck { .. } => r == 0 || r == 31,
         Piece::TableCheck { .. } => r == 0 || r == 31,
         Piece::Entry { .. } => r == 0 || r == 30 || r == 31,
         Piece::ServiceCall { number } => r == 0 || r == 17 || (number == 2 && r == 10),

@@ -5,7 +5,7 @@ ghost use Rattle.rv_guard.specs.Windows.{is_ended, is_checked, register_of, move
 ghost use Rattle.fy_audit.specs.Words.{AreNear, IsNearWindow, moved_window, HasValue};
 ghost use Rattle.rv_guard.specs.declared.pieces.Piece.{Piece};
 
-use crate::conditions::value_of;
+use crate::conditions::{below_of, value_of};
 use crate::rules::{changes, is_multiple_of};
 use fy_base::OutOfMemory;
 use rv_guard::{Piece, Window};
@@ -35,6 +35,7 @@ fn checks(q: u8, piece: Piece) -> bool
 {
     match piece {
         Piece::StackCheck { register, .. } => register == q,
+        Piece::NearCheck { register, .. } => register == q,
         Piece::TableCheck { register, .. } => register == q,
         _ => false,
     }
@@ -111,6 +112,14 @@ fn gives(alloc: Global, piece: Piece, windows: &[Window]) -> Result<Vec<Window>,
                 register,
                 from: 0,
                 to: value_of(high, low) as i64,
+            })?;
+            Ok(now)
+        }
+        Piece::NearCheck { register, low } => {
+            now.push(Window::InStack {
+                register,
+                from: 0,
+                to: below_of(low) as i64,
             })?;
             Ok(now)
         }

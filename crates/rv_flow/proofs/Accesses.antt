@@ -18,7 +18,7 @@ use Rattle.rv_guard.specs.declared.pieces.Piece.{Piece}
 use Rattle.rv_guard.specs.declared.pieces.Piece.TheVariants.{FarJump, ServiceCall, Single}
 use Rattle.rv_guard.specs.declared.pieces.Window.{Window}
 use Rattle.rv_guard.specs.declared.pieces.Window.TheVariants.{InStack}
-use Rattle.rv_guard.specs.Patterns.{word_count, value}
+use Rattle.rv_guard.specs.Patterns.{word_count, value, below}
 use Rattle.rv_guard.specs.Windows.{written_by, windows_behind}
 use Rattle.rv_guard.specs.Rules.{address_of, is_target, windows_at, HasAccess}
 use Rattle.rv_asm.specs.Forms.{Builds, opposite}
@@ -29,12 +29,12 @@ use Rattle.rv_word.specs.declared.micros.Micro.TheVariants as micro
 use Rattle.rv_word.specs.Word.{Named, get, set, zeros}
 use Rattle.rv_word.specs.Discipline.{Bounds, is_zero, has_needs, imm_window}
 use Rattle.rv_word.specs.Discipline as discipline
-use Rattle.rv_flow.specs.Lowering.{number_of, upper_part, lower_part, minus, kind_number, window_piece, look_piece, entry_piece, fault_piece, copy}
-use Rattle.rv_flow.proofs.Parts.{Part, branch, jump, room_parts, parts_of}
+use Rattle.rv_flow.specs.Lowering.{number_of, upper_part, lower_part, minus, kind_number, look_piece, entry_piece, fault_piece, copy}
+use Rattle.rv_flow.proofs.Parts.{Part, branch, jump, room_parts, window_by, parts_of}
 use Rattle.rv_flow.proofs.Choices.{Choice, singles, branch_pieces, jump_pieces, part_pieces, behind, Choices, pieces_in, behind_grows}
-use Rattle.rv_flow.proofs.Numbered.{not_x0, AreHalves, halves}
+use Rattle.rv_flow.proofs.Numbered.{not_x0, below_minus, AreHalves, halves}
 use Rattle.rv_flow.proofs.Covers.{Spans, Covers, CoversOthers, EndsNone, EndsOnly, covers_none, covers_others, covers_behind, others_behind, covers_set, covers_cleared, span_covers, imm_span}
-use Rattle.rv_flow.proofs.Ended.{far_ends, entry_ends, fault_ends, put_ends, take_ends, end_ends, exhaust_ends, jal_ends, copy_ends, writes_none, writes_only, stack_ends, table_ends}
+use Rattle.rv_flow.proofs.Ended.{far_ends, entry_ends, fault_ends, put_ends, take_ends, end_ends, exhaust_ends, jal_ends, copy_ends, writes_none, writes_only, stack_ends, near_ends, table_ends}
 
 -- ---- rule 4 of pieces, with the windows of rule 3
 
@@ -159,18 +159,24 @@ room_access all at k false n label rest cs windows go =
 
 -- ---- checks
 
-window_covers : (windows : List Window) (r : Register) (k : ℕ) (d : Named) → 1 ≤ k → k ≤ 4096 → Covers windows d → Covers (windows_behind (window_piece r k) windows) (set d r k)
-window_covers windows r k d least most h =
+window_covers : (windows : List Window) (b : Bool) (r : Register) (k : ℕ) (d : Named) → 1 ≤ k → k ≤ 4096 → Covers windows d → Covers (windows_behind (window_by b r k) windows) (set d r k)
+window_covers windows true r k d least most h =
+    let low : ℤ = minus (8 * k) in
+    let spans : Spans (number_of r) k (InStack (number_of r) (pos 0) (pos (below low))) =
+    (refl, omega (arith, ints), subst (λ (n : ℕ). pos (8 * k) ≤ℤ pos n) (sym (below_minus (8 * k))) (omega (arith, ints))) in
+    covers_set (windows_behind (window_by true r k) windows) d r k (others_behind (window_by true r k) windows d r (near_ends r low) (covers_others windows d r h)) (λ named some. inl spans)
+window_covers windows false r k d least most h =
     let high : ℕ = upper_part (8 * k) in
     let low : ℤ = lower_part (8 * k) in
     let v : AreHalves (8 * k) = halves (8 * k) (omega arith) in
     let spans : Spans (number_of r) k (InStack (number_of r) (pos 0) (pos (value high low))) =
     (refl, omega (arith, ints), subst (λ (n : ℕ). pos (8 * k) ≤ℤ pos n) (sym v.is) (omega (arith, ints))) in
-    covers_set (windows_behind (window_piece r k) windows) d r k (others_behind (window_piece r k) windows d r (stack_ends r high low) (covers_others windows d r h)) (λ named some. inl spans)
+    covers_set (windows_behind (window_by false r k) windows) d r k (others_behind (window_by false r k) windows d r (stack_ends r high low) (covers_others windows d r h)) (λ named some. inl spans)
 
-window_access : (all : List Piece) (k : ℕ) (windows : List Window) (pieces : List Piece) (r : Register) (n : ℕ) (d : Named) → 1 ≤ n → n ≤ 4096 → Covers (windows_at all k windows) d
-    → ((ws : List Window) → Covers ws (set d r n) → HaveAccess all (k + 8) ws pieces) → HaveAccess all k windows (window_piece r n ∷ pieces)
-window_access all k windows pieces r n d least most h go = (tt, go _ (window_covers (windows_at all k windows) r n d least most h))
+window_access : (all : List Piece) (k : ℕ) (windows : List Window) (pieces : List Piece) (b : Bool) (r : Register) (n : ℕ) (d : Named) → 1 ≤ n → n ≤ 4096 → Covers (windows_at all k windows) d
+    → ((ws : List Window) → Covers ws (set d r n) → HaveAccess all (k + word_count (window_by b r n)) ws pieces) → HaveAccess all k windows (window_by b r n ∷ pieces)
+window_access all k windows pieces true r n d least most h go = (tt, go _ (window_covers (windows_at all k windows) true r n d least most h))
+window_access all k windows pieces false r n d least most h go = (tt, go _ (window_covers (windows_at all k windows) false r n d least most h))
 
 -- the check of a table ends the window of the stack that its register has, and the load reads under its own
 look_access : (all : List Piece) (k : ℕ) (windows : List Window) (pieces : List Piece) (table_words : ℕ) (r s : Register) (d : Named) → is_target (address_of (k + 6)) 0 all ≡ false → Covers (windows_at all k windows) d
@@ -247,7 +253,7 @@ module _ (all : List Piece) (at : ℕ → ℕ) (entries table_words : ℕ) (b : 
   micro_access (micro.Alu op r s t) k rest cs windows d quiet h needs go = one_access all k windows (pieces_behind (micro.Alu op r s t) k rest cs) (insn.Reg op (number_of r) (number_of s) (number_of t)) r d refl tt h go
   micro_access (micro.Window r n) k rest cs windows d quiet h needs go =
       let bounds = and_parts (nat_le 1 n) (nat_le n 4096) (and_parts (not (is_zero r)) (nat_le 1 n && nat_le n 4096) needs).1 in
-      window_access all k windows (pieces_behind (micro.Window r n) k rest cs) r n d (leb-true 1 n bounds.0) (leb-true n 4096 bounds.1) h go
+      window_access all k windows (pieces_behind (micro.Window r n) k rest cs) (nat_le n 255) r n d (leb-true 1 n bounds.0) (leb-true n 4096 bounds.1) h go
   micro_access (micro.Get r s n) k rest cs windows d quiet h needs go =
       one_access all k windows (pieces_behind (micro.Get r s n) k rest cs) (insn.Load Ld (number_of r) (number_of s) (pos (8 * n))) r d refl (load_access (windows_at all k windows) r s d n h (ltb-true n (get d s) (and_parts (nat_lt n (get d s)) (nat_lt n 256) needs).0)) h go
   micro_access (micro.Save s n r) k rest cs windows d quiet h needs go =

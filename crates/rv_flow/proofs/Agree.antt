@@ -2,7 +2,7 @@
 use Rattle.std.proofs.Common.{◌≡◌, ℕ, ◌+◌, ◌-◌, ◌*◌, ◌/◌, ◌%◌, ◌^◌, ◌<◌, ◌≤◌, pos, negsuc, Bool, true, false, not, nat_lt, nat_le, ◌&&◌, if◌then◌else◌, List, [], ◌∷◌, ◌++◌, length, drop, slice_index, All, Option, Some, None, refl, ◌∙◌, ap, arith, lit<}
 use Rattle.std.specs.List.{slice_get}
 use Rattle.std.specs.Int.{cast_unsigned, w64}
-use Rattle.std.proofs.lemmas.Bool.{and_parts, false_from_ne_true}
+use Rattle.std.proofs.lemmas.Bool.{and_parts, false_from_ne_true, leb-true}
 use Rattle.fy_base.specs.declared.data.Place.{Place}
 use Rattle.fy_base.specs.declared.data.FaultKind.{FaultKind}
 use Rattle.fy_base.specs.declared.data.FaultKind.TheVariants as fault
@@ -22,7 +22,7 @@ use Rattle.rv_word.proofs.Right.{entry_within}
 use Rattle.rv_word.proofs.Sound.{taken_below}
 use Rattle.rv_flow.specs.Lowering.{upper_part, lower_part, minus, kind_number}
 use Rattle.rv_flow.proofs.Shown.{X31, R, X3, Scratch, view}
-use Rattle.rv_flow.proofs.Lines.{Num, Op, Did, Behind, Unsaid, faulted_by, lines_do, to_label, entry_number, is_entry, led_by, number_lines, lines_of, last_of}
+use Rattle.rv_flow.proofs.Lines.{Num, Op, Open, Did, Behind, Unsaid, faulted_by, lines_do, to_label, entry_number, is_entry, led_by, number_lines, window_lines, lines_of, last_of}
 use Rattle.rv_flow.proofs.Reached.{reached_either}
 use Rattle.rv_flow.proofs.Sums.{copy_is, literal_is, constant_is, minus_is, parts_are, low_three, all_but_three}
 
@@ -102,8 +102,41 @@ window_there e x k m j s t small fits few below above behind odd =
     let l : stack_start ≤ x = grind arith in
     grind arith
 
-window_led : (code : Code) (rest : List Micro) (r : Register) (k : ℕ) (e : Data) (h : Scratch) → get e.named r < 2 ^ 64 → k ≤ 4096 → length e.words ≤ 2 ^ 27 → AreLed code rest (Window r k) e h
-window_led code rest r k e h small fits few =
+near_above : (e : Data) (x k m : ℕ) → m ≡ limit e - 8 * k → k ≤ 255 → is_taken Bltu m x ≡ true → has_window e x k ≡ false
+unfolding is_taken
+near_above e x k m s fits h =
+    let a : m < x = grind arith in
+    let b : limit e < x + 8 * k = omega arith in
+    grind arith
+
+near_there : (e : Data) (x k m j : ℕ) → m ≡ limit e - 8 * k → j ≡ x % 8 → k ≤ 255 → is_taken Bltu x stack_start ≡ false → is_taken Bltu m x ≡ false → is_taken Bne j 0 ≡ false → has_window e x k ≡ true
+unfolding is_taken
+near_there e x k m j s t fits below above odd =
+    let a : x ≤ m = grind arith in
+    let c : x + 8 * k ≤ limit e = omega arith in
+    let d : x % 8 ≡ 0 = grind arith in
+    let l : stack_start ≤ x = grind arith in
+    grind arith
+
+-- the lines of a window, near or not, lead where it does
+abbrev AreLedBy : Bool → Code → List Micro → Register → ℕ → Data → Scratch → Type 0
+AreLedBy b code rest r k e h = led_by code rest (lines_do code (window_lines b r k) Open (view e h)) ≡ does code (Window r k) rest e
+
+near_led : (code : Code) (rest : List Micro) (r : Register) (k : ℕ) (e : Data) (h : Scratch) → k ≤ 255 → length e.words ≤ 2 ^ 27 → AreLedBy true code rest r k e h
+near_led code rest r k e h fits few =
+    let P : Did → Type 0 = λ d. led_by code rest d ≡ does code (Window r k) rest e in
+    let x : ℕ = get e.named r in
+    let m : ℕ = imm_value Addi (limit e) (cast_unsigned w64 (minus (8 * k))) in
+    let j : ℕ = imm_value Andi x (cast_unsigned w64 (pos 7)) in
+    let m_is : m ≡ limit e - 8 * k = minus_is (limit e) (8 * k) (omega arith) (omega arith) in
+    let j_is : j ≡ x % 8 = low_three x in
+    reached_either P (is_taken Bltu x stack_start) _ _ (λ b1. hangs_here _ _ e (window_below e x k b1)) (λ b1.
+    reached_either P (is_taken Bltu m x) _ _ (λ b2. hangs_here _ _ e (near_above e x k m m_is fits b2)) (λ b2.
+    reached_either P (is_taken Bne j 0) _ _ (λ b3. hangs_here _ _ e (window_odd e x k j j_is b3)) (λ b3.
+    goes_here _ rest _ e (near_there e x k m j m_is j_is fits b1 b2 b3))))
+
+far_led : (code : Code) (rest : List Micro) (r : Register) (k : ℕ) (e : Data) (h : Scratch) → get e.named r < 2 ^ 64 → k ≤ 4096 → length e.words ≤ 2 ^ 27 → AreLedBy false code rest r k e h
+far_led code rest r k e h small fits few =
     let P : Did → Type 0 = λ d. led_by code rest d ≡ does code (Window r k) rest e in
     let x : ℕ = get e.named r in
     let m : ℕ = imm_value Addi (upper_value (upper_part (8 * k))) (cast_unsigned w64 (lower_part (8 * k))) in
@@ -115,6 +148,10 @@ window_led code rest r k e h small fits few =
     reached_either P (is_taken Bltu (limit e) (reg_value Add m x)) _ _ (λ b3. hangs_here _ _ e (window_behind e x k m m_is small fits few b2 b3)) (λ b3.
     reached_either P (is_taken Bne j 0) _ _ (λ b4. hangs_here _ _ e (window_odd e x k j j_is b4)) (λ b4.
     goes_here _ rest _ e (window_there e x k m j m_is j_is small fits few b1 b2 b3 b4)))))
+
+window_led : (b : Bool) (code : Code) (rest : List Micro) (r : Register) (k : ℕ) (e : Data) (h : Scratch) → nat_le k 255 ≡ b → get e.named r < 2 ^ 64 → k ≤ 4096 → length e.words ≤ 2 ^ 27 → AreLedBy b code rest r k e h
+window_led true code rest r k e h near small fits few = near_led code rest r k e h (leb-true k 255 near) few
+window_led false code rest r k e h near small fits few = far_led code rest r k e h small fits few
 
 -- ---- words of the table
 
@@ -288,7 +325,7 @@ are_led code rest (Window r k) e h windows disciplined needs s =
     let outer = and_parts (not (is_zero r)) (nat_le 1 k && nat_le k 4096) needs in
     let inner = and_parts (nat_le 1 k) (nat_le k 4096) outer.1 in
     let second : nat_le k 4096 ≡ true = inner.1 in
-    window_led code rest r k e h (s.sound.named r) (grind arith) s.sound.size
+    window_led (nat_le k 255) code rest r k e h refl (s.sound.named r) (grind arith) s.sound.size
 are_led code rest (Get r q k) e h windows disciplined needs s = said_either code rest (has_window e (get e.named q) (k + 1)) _
 are_led code rest (Save q k r) e h windows disciplined needs s = said_both code rest (has_window e (get e.named q) (k + 1)) _ _ (below_is (get e.named r) (2 ^ 64) (s.sound.named r))
 are_led code rest (Look r q) e h windows disciplined needs s = look_led code rest r q e h s.table

@@ -5,7 +5,7 @@ use Rattle.rv_insn.specs.declared.instructions.BranchOp.{BranchOp}
 use Rattle.rv_insn.specs.declared.instructions.BranchOp.TheVariants.{Bltu}
 use Rattle.rv_insn.specs.declared.instructions.Insn.{Insn}
 use Rattle.rv_guard.specs.declared.pieces.Piece.{Piece}
-use Rattle.rv_guard.specs.declared.pieces.Piece.TheVariants.{FarJump, StackCheck, TableCheck, Entry, ServiceCall, FaultCall, Single}
+use Rattle.rv_guard.specs.declared.pieces.Piece.TheVariants.{FarJump, StackCheck, NearCheck, TableCheck, Entry, ServiceCall, FaultCall, Single}
 use Rattle.rv_guard.specs.declared.pieces.Window.{Window}
 use Rattle.rv_guard.specs.Patterns.{word_count}
 use Rattle.rv_guard.specs.Windows.{windows_behind}
@@ -63,6 +63,7 @@ branch_clears entries table_words m d h = absurd (true≢false h)
 some_word : (piece : Piece) → 1 ≤ word_count piece
 some_word (FarJump link high low) = omega arith
 some_word (StackCheck r high low) = omega arith
+some_word (NearCheck r low) = omega arith
 some_word (TableCheck r high low) = omega arith
 some_word (Entry r high low) = omega arith
 some_word (ServiceCall number) = omega arith

@@ -3,7 +3,7 @@ use Rattle.std.proofs.Common.{◌≡◌, ℕ, ℤ, Bool, false, ◌||◌, nat_eq
 use Rattle.rv_insn.specs.declared.instructions.Insn.{Insn}
 use Rattle.rv_insn.specs.declared.instructions.Insn.TheVariants.{Imm, Jal}
 use Rattle.rv_insn.specs.declared.instructions.ImmOp.TheVariants.{Addi}
-use Rattle.rv_guard.specs.declared.pieces.Piece.TheVariants.{FarJump, StackCheck, TableCheck, Entry, ServiceCall, FaultCall, Single}
+use Rattle.rv_guard.specs.declared.pieces.Piece.TheVariants.{FarJump, StackCheck, NearCheck, TableCheck, Entry, ServiceCall, FaultCall, Single}
 use Rattle.rv_guard.specs.Windows.{written_by, is_ended}
 use Rattle.rv_word.specs.declared.micros.Register.{Register}
 use Rattle.rv_flow.specs.Lowering.{number_of}
@@ -51,6 +51,10 @@ writes_only i r is q named other = ap (λ (n : ℕ). (nat_eq n (number_of q) || 
 pub stack_ends : (r : Register) (high : ℕ) (low : ℤ) → EndsOnly r (StackCheck (number_of r) high low)
 stack_ends r high low =
     by_number (λ n. nat_eq (number_of r) n ≡ false → is_ended n (StackCheck (number_of r) high low) ≡ false) (λ e. e) (λ e. e) (λ e. e) (λ e. e) (λ e. e) (λ e. e) (λ e. e)
+
+pub near_ends : (r : Register) (low : ℤ) → EndsOnly r (NearCheck (number_of r) low)
+near_ends r low =
+    by_number (λ n. nat_eq (number_of r) n ≡ false → is_ended n (NearCheck (number_of r) low) ≡ false) (λ e. e) (λ e. e) (λ e. e) (λ e. e) (λ e. e) (λ e. e) (λ e. e)
 
 pub table_ends : (r : Register) (high : ℕ) (low : ℤ) → EndsOnly r (TableCheck (number_of r) high low)
 table_ends r high low =

@@ -7,7 +7,7 @@ use Rattle.fy_base.specs.declared.data.FaultKind.TheVariants as fault
 use Rattle.rv_insn.specs.Encoding.{IsWithin, IsEncodable, amount_bits}
 use Rattle.rv_insn.specs.declared.instructions.BranchOp.TheVariants.{Bltu}
 use Rattle.rv_insn.specs.declared.instructions.Insn.{Insn}
-use Rattle.rv_guard.specs.declared.pieces.Piece.TheVariants.{StackCheck, TableCheck, Entry, FaultCall}
+use Rattle.rv_guard.specs.declared.pieces.Piece.TheVariants.{StackCheck, NearCheck, TableCheck, Entry, FaultCall}
 use Rattle.rv_guard.specs.Patterns.{instructions_of}
 use Rattle.rv_asm.specs.declared.items.Item.{Item}
 use Rattle.rv_asm.specs.Items.{named_by, IsFit}
@@ -18,7 +18,7 @@ use Rattle.rv_word.specs.declared.micros.Micro.TheVariants.{Set, Imm, Shift, Alu
 use Rattle.rv_word.specs.Word.{Named, Code, get, zeros}
 use Rattle.rv_word.specs.Discipline.{is_short, is_zero, has_needs, windows_behind, closes, is_disciplined_from, are_disciplined, are_below, bounds_of}
 use Rattle.rv_flow.specs.Lowering.{number_of, upper_part, lower_part, minus, kind_number, plain}
-use Rattle.rv_flow.proofs.Parts.{Part, mark, stays, constant, branch, jump, far, part_items, items_in, room_parts, parts_of, micros_parts, blocks_parts, entry_parts, parts_in}
+use Rattle.rv_flow.proofs.Parts.{Part, mark, stays, constant, branch, jump, far, part_items, items_in, room_parts, window_by, parts_of, micros_parts, blocks_parts, entry_parts, parts_in}
 use Rattle.rv_flow.proofs.Numbered.{numbered}
 
 -- ---- numbers
@@ -66,6 +66,14 @@ stack_fits r v below small = (
   (below, lit< tt, lit< tt, refl),
   ((lit< tt, below, lit< tt, refl), ((lit< tt, upper_fits v small), ((lit< tt, lit< tt, lower_fits v), ((lit< tt, lit< tt, below), ((lit< tt, lit< tt, lit< tt, refl), ((lit< tt, below, lit< tt), ((lit< tt, lit< tt, lit< tt, refl), tt))))))),
 )
+
+near_fits : (r v : ℕ) → r < 32 → v ≤ 2048 → AreEncodable (instructions_of (NearCheck r (minus v)))
+near_fits r v below small =
+    ((below, lit< tt, lit< tt, refl), ((lit< tt, lit< tt, minus_fits v small), ((lit< tt, below, lit< tt, refl), ((lit< tt, below, lit< tt), ((lit< tt, lit< tt, lit< tt, refl), tt)))))
+
+window_fits : (b : Bool) (r : Register) (k : ℕ) → nat_le k 255 ≡ b → k ≤ 4096 → AreEncodable (instructions_of (window_by b r k))
+window_fits true r k near most = let few : k ≤ 255 = leb-true k 255 near in near_fits (number_of r) (8 * k) (below_32 r) (omega arith)
+window_fits false r k near most = stack_fits (number_of r) (8 * k) (below_32 r) (omega arith)
 
 table_fits : (r v : ℕ) → r < 32 → v + 2048 < 2 ^ 32 → AreEncodable (instructions_of (TableCheck r (upper_part v) (lower_part v)))
 table_fits r v below small =
@@ -146,7 +154,7 @@ module _ (code : Code) (few : length code.entries ≤ 4194304) (table : length c
   micro_fits (Alu op r s t) windows rest h k = (((below_32 r, below_32 s, below_32 t), tt), k)
   micro_fits (Window r c) windows rest h k =
       let most : c ≤ 4096 = leb-true c 4096 (and_parts (nat_le 1 c) (nat_le c 4096) (and_parts (not (is_zero r)) (nat_le 1 c && nat_le c 4096) h).1).1 in
-      (stack_fits (number_of r) (8 * c) (below_32 r) (omega arith), k)
+      (window_fits (nat_le c 255) r c refl most, k)
   micro_fits (Get r s c) windows rest h k = (((below_32 r, below_32 s, eight_fits c (ltb-true c 256 (and_parts (nat_lt c (get windows s)) (nat_lt c 256) h).1)), tt), k)
   micro_fits (Save s c r) windows rest h k = (((below_32 r, below_32 s, eight_fits c (ltb-true c 256 (and_parts (nat_lt c (get windows s)) (nat_lt c 256) h).1)), tt), k)
   micro_fits (Look r s) windows rest h k = (table_fits (number_of s) (536870904 + 8 * length code.table) (below_32 s) (omega arith), (((below_32 r, below_32 s, lit< tt), tt), k))

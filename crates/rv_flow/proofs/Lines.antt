@@ -20,6 +20,7 @@ use Rattle.rv_insn.specs.declared.instructions.Insn.TheVariants as insn
 use Rattle.rv_insn.specs.Operations.{reg_value, imm_value, shift_value, is_taken, upper_value}
 use Rattle.rv_insn.specs.Program.{code_start}
 use Rattle.rv_insn.specs.Step.{displaced}
+use Rattle.rv_guard.specs.Patterns.{instructions_of}
 use Rattle.rv_asm.specs.declared.items.Item.{Item}
 use Rattle.rv_asm.specs.declared.items.Item.TheVariants.{Plain, BranchTo, JumpTo, Constant}
 use Rattle.rv_asm.specs.Forms.{constant_words}
@@ -29,6 +30,7 @@ use Rattle.rv_word.specs.declared.micros.Micro.{Micro}
 use Rattle.rv_word.specs.declared.micros.Micro.TheVariants.{Set, Imm, Shift, Alu, Window, Get, Save, Look, Room, Test, Jump, Enter, Put, Take, End, Exhaust, Fault}
 use Rattle.rv_word.specs.Word.{Data, Code, Led, hangs, stops, wrong, set, word_number, table_number, has_window, is_in_table, block, onward, taken_in}
 use Rattle.rv_flow.specs.Lowering.{number_of, upper_part, lower_part, minus, kind_number, plain, lowered}
+use Rattle.rv_flow.proofs.Parts.{window_by}
 use Rattle.rv_flow.proofs.Shown.{Dest, N, X10, X11, X17, X30, X31, Source, R, X2, X3, X4, dest_number, source_number, View, read, put}
 
 -- an instruction that goes on to the one behind, hangs at itself, or ends the run
@@ -188,16 +190,23 @@ number_lines d v rest = Upper d (upper_part v) ∷ Num Addi d (R d) (lower_part 
 abbrev pub room_lines : ℕ → List Line
 room_lines k = if nat_le k 255 then Num Addi X31 X3 (minus (8 * k)) ∷ [] else number_lines X31 (8 * k) (Op Sub X31 X3 (R X31) ∷ [])
 
+-- the check of a window, near or not
+abbrev pub window_lines : Bool → Register → ℕ → List Line
+window_lines true r k =
+    Stay Bltu (source r) X2 ∷ Num Addi X31 X3 (minus (8 * k)) ∷ Stay Bltu (R X31) (source r)
+    ∷ Num Andi X31 (source r) (pos 7) ∷ Stay Bne (R X31) (source Zero) ∷ []
+window_lines false r k =
+    Stay Bltu (source r) X2 ∷ Stay Bltu X3 (source r)
+    ∷ number_lines X31 (8 * k) (Op Add X31 (R X31) (source r)
+    ∷ Stay Bltu X3 (R X31) ∷ Num Andi X31 (source r) (pos 7) ∷ Stay Bne (R X31) (source Zero) ∷ [])
+
 -- in code with so many entries and words of the table
 abbrev pub lines_of : ℕ → ℕ → Micro → List Line
 lines_of entries table_words (Set r v) = []
 lines_of entries table_words (Imm op r s imm) = Num op (N r) (source s) imm ∷ []
 lines_of entries table_words (Shift op r s amount) = Lift op (N r) (source s) amount ∷ []
 lines_of entries table_words (Alu op r s t) = Op op (N r) (source s) (source t) ∷ []
-lines_of entries table_words (Window r k) =
-    Stay Bltu (source r) X2 ∷ Stay Bltu X3 (source r)
-    ∷ number_lines X31 (8 * k) (Op Add X31 (R X31) (source r)
-    ∷ Stay Bltu X3 (R X31) ∷ Num Andi X31 (source r) (pos 7) ∷ Stay Bne (R X31) (source Zero) ∷ [])
+lines_of entries table_words (Window r k) = window_lines (nat_le k 255) r k
 lines_of entries table_words (Get r s k) = Load (N r) (source s) k ∷ []
 lines_of entries table_words (Save s k r) = Store (source s) k (source r) ∷ []
 lines_of entries table_words (Look r s) =
@@ -230,6 +239,11 @@ room_items : (b : Bool) (k : ℕ) (l : List Item)
 room_items true k l = refl
 room_items false k l = refl
 
+window_items : (b : Bool) (r : Register) (k : ℕ) → plain (instructions_of (window_by b r k)) ≡ map line_item (window_lines b r k) ++ []
+window_items true r k = refl
+window_items false r k = refl
+
 pub lines_are : (entries table_words : ℕ) (m : Micro) → lowered entries table_words m ≡ map line_item (lines_of entries table_words m) ++ last_items (last_of m)
 lines_are entries table_words (Room k label) = room_items (nat_le k 255) k (last_items (last_of (Room k label)))
+lines_are entries table_words (Window r k) = window_items (nat_le k 255) r k
 lines_are entries table_words m = refl

@@ -1,12 +1,12 @@
 -- The numbers of registers, and numbers as two halves.
-use Rattle.std.proofs.Common.{◌≡◌, ◌⊎◌, ℕ, suc, ◌+◌, ◌-◌, ◌*◌, ◌/◌, ◌%◌, ◌^◌, ◌<◌, ◌≤◌, ℤ, pos, negsuc, Bool, true, false, not, nat_eq, nat_lt, if◌then◌else◌, arith, refl, sym, inl, inr, lit<}
+use Rattle.std.proofs.Common.{◌≡◌, ◌⊎◌, ℕ, zero, suc, ◌+◌, ◌-◌, ◌*◌, ◌/◌, ◌%◌, ◌^◌, ◌<◌, ◌≤◌, ℤ, pos, negsuc, Bool, true, false, not, nat_eq, nat_lt, if◌then◌else◌, arith, refl, sym, inl, inr, lit<}
 use Rattle.std.proofs.lemmas.Bool.{true≢false, ltb-true, ltb-false, eqb-false}
-use Rattle.rv_guard.specs.Patterns.{value, IsNatural, IsCheckable}
+use Rattle.rv_guard.specs.Patterns.{value, below, IsNatural, IsCheckable}
 use Rattle.rv_word.specs.declared.micros.Register.{Register}
 use Rattle.rv_word.specs.declared.micros.Register.TheVariants.{Zero, Frame, Context, Top, Datum, First, Second, Third}
 use Rattle.rv_word.specs.Word.{Named, get, set}
 use Rattle.rv_word.specs.Discipline.{is_zero}
-use Rattle.rv_flow.specs.Lowering.{number_of, upper_part, lower_part}
+use Rattle.rv_flow.specs.Lowering.{number_of, upper_part, lower_part, minus}
 
 -- what is true of the number of each register: it isn't one of those that patterns and services take
 pub record IsNumber (n : ℕ) : Type 0 where
@@ -78,6 +78,11 @@ set_other d First First k h = absurd (true≢false h)
 set_other d Second Second k h = absurd (true≢false h)
 set_other d Third Third k h = absurd (true≢false h)
 set_other d r q k h = refl
+
+-- the negative of a number lies so far below 0
+pub below_minus : (v : ℕ) → below (minus v) ≡ v
+below_minus zero = refl
+below_minus (suc v) = refl
 
 -- ---- numbers as two halves
 

@@ -1,5 +1,5 @@
 -- What micro-operations are made of: pieces as they are, and items of which the assembler chooses the form.
-use Rattle.std.proofs.Common.{◌≡◌, ℕ, suc, ◌*◌, ℤ, pos, Bool, true, false, nat_le, if◌then◌else◌, List, [], ◌∷◌, ◌++◌, length, refl, sym, ap, ◌∙◌, append_assoc}
+use Rattle.std.proofs.Common.{◌≡◌, ℕ, suc, ◌*◌, ℤ, pos, Bool, true, false, nat_le, if◌then◌else◌, List, [], ◌∷◌, ◌++◌, length, refl, sym, ap, ◌∙◌, append_assoc, append-nil}
 use Rattle.std.specs.Int.{cast_signed, w64}
 use Rattle.rv_insn.specs.declared.instructions.RegOp.TheVariants.{Sub}
 use Rattle.rv_insn.specs.declared.instructions.ImmOp.TheVariants.{Addi}
@@ -10,10 +10,11 @@ use Rattle.rv_insn.specs.declared.instructions.BranchOp.TheVariants.{Bltu}
 use Rattle.rv_insn.specs.declared.instructions.Insn.{Insn}
 use Rattle.rv_insn.specs.declared.instructions.Insn.TheVariants as insn
 use Rattle.rv_guard.specs.declared.pieces.Piece.{Piece}
-use Rattle.rv_guard.specs.declared.pieces.Piece.TheVariants.{ServiceCall, Single}
+use Rattle.rv_guard.specs.declared.pieces.Piece.TheVariants.{StackCheck, NearCheck, ServiceCall, Single}
 use Rattle.rv_guard.specs.Patterns.{instructions_of}
 use Rattle.rv_asm.specs.declared.items.Item.{Item}
 use Rattle.rv_asm.specs.declared.items.Item.TheVariants.{Mark, BranchTo, JumpTo, FarTo, Constant}
+use Rattle.rv_word.specs.declared.micros.Register.{Register}
 use Rattle.rv_word.specs.declared.micros.Register.TheVariants as register
 use Rattle.rv_word.specs.declared.micros.Micro.{Micro}
 use Rattle.rv_word.specs.declared.micros.Micro.TheVariants.{Set, Imm, Shift, Alu, Window, Get, Save, Look, Room, Test, Jump, Enter, Put, Take, End, Exhaust, Fault}
@@ -49,6 +50,10 @@ single i = stays (Single i)
 abbrev pub room_parts : Bool → ℕ → List Part
 room_parts true k = single (insn.Imm Addi 31 3 (minus (8 * k))) ∷ []
 room_parts false k = single (insn.Lui 31 (upper_part (8 * k))) ∷ single (insn.Imm Addi 31 31 (lower_part (8 * k))) ∷ single (insn.Reg Sub 31 3 31) ∷ []
+
+-- the check of a window, near or not
+abbrev pub window_by : Bool → Register → ℕ → Piece
+window_by b r k = if b then NearCheck (number_of r) (minus (8 * k)) else StackCheck (number_of r) (upper_part (8 * k)) (lower_part (8 * k))
 
 abbrev pub parts_of : ℕ → ℕ → Micro → List Part
 parts_of entries table_words (Set r v) = constant (number_of r) (cast_signed w64 v) ∷ []
@@ -99,6 +104,7 @@ room_items false k label = refl
 
 micro_is : (entries table_words : ℕ) (m : Micro) → items_in (parts_of entries table_words m) ≡ lowered entries table_words m
 micro_is entries table_words (Room k label) = room_items (nat_le k 255) k label
+micro_is entries table_words (Window r k) = append-nil (plain (instructions_of (window_piece r k)))
 micro_is entries table_words m = refl
 
 micros_are : (entries table_words : ℕ) (ms : List Micro) (rest : List Part) → items_in (micros_parts entries table_words ms rest) ≡ micro_items entries table_words ms ++ items_in rest

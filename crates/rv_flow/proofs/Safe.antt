@@ -13,7 +13,7 @@ use Rattle.rv_insn.specs.declared.instructions.BranchOp.{BranchOp}
 use Rattle.rv_insn.specs.declared.instructions.Insn.{Insn}
 use Rattle.rv_insn.specs.declared.instructions.Insn.TheVariants.{Reg, Imm, Shift, Load, Store, Branch, Lui, Jal}
 use Rattle.rv_guard.specs.declared.pieces.Piece.{Piece}
-use Rattle.rv_guard.specs.declared.pieces.Piece.TheVariants.{FarJump, StackCheck, TableCheck, Entry, ServiceCall, FaultCall, Single}
+use Rattle.rv_guard.specs.declared.pieces.Piece.TheVariants.{FarJump, StackCheck, NearCheck, TableCheck, Entry, ServiceCall, FaultCall, Single}
 use Rattle.rv_guard.specs.Patterns.{Setting}
 use Rattle.rv_guard.specs.Cutting.{AreCut}
 use Rattle.rv_guard.specs.Windows.{written_by}
@@ -74,6 +74,7 @@ alone_addiw rd a imm piece others m e = cc
 pub alone_branch : (op : BranchOp) (a b : ℕ) (offset : ℤ) → b ≢ 2 → b ≢ 4 → IsAlone (Branch op a b offset)
 alone_branch op a b offset h k (Single i) others m e = m
 alone_branch op a b offset h k (StackCheck r high low) others m e = h (cc)
+alone_branch op a b offset h k (NearCheck r low) others m e = h (cc)
 alone_branch op a b offset h k (TableCheck r high low) others m e = k (cc)
 alone_branch op a b offset h k piece others m e = cc
 

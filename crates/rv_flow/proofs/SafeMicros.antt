@@ -12,7 +12,7 @@ use Rattle.rv_insn.specs.declared.instructions.BranchOp.TheVariants.{Bltu}
 use Rattle.rv_insn.specs.declared.instructions.Insn.{Insn}
 use Rattle.rv_insn.specs.declared.instructions.Insn.TheVariants as insn
 use Rattle.rv_guard.specs.declared.pieces.Piece.TheVariants.{ServiceCall, Single}
-use Rattle.rv_guard.specs.Patterns.{Setting, HasHead, IsStackCheck, IsTableCheck, IsEntry, IsFaultCall}
+use Rattle.rv_guard.specs.Patterns.{Setting, HasHead, below, IsStackCheck, IsNearCheck, IsTableCheck, IsEntry, IsFaultCall}
 use Rattle.rv_guard.specs.Windows.{written_by}
 use Rattle.rv_guard.specs.Rules.{KeepsBounds, IsPlain, target_of}
 use Rattle.rv_guard.specs.Joining.{IsAlone}
@@ -22,9 +22,9 @@ use Rattle.rv_word.specs.declared.micros.Micro.{Micro}
 use Rattle.rv_word.specs.declared.micros.Micro.TheVariants.{Set, Imm, Shift, Alu, Window, Get, Save, Look, Room, Test, Jump, Enter, Put, Take, End, Exhaust, Fault}
 use Rattle.rv_word.specs.Word.{Named, Code, zeros}
 use Rattle.rv_word.specs.Discipline.{is_zero, has_needs, windows_behind, closes, is_disciplined_from, are_disciplined, bounds_of}
-use Rattle.rv_flow.specs.Lowering.{number_of, upper_part, lower_part, minus, kind_number, window_piece, look_piece, entry_piece, fault_piece, copy}
-use Rattle.rv_flow.proofs.Parts.{Part, branch, room_parts, parts_of, micros_parts, blocks_parts, entry_parts}
-use Rattle.rv_flow.proofs.Numbered.{IsNumber, numbered, not_x0, checkable, AreHalves, halves}
+use Rattle.rv_flow.specs.Lowering.{number_of, upper_part, lower_part, minus, kind_number, look_piece, entry_piece, fault_piece, copy}
+use Rattle.rv_flow.proofs.Parts.{Part, branch, room_parts, window_by, parts_of, micros_parts, blocks_parts, entry_parts}
+use Rattle.rv_flow.proofs.Numbered.{IsNumber, numbered, not_x0, checkable, below_minus, AreHalves, halves}
 use Rattle.rv_flow.proofs.Safe.{alone_reg, alone_shift, alone_load, alone_store, alone_lui, alone_addi, alone_imm, IsStill, IsFree, AreSafe}
 
 -- what an image of the code has to give
@@ -69,8 +69,13 @@ free r = let h : IsNumber (number_of r) = numbered r in record { keeps_2 = h.kee
 
 -- ---- patterns
 
-window_still : (setting : Setting) (r : Register) (k : ℕ) → not (is_zero r) ≡ true → 1 ≤ k → k ≤ 4096 → IsStill setting (window_piece r k)
-window_still setting r k named least most =
+window_still : (setting : Setting) (b : Bool) (r : Register) (k : ℕ) → nat_le k 255 ≡ b → not (is_zero r) ≡ true → 1 ≤ k → k ≤ 4096 → IsStill setting (window_by b r k)
+window_still setting true r k near named least most =
+    let few : k ≤ 255 = leb-true k 255 near in
+    let v : below (minus (8 * k)) ≡ 8 * k = below_minus (8 * k) in
+    let check : IsNearCheck (number_of r) (minus (8 * k)) = record { register = checkable r named; least = omega arith; most = omega arith } in
+    record { good = record { apart = check; bounds = record { not_x2 = refl; not_x3 = refl; not_x4 = refl }; plain = tt }; still = λ j. refl }
+window_still setting false r k near named least most =
     let h : AreHalves (8 * k) = halves (8 * k) (omega arith) in
     let check : IsStackCheck (number_of r) (8 * k) = record { register = checkable r named; least = omega arith; most = omega arith } in
     record {
@@ -158,7 +163,7 @@ micro_safe code setting u (Alu op r s t) windows rest h k =
 micro_safe code setting u (Window r n) windows rest h k =
     let a = and_parts (not (is_zero r)) (nat_le 1 n && nat_le n 4096) h in
     let b = and_parts (nat_le 1 n) (nat_le n 4096) a.1 in
-    (window_still setting r n a.0 (leb-true 1 n b.0) (leb-true n 4096 b.1), k)
+    (window_still setting (nat_le n 255) r n refl a.0 (leb-true 1 n b.0) (leb-true n 4096 b.1), k)
 micro_safe code setting u (Get r s n) windows rest h k =
     (writes_still setting (insn.Load Ld (number_of r) (number_of s) (pos (8 * n))) r (alone_load Ld (number_of r) (number_of s) (pos (8 * n))) refl tt (λ j. refl), k)
 micro_safe code setting u (Save s n r) windows rest h k =

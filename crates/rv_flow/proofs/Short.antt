@@ -13,14 +13,15 @@ use Rattle.rv_asm.specs.declared.items.Assembled.{Assembled}
 use Rattle.rv_asm.specs.Items.{named_by}
 use Rattle.rv_asm.specs.Forms.{IsFormOf, IsFarBranch, IsNearJump, IsFar, has_bits, constant_words}
 use Rattle.rv_asm.specs.Assembly.{joined, address_of, target_in, IsAssembly}
+use Rattle.rv_word.specs.declared.micros.Register.{Register}
 use Rattle.rv_word.specs.declared.micros.Register.TheVariants as register
 use Rattle.rv_word.specs.declared.micros.Micro.{Micro}
-use Rattle.rv_word.specs.declared.micros.Micro.TheVariants.{Set, Room}
+use Rattle.rv_word.specs.declared.micros.Micro.TheVariants.{Set, Window, Room}
 use Rattle.rv_word.specs.Word.{Code}
 use Rattle.rv_word.specs.Costs.{set_cost, micro_words, block_words}
 use Rattle.rv_flow.specs.Lowering.{number_of, items_of}
 use Rattle.rv_flow.specs.Laws.{blocks_words}
-use Rattle.rv_flow.proofs.Parts.{Part, branch, items_in, room_parts, parts_of, micros_parts, blocks_parts, entry_parts, parts_in, items_append, code_is}
+use Rattle.rv_flow.proofs.Parts.{Part, stays, branch, items_in, room_parts, window_by, parts_of, micros_parts, blocks_parts, entry_parts, parts_in, items_append, code_is}
 use Rattle.rv_flow.proofs.Chosen.{AreForms, forms_from}
 use Rattle.rv_flow.proofs.Guarded.{each_form, read_size}
 
@@ -114,8 +115,13 @@ room_short : (b : Bool) (n label : ℕ) → items_words (items_in (room_parts b 
 room_short true n label = omega arith
 room_short false n label = omega arith
 
+window_short : (b : Bool) (r : Register) (k : ℕ) → items_words (items_in (stays (window_by b r k) ∷ [])) ≤ 8
+window_short true r k = omega arith
+window_short false r k = omega arith
+
 micro_short : (entries table_words : ℕ) (m : Micro) → items_words (items_in (parts_of entries table_words m)) ≤ micro_words m
 micro_short entries table_words (Set r v) = let e : constant_words (cast_signed w64 v) ≤ set_cost v = constant_short v in omega (arith, e)
+micro_short entries table_words (Window r k) = window_short (nat_le k 255) r k
 micro_short entries table_words (Room n label) = room_short (nat_le n 255) n label
 micro_short entries table_words m = omega arith
 

@@ -6,12 +6,13 @@ use Rattle.std.proofs.lemmas.Int.{to_z_pos}
 use Rattle.rv_insn.specs.declared.instructions.RegOp.TheVariants.{Sub}
 use Rattle.rv_insn.specs.declared.instructions.ImmOp.TheVariants.{Addi}
 use Rattle.rv_asm.specs.Forms.{has_bits, constant_words}
+use Rattle.rv_word.specs.declared.micros.Register.{Register}
 use Rattle.rv_word.specs.declared.micros.Micro.{Micro}
-use Rattle.rv_word.specs.declared.micros.Micro.TheVariants.{Set, Room}
+use Rattle.rv_word.specs.declared.micros.Micro.TheVariants.{Set, Window, Room}
 use Rattle.rv_word.specs.Costs.{set_cost, cost}
 use Rattle.rv_flow.specs.Lowering.{minus}
 use Rattle.rv_flow.proofs.Shown.{X31, R, X3}
-use Rattle.rv_flow.proofs.Lines.{Num, Op, number_lines, lines_of, last_of, lines_least, lines_most}
+use Rattle.rv_flow.proofs.Lines.{Num, Op, number_lines, window_lines, lines_of, last_of, lines_least, lines_most}
 
 words_most : (z : ℤ) → constant_words z ≤ 8
 words_most z = two_tests (has_bits 12 z) (has_bits 32 z)
@@ -38,11 +39,21 @@ room_least : (k label : ℕ) (t : Bool) → 1 ≤ lines_least (if t then Num Add
 room_least k label true = lit≤ tt
 room_least k label false = lit≤ tt
 
+window_most : (r : Register) (k : ℕ) (t : Bool) → lines_most (window_lines t r k) (last_of (Window r k)) ≤ 8
+window_most r k true = lit≤ tt
+window_most r k false = lit≤ tt
+
+window_least : (r : Register) (k : ℕ) (t : Bool) → 1 ≤ lines_least (window_lines t r k) (last_of (Window r k))
+window_least r k true = lit≤ tt
+window_least r k false = lit≤ tt
+
 pub within_cost : (entries table_words : ℕ) (m : Micro) → lines_most (lines_of entries table_words m) (last_of m) ≤ cost m
 within_cost entries table_words (Set r v) = set_fits v
 within_cost entries table_words (Room k label) = room_most k label (nat_le k 255)
+within_cost entries table_words (Window r k) = window_most r k (nat_le k 255)
 within_cost entries table_words m = lit≤ tt
 
 pub at_least_one : (entries table_words : ℕ) (m : Micro) → 1 ≤ lines_least (lines_of entries table_words m) (last_of m)
 at_least_one entries table_words (Room k label) = room_least k label (nat_le k 255)
+at_least_one entries table_words (Window r k) = window_least r k (nat_le k 255)
 at_least_one entries table_words m = lit≤ tt

@@ -11,7 +11,7 @@ use Rattle.rv_insn.specs.declared.instructions.BranchOp.TheVariants.{Bltu}
 use Rattle.rv_insn.specs.declared.instructions.Insn.{Insn}
 use Rattle.rv_insn.specs.declared.instructions.Insn.TheVariants as insn
 use Rattle.rv_guard.specs.declared.pieces.Piece.{Piece}
-use Rattle.rv_guard.specs.declared.pieces.Piece.TheVariants.{StackCheck, TableCheck, Entry, ServiceCall, FaultCall}
+use Rattle.rv_guard.specs.declared.pieces.Piece.TheVariants.{StackCheck, NearCheck, TableCheck, Entry, ServiceCall, FaultCall}
 use Rattle.rv_guard.specs.Patterns.{instructions_of}
 use Rattle.rv_asm.specs.declared.items.Item.{Item}
 use Rattle.rv_asm.specs.declared.items.Item.TheVariants.{Mark, Plain, BranchTo, JumpTo, FarTo, Constant}
@@ -59,10 +59,12 @@ room_insns k =
     if nat_le k 255 then insn.Imm Addi 31 3 (minus (8 * k)) ∷ []
     else insn.Lui 31 (upper_part (8 * k)) ∷ insn.Imm Addi 31 31 (lower_part (8 * k)) ∷ insn.Reg Sub 31 3 31 ∷ []
 
--- the pieces that check, enter, serve and fault; the last word of the table is the highest that a check of the table lets through
+-- the pieces that check, enter, serve and fault. A window of at most 255 words is checked near
 abbrev pub window_piece : Register → ℕ → Piece
-window_piece r k = StackCheck (number_of r) (upper_part (8 * k)) (lower_part (8 * k))
+window_piece r k =
+    if nat_le k 255 then NearCheck (number_of r) (minus (8 * k)) else StackCheck (number_of r) (upper_part (8 * k)) (lower_part (8 * k))
 
+-- the last word of the table is the highest that a check of the table lets through
 abbrev pub look_piece : ℕ → Register → Piece
 look_piece table_words s = TableCheck (number_of s) (upper_part (536870904 + 8 * table_words)) (lower_part (536870904 + 8 * table_words))
 

@@ -202,18 +202,29 @@ fn lower_window(items: &mut Vec<Item>, r: Register, k: u16) -> Result<(), OutOfM
     ensures err { OnErr result (items.new.items ≡ items.old.items) }
 {
     let register = number(r);
-    let size = 8 * k as u64;
-    items.extend_from_slice(&[
-        stay(BranchOp::Bltu, register, 2),
-        stay(BranchOp::Bltu, 3, register),
-        upper(31, size),
-        lower_added(31, size),
-        added(31, register),
-        stay(BranchOp::Bltu, 3, 31),
-        masked(register, 7),
-        stay(BranchOp::Bne, 31, 0),
-    ])?;
-    Ok(())
+    if k <= 255 {
+        items.extend_from_slice(&[
+            stay(BranchOp::Bltu, register, 2),
+            sum(31, 3, bytes_down(k)),
+            stay(BranchOp::Bltu, 31, register),
+            masked(register, 7),
+            stay(BranchOp::Bne, 31, 0),
+        ])?;
+        Ok(())
+    } else {
+        let size = 8 * k as u64;
+        items.extend_from_slice(&[
+            stay(BranchOp::Bltu, register, 2),
+            stay(BranchOp::Bltu, 3, register),
+            upper(31, size),
+            lower_added(31, size),
+            added(31, register),
+            stay(BranchOp::Bltu, 3, 31),
+            masked(register, 7),
+            stay(BranchOp::Bne, 31, 0),
+        ])?;
+        Ok(())
+    }
 }
 
 // A check that a register is the address of a word of the table, and the load of that word.

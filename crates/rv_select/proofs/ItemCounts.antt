@@ -14,9 +14,11 @@ use Rattle.rv_asm.specs.declared.items.Item.{Item}
 use Rattle.rv_asm.specs.declared.items.Item.TheVariants.{Plain, FarTo, BranchTo}
 use Rattle.rv_insn.specs.declared.instructions.BranchOp.TheVariants.{Bltu}
 use Rattle.rv_insn.specs.declared.instructions.Insn.{Insn}
+use Rattle.rv_guard.specs.declared.pieces.Piece.{Piece}
+use Rattle.rv_guard.specs.Patterns.{instructions_of}
 use Rattle.rv_word.specs.declared.micros.Register.TheVariants.{Top}
 use Rattle.rv_word.specs.declared.micros.Micro.{Micro}
-use Rattle.rv_word.specs.declared.micros.Micro.TheVariants.{Set, Room}
+use Rattle.rv_word.specs.declared.micros.Micro.TheVariants.{Set, Window, Room}
 use Rattle.rv_word.specs.Costs.{set_cost, micro_words, block_words}
 use Rattle.rv_word.specs.Word.{Code}
 use Rattle.rv_flow.specs.Lowering.{number_of, plain, lowered, micro_items, block_items, blocks_items, entry_items, items_of}
@@ -39,9 +41,14 @@ room_few : (b : Bool) (xs ys : List Insn) (item : Item) → length xs ≡ 1 → 
 room_few true xs ys item one three = omega (arith, length-append (plain xs) (item ∷ []), length-map xs (λ (i : Insn). Plain i))
 room_few false xs ys item one three = omega (arith, length-append (plain ys) (item ∷ []), length-map ys (λ (i : Insn). Plain i))
 
+window_few : (b : Bool) (p q : Piece) → length (instructions_of p) ≡ 5 → length (instructions_of q) ≡ 8 → length (plain (instructions_of (if b then p else q))) ≤ 8
+window_few true p q near far = omega (arith, length-map (instructions_of p) (λ (i : Insn). Plain i))
+window_few false p q near far = omega (arith, length-map (instructions_of q) (λ (i : Insn). Plain i))
+
 lowered_few : (entries table_words : ℕ) (m : Micro) → length (lowered entries table_words m) ≤ micro_words m
 lowered_few entries table_words (Set r v) = let some = set_some v in omega arith
 lowered_few entries table_words (Room k label) = room_few (nat_le k 255) _ _ (BranchTo Bltu 31 (number_of Top) label) refl refl
+lowered_few entries table_words (Window r k) = window_few (nat_le k 255) _ _ refl refl
 lowered_few entries table_words m = omega arith
 
 micros_few : (entries table_words : ℕ) (ms : List Micro) → length (micro_items entries table_words ms) ≤ block_words ms

@@ -7,3 +7,4 @@ mod patterns;
 mod pe;
 mod routines;
 mod shapes;
+mod windows;

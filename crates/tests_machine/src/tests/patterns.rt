@@ -11,14 +11,16 @@ use std::alloc::Global;
 use std::process::Abort;
 use std::test::Fail;
 
-// A circle of 29 words with each known pattern of words once.
-const CIRCLE: [u32; 29] = [
+// A circle of 36 words with each known pattern of words once.
+const CIRCLE: [u32; 36] = [
     // addi x5, x2, 16
     0x0101_0293,
     // addi x6, x4, 0
     0x0002_0313,
     // addi x8, x0, 0
     0x0000_0413,
+    // addi x9, x2, 16
+    0x0101_0493,
     // jal x0, 4
     0x0040_006f,
     // far jump to the next word
@@ -35,6 +37,14 @@ const CIRCLE: [u32; 29] = [
     0x000f_9063,
     // sd x5, 0(x5)
     0x0052_b023,
+    // 8 bytes from x9 on lie in the stack, by a near check
+    0x0024_e063,
+    0xff81_8f93,
+    0x009f_e063,
+    0x0074_ff93,
+    0x000f_9063,
+    // sd x9, 0(x9)
+    0x0094_b023,
     // x6 is the address of a table word
     0x0043_6063,
     0x2000_0fb7,
@@ -56,24 +66,28 @@ const CIRCLE: [u32; 29] = [
 
 // Other first words of the circle, and the word from which it then goes no further: a branch of a
 // check that is taken to itself.
-const STAYS: &[(u32, u32, u32, u64)] = &[
+const STAYS: &[([u32; 4], u64)] = &[
     // addi x5, x0, 16; addi x5, x3, 8; addi x5, x3, -4; addi x5, x2, 20
-    (0x0100_0293, 0x0002_0313, 0x0000_0413, 6),
-    (0x0081_8293, 0x0002_0313, 0x0000_0413, 7),
-    (0xffc1_8293, 0x0002_0313, 0x0000_0413, 11),
-    (0x0141_0293, 0x0002_0313, 0x0000_0413, 13),
+    ([0x0100_0293, 0x0002_0313, 0x0000_0413, 0x0101_0493], 7),
+    ([0x0081_8293, 0x0002_0313, 0x0000_0413, 0x0101_0493], 8),
+    ([0xffc1_8293, 0x0002_0313, 0x0000_0413, 0x0101_0493], 12),
+    ([0x0141_0293, 0x0002_0313, 0x0000_0413, 0x0101_0493], 14),
+    // addi x9, x0, 16; addi x9, x3, -4; addi x9, x2, 20
+    ([0x0101_0293, 0x0002_0313, 0x0000_0413, 0x0100_0493], 16),
+    ([0x0101_0293, 0x0002_0313, 0x0000_0413, 0xffc1_8493], 18),
+    ([0x0101_0293, 0x0002_0313, 0x0000_0413, 0x0141_0493], 20),
     // addi x6, x0, 0; addi x6, x4, 16; addi x6, x4, 4
-    (0x0101_0293, 0x0000_0313, 0x0000_0413, 15),
-    (0x0101_0293, 0x0102_0313, 0x0000_0413, 18),
-    (0x0101_0293, 0x0042_0313, 0x0000_0413, 20),
+    ([0x0101_0293, 0x0000_0313, 0x0000_0413, 0x0101_0493], 22),
+    ([0x0101_0293, 0x0102_0313, 0x0000_0413, 0x0101_0493], 25),
+    ([0x0101_0293, 0x0042_0313, 0x0000_0413, 0x0101_0493], 27),
     // addi x8, x0, 8
-    (0x0101_0293, 0x0002_0313, 0x0080_0413, 25),
+    ([0x0101_0293, 0x0002_0313, 0x0080_0413, 0x0101_0493], 32),
 ];
 
 // A machine with these words, and two words of table.
 fn machine(alloc: Global, words: &[u32]) -> Result<Machine, OutOfMemory>
     requires some { 1 ≤ length words.now }
-    requires few { length words.now ≤ 29 }
+    requires few { length words.now ≤ 36 }
     ensures { IfOk result (λ m. m.core.status ≡ Running) }
 {
     let mut table = DoubleList::new(alloc);
@@ -114,24 +128,24 @@ fn goes_on(rt: &impl Abort, alloc: Global, m: &mut Machine, count: u64) -> Resul
 // taken, and cut by the end of the code.
 #[test]
 fn patterns_end_where_they_are_cut(rt: HostRuntime) -> Result<(), Fail> {
-    for count in 0..65 {
-        for first in 0..29 {
+    for count in 0..80 {
+        for first in 0..36 {
             let mut m = machine(rt.alloc(), &CIRCLE)?;
             goes_on(&rt, rt.alloc(), &mut m, first)?;
             assert!(rt; m.pc() == 65536 + 4 * first);
             goes_on(&rt, rt.alloc(), &mut m, count)?;
-            assert!(rt; m.pc() == 65536 + 4 * ((first + count) % 29));
+            assert!(rt; m.pc() == 65536 + 4 * ((first + count) % 36));
         }
-        for (x5, x6, x8, last) in STAYS {
+        for (firsts, last) in STAYS {
             let mut words = CIRCLE;
-            words[0] = *x5;
-            words[1] = *x6;
-            words[2] = *x8;
+            for k in 0..4 {
+                words[k] = firsts[k];
+            }
             let mut m = machine(rt.alloc(), &words)?;
             goes_on(&rt, rt.alloc(), &mut m, count)?;
             assert!(rt; m.pc() == 65536 + 4 * count.min(*last));
         }
-        for size in 1..29 {
+        for size in 1..36 {
             let mut m = machine(rt.alloc(), &CIRCLE[..size])?;
             let run = run(rt.alloc(), &mut m, count)?;
             let size = size as u64;
@@ -151,10 +165,10 @@ fn patterns_end_where_they_are_cut(rt: HostRuntime) -> Result<(), Fail> {
 // After each number of instructions a run is where as many single steps are.
 fn runs_as_steps(rt: &impl Abort, alloc: Global, words: &[u32]) -> Result<(), Fail>
     requires some { 1 ≤ length words.now }
-    requires few { length words.now ≤ 29 }
+    requires few { length words.now ≤ 36 }
 {
     let mut stepped = machine(alloc, words)?;
-    for count in 0..65 {
+    for count in 0..80 {
         let mut m = machine(alloc, words)?;
         goes_on(rt, alloc, &mut m, count)?;
         assert!(rt; m.pc() == stepped.pc());
@@ -163,7 +177,7 @@ fn runs_as_steps(rt: &impl Abort, alloc: Global, words: &[u32]) -> Result<(), Fa
             Event::Going => {}
             Event::Trap(kind) => {
                 let mut m = machine(alloc, words)?;
-                let run = run(alloc, &mut m, 65)?;
+                let run = run(alloc, &mut m, 80)?;
                 assert!(rt; run.end == Ending::Trap(kind));
                 assert!(rt; run.steps == count + 1);
                 return Ok(());
@@ -177,9 +191,9 @@ fn runs_as_steps(rt: &impl Abort, alloc: Global, words: &[u32]) -> Result<(), Fa
 // Jumps into each word of each pattern.
 #[test]
 fn patterns_are_entered_at_each_word(rt: HostRuntime) -> Result<(), Fail> {
-    for words_on in 1..26 {
+    for words_on in 1..32 {
         let mut words = CIRCLE;
-        words[3] = 0x6f + 0x0040_0000 * words_on;
+        words[4] = 0x6f + 0x0040_0000 * words_on;
         runs_as_steps(&rt, rt.alloc(), &words)?;
     }
     Ok(())
