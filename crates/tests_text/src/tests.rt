@@ -2,4 +2,5 @@ mod expand;
 mod grammar;
 mod lexer;
 mod made;
+mod show;
 mod syntax;

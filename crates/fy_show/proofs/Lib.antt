@@ -1,0 +1,9 @@
+pub mod FreshLemmas
+pub mod NameLemmas
+pub mod CaptureLemmas
+pub mod BoundLemmas
+pub mod ScopeLemmas
+pub mod SequenceLemmas
+pub mod RecordLemmas
+pub mod PartLemmas
+pub mod PutLemmas
