@@ -115,7 +115,7 @@ room_short : (b : Bool) (n label : ℕ) → items_words (items_in (room_parts b 
 room_short true n label = omega arith
 room_short false n label = omega arith
 
-window_short : (b : Bool) (r : Register) (k : ℕ) → items_words (items_in (stays (window_by b r k) ∷ [])) ≤ 8
+window_short : (b : Bool) (r : Register) (k : ℕ) → items_words (items_in (stays (window_by b r k) ∷ [])) ≤ (if b then 5 else 8)
 window_short true r k = omega arith
 window_short false r k = omega arith
 

@@ -39,7 +39,7 @@ room_least : (k label : ℕ) (t : Bool) → 1 ≤ lines_least (if t then Num Add
 room_least k label true = lit≤ tt
 room_least k label false = lit≤ tt
 
-window_most : (r : Register) (k : ℕ) (t : Bool) → lines_most (window_lines t r k) (last_of (Window r k)) ≤ 8
+window_most : (r : Register) (k : ℕ) (t : Bool) → lines_most (window_lines t r k) (last_of (Window r k)) ≤ (if t then 5 else 8)
 window_most r k true = lit≤ tt
 window_most r k false = lit≤ tt
 

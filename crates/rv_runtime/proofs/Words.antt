@@ -1,5 +1,5 @@
 -- Words of the stack that are read and written under a window.
-use Rattle.std.proofs.Common.{◌≡◌, ℕ, zero, suc, ◌+◌, ◌-◌, ◌*◌, ◌%◌, ◌<◌, ◌≤◌, Bool, true, ◌&&◌, nat_le, nat_eq, if◌then◌else◌, List, ◌∷◌, length, slice_index, slice_set, refl, ap, ◌∙◌, inl, inr, arith, le-leb, eq-eqb, length-set, get_or-set_same, get_or-set_other}
+use Rattle.std.proofs.Common.{◌≡◌, ℕ, zero, suc, ◌+◌, ◌-◌, ◌*◌, ◌%◌, ◌<◌, ◌≤◌, Bool, true, false, ◌&&◌, nat_le, nat_eq, if◌then◌else◌, List, ◌∷◌, length, slice_index, slice_set, refl, ap, ◌∙◌, inl, inr, arith, le-leb, eq-eqb, length-set, get_or-set_same, get_or-set_other}
 use Rattle.std.proofs.lemmas.Bool.{cases_lt}
 use Rattle.rv_insn.specs.Program.{stack_start}
 use Rattle.rv_word.specs.declared.micros.Register.{Register}
@@ -20,8 +20,14 @@ has_window-is e address k j here room =
     let even : nat_eq (address % 8) 0 ≡ true = eq-eqb (address % 8) 0 (omega arith) in
     ap (λ (b : Bool). b && (nat_le (address + 8 * k) (limit e) && nat_eq (address % 8) 0)) low ∙ ap (λ (b : Bool). b && nat_eq (address % 8) 0) high ∙ even
 
+window_most : (t : Bool) → (if t then 5 else 8) ≤ 8
+window_most true = omega arith
+window_most false = omega arith
+
 pub windows : (code : Code) (r : Register) (k j : ℕ) (rest : List Micro) (e : Data) → get e.named r ≡ word_address j → j + k ≤ length e.words → Comes code (at (Window r k ∷ rest) e) (at rest e) 1 8
-windows code r k j rest e here room = one code (at (Window r k ∷ rest) e) (at rest e) (ap (λ (b : Bool). if b then onward rest e else hangs e) (has_window-is e (get e.named r) k j here room))
+windows code r k j rest e here room =
+    wider 1 8 (omega arith) (window_most (nat_le k 255))
+    (one code (at (Window r k ∷ rest) e) (at rest e) (ap (λ (b : Bool). if b then onward rest e else hangs e) (has_window-is e (get e.named r) k j here room)))
 
 -- the data behind a read and behind a write
 abbrev pub read : Register → ℕ → Data → Data

@@ -23,7 +23,7 @@ use Rattle.rv_flow.specs.Laws.{blocks_words}
 use Rattle.rv_operators.specs.Operators.{word_of}
 use Rattle.rv_select.specs.Numbers.{entry_count, label_of, entry_number, entry_word, column_word, column_of, row_address}
 use Rattle.rv_select.specs.Blocks.{behind, reach, open_context, at_top, push, push_frame, bind, put_entry, index_block, main_block, left_block, new_block, unary_fault_blocks, binary_fault_blocks, blocks_of}
-use Rattle.rv_select.proofs.Wp.{set_most}
+use Rattle.rv_select.proofs.Wp.{set_most, window_most}
 
 -- ---- operations
 
@@ -62,6 +62,7 @@ reach_words (suc k) =
     else behind First Frame 255 ∷ behind First First 255 ∷ Get First First (display_start + k - 510) ∷ []) ≤ 3 =
     choice_words (nat_lt (display_start + k) 510) _ _ 3 (omega arith) (omega arith) in
     let outer = choice_words (nat_lt (display_start + k) 256) (Get First Frame (display_start + k) ∷ []) _ 3 (omega arith) inner in
+    let window = window_most (display_start + suc k) in
     omega arith
 
 reach_then : (k : ℕ) (rest : List Micro) → block_words (reach k ++ rest) ≤ 11 + block_words rest

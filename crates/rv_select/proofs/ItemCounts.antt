@@ -41,7 +41,7 @@ room_few : (b : Bool) (xs ys : List Insn) (item : Item) → length xs ≡ 1 → 
 room_few true xs ys item one three = omega (arith, length-append (plain xs) (item ∷ []), length-map xs (λ (i : Insn). Plain i))
 room_few false xs ys item one three = omega (arith, length-append (plain ys) (item ∷ []), length-map ys (λ (i : Insn). Plain i))
 
-window_few : (b : Bool) (p q : Piece) → length (instructions_of p) ≡ 5 → length (instructions_of q) ≡ 8 → length (plain (instructions_of (if b then p else q))) ≤ 8
+window_few : (b : Bool) (p q : Piece) → length (instructions_of p) ≡ 5 → length (instructions_of q) ≡ 8 → length (plain (instructions_of (if b then p else q))) ≤ (if b then 5 else 8)
 window_few true p q near far = omega (arith, length-map (instructions_of p) (λ (i : Insn). Plain i))
 window_few false p q near far = omega (arith, length-map (instructions_of q) (λ (i : Insn). Plain i))
 

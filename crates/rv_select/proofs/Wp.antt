@@ -12,7 +12,7 @@ use Rattle.rv_word.specs.declared.micros.Micro.{Micro}
 use Rattle.rv_word.specs.declared.micros.Micro.TheVariants.{Set, Imm, Shift, Alu, Window, Get, Save, Look, Room, Test, Jump, Enter, Put, Take, End, Exhaust, Fault}
 use Rattle.rv_word.specs.Word.{Named, get, Data, Code, State, Led, goes, hangs, stops, word_address, table_address, word_number, table_number, has_window, is_in_table, limit, block, onward, written, taken_in, faulted, does}
 use Rattle.rv_word.specs.Word as word
-use Rattle.rv_word.specs.Costs.{set_cost, cost, next_cost}
+use Rattle.rv_word.specs.Costs.{set_cost, window_cost, cost, next_cost}
 use Rattle.rv_select.proofs.Runs.{Reach, Later, more, last, later}
 
 -- n has the word v at j, and is else as m
@@ -56,12 +56,15 @@ cond_most false x y n p q = q
 pub set_most : (v : ℕ) → set_cost v ≤ 8
 set_most v = cond_most (nat_lt v (2 ^ 11)) 1 (cond (nat_lt v (2 ^ 31)) 2 8) 8 (omega arith) (cond_most (nat_lt v (2 ^ 31)) 2 8 8 (omega arith) (omega arith))
 
+pub window_most : (k : ℕ) → window_cost k ≤ 8
+window_most k = cond_most (nat_le k 255) 5 8 8 (omega arith) (omega arith)
+
 pub cost_most : (m : Micro) → cost m ≤ 9
 cost_most (Set r v) = let z = set_most v in omega arith
 cost_most (Imm op r s imm) = omega arith
 cost_most (Shift op r s amount) = omega arith
 cost_most (Alu op r s t) = omega arith
-cost_most (Window r k) = omega arith
+cost_most (Window r k) = let z = window_most k in omega arith
 cost_most (Get r s k) = omega arith
 cost_most (Save s k r) = omega arith
 cost_most (Look r s) = omega arith
@@ -137,7 +140,7 @@ module _ (code : Code) (Q : Led → Type 0) where
       on (Shift op r s amount) rest e (with_value r h.0 e) (ap (λ v. onward rest (with_value r v e)) h.1) (omega arith) (sound rest (with_value r h.0 e) h.2)
   sound (Alu op r s t ∷ rest) e h =
       on (Alu op r s t) rest e (with_value r h.0 e) (ap (λ v. onward rest (with_value r v e)) h.1) (omega arith) (sound rest (with_value r h.0 e) h.2)
-  sound (Window r k ∷ rest) e h = on (Window r k) rest e e (window_goes e (get e.named r) h.0 k rest e (hangs e) h.1 h.2) (omega arith) (sound rest e h.3)
+  sound (Window r k ∷ rest) e h = on (Window r k) rest e e (window_goes e (get e.named r) h.0 k rest e (hangs e) h.1 h.2) (cost_most (Window r k)) (sound rest e h.3)
   sound (Get r s k ∷ rest) e h =
       let i = number_is (get e.named s) h.0 h.2 in
       on (Get r s k) rest e (with_value r h.1 e)

@@ -8,12 +8,16 @@ use Rattle.rv_word.specs.Word.{Code, State, Led, goes, hangs, stops, wrong, word
 abbrev pub set_cost : ℕ → ℕ
 set_cost v = if nat_lt v (2 ^ 11) then 1 else (if nat_lt v (2 ^ 31) then 2 else 8)
 
+-- a window of at most 255 words takes five, any other eight
+abbrev pub window_cost : ℕ → ℕ
+window_cost k = if nat_le k 255 then 5 else 8
+
 abbrev pub cost : Micro → ℕ
 cost (Set r v) = set_cost v
 cost (Imm op r s imm) = 1
 cost (Shift op r s amount) = 1
 cost (Alu op r s t) = 1
-cost (Window r k) = 8
+cost (Window r k) = window_cost k
 cost (Get r s k) = 1
 cost (Save s k r) = 1
 cost (Look r s) = 7
