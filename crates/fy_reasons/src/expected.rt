@@ -86,6 +86,7 @@ pub fn asked(
         }
         Phrase::Seq(..) => first_or_command(alloc, table, Atom::Comm, index),
         Phrase::New(_, ty, _, _, _) => first_or_command(alloc, table, data_atom(*ty), index),
+        Phrase::Cells(..) => first_or_command(alloc, table, Atom::Int, index),
         Phrase::Assign(..) => match index {
             0 => one_of_three(alloc, table, Atom::IntAcc, Atom::BoolAcc, Atom::CharAcc),
             1 => accepted(alloc, table, done),
@@ -108,7 +109,6 @@ pub fn asked(
         | Phrase::Merge(..)
         | Phrase::LetIn(..)
         | Phrase::Skip(_)
-        | Phrase::Cells(..)
         | Phrase::Mark(..) => Ok(Asking::Anything),
     }
 }
