@@ -53,8 +53,8 @@ use fy_short::{
 };
 use fy_types::{Name, Ty, TyList};
 
-/// The text of the phrase: that of its form, with its parts in the view's manner. What is written is a phrase of the grammar;
-/// parts stand in parentheses where their levels ask for that, and variables have the names of the scope.
+/// The text of the phrase: that of its form, with its parts in the view's manner. Parts stand in parentheses where their levels
+/// ask for that, and variables have the names of the scope.
 pub fn print_shown(view: &View<'_, '_>, p: &Phrase) -> Result<Text, OutOfMemory>
     ensures { IfOk result (λ text. text ≡ text_in view.now (reads p.now)) }
 {
