@@ -1,0 +1,12 @@
+pub mod AdviceLemmas
+pub mod AtLemmas
+pub mod CountLemmas
+pub mod InLemmas
+pub mod LineLemmas
+pub mod NodeLemmas
+pub mod PremiseLemmas
+pub mod RoomLemmas
+pub mod StepLemmas
+pub mod TreeLemmas
+pub mod WhereLemmas
+pub mod WithinLemmas

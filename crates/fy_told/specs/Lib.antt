@@ -1,0 +1,2 @@
+pub mod ReasonTexts
+pub mod Reading
