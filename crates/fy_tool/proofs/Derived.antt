@@ -38,8 +38,12 @@ use Rattle.fy_tool.proofs.ImageCommands.{given_found}
 use Rattle.fy_tool.proofs.ReadUnits.{the_one}
 
 -- what a derivation that spells from a text's names shows of the text
-spells : (text written : Bytes) (core : Core) (after : List Bytes) (d : PlainDerivation) → length written ≤ 16777216 → IsCore text core → NumbersFields core.names after d written → KeepsLimits d → KeepsThroughout written → Spells text written d
+pub spells : (text written : Bytes) (core : Core) (after : List Bytes) (d : PlainDerivation) → length written ≤ 16777216 → IsCore text core → NumbersFields core.names after d written → KeepsLimits d → KeepsThroughout written → Spells text written d
 spells text written core after d short is numbers limits keeps = record { short = short; names = core.names; named = is.named; after = after; numbers = numbers; limits = limits; keeps = keeps }
+
+pub spells-after : (text written : Bytes) (core : Core) (after : List Bytes) (d : PlainDerivation) (short : length written ≤ 16777216) (is : IsCore text core) (n : NumbersFields core.names after d written) (l : KeepsLimits d) (k : KeepsThroughout written) → (spells text written core after d short is n l k).after ≡ after
+unfolding spells
+spells-after text written core after d short is n l k = refl
 
 -- the derivation is in use
 pub given_in_use : (core : Core) (written : Bytes) (after : List Bytes) (program : Program) → length written ≤ 16777216 → ReadFrom core.names after written (Ok program.derivation) → reads program.phrase ≡ reads core.phrase
@@ -171,7 +175,7 @@ derivation_unfetched file name text files core k k1 k2 e e1 e2 stop told is same
 }
 
 -- behind both nothing is fetched
-pub all_fetched : (file name text : Bytes) (files : Option Folder) (k k1 : Counts) (e e1 : FileCalls) (result : Result (Result Program TurnedDown) Stop) → Tells files file (Some text)
+pub all_fetched : {T : Type 0} (file name text : Bytes) (files : Option Folder) (k k1 : Counts) (e e1 : FileCalls) (result : Result T Stop) → Tells files file (Some text)
     → HasFetched (Some file) (Some name) (Some text) [] e e1 → IfErr result (λ stop. stop ≡ Memory) → IfErr result (WasUngiven file (Some name) files k k1 e e1)
 all_fetched file name text files k k1 e e1 (Ok found) told fetched memory = tt
 all_fetched file name text files k k1 e e1 (Err stop) told fetched memory =

@@ -13,3 +13,4 @@ pub mod Lists
 pub mod ReadUnits
 pub mod Linking
 pub mod UnitCommands
+pub mod Judging

@@ -1,5 +1,5 @@
 -- From the parts of a command's work to what is due for the words.
-use Rattle.std.proofs.Common.{◌≡◌, ◌≢◌, ℕ, ◌+◌, ◌<◌, List, [], ◌∷◌, ◌++◌, sym, ◌∙◌, refl, subst, inl, inr, Some, None, arith}
+use Rattle.std.proofs.Common.{◌≡◌, ◌≢◌, ℕ, ◌<◌, List, [], ◌∷◌, ◌++◌, sym, ◌∙◌, refl, subst, inl, inr, Some, None, false, arith}
 use Rattle.std.proofs.lemmas.List.Elements.{All-nil}
 use Rattle.std.specs.Prelude.{IfOk, length}
 use Rattle.std.specs.Option.{ForSome, option_to_list}
@@ -22,7 +22,7 @@ use Rattle.fy_world.proofs.Counting.{called_none, called_same, short_of_memory, 
 use Rattle.fy_world.proofs.Keeping.{some_input}
 use Rattle.fy_world.proofs.Parts.{content_of, part_none}
 use Rattle.fy_tool.specs.Given.{IsTurnedDown, by_text, before_typing, by_derivation, by_shapes}
-use Rattle.fy_tool.specs.Due.{Sources, TellsNamed, TellsSources, IsDue, usage, stopped, turned_down, named_by, text_of, list_of, file_of, AreListed, reads_of, keeps_of, IsReadyFirst, RunsImage}
+use Rattle.fy_tool.specs.Due.{Sources, TellsNamed, TellsSources, IsDue, usage, stopped, turned_down, tells_lines, named_by, text_of, list_of, file_of, AreListed, reads_of, keeps_of, IsReadyFirst, RunsImage}
 use Rattle.fy_tool.specs.Units.{Listed}
 use Rattle.fy_tool.specs.Fetched.{AreFetched, no_file, just_file, HasFetched, HasFetchedDue, LastRose, LastDueRose}
 use Rattle.fy_tool.specs.Answers.{Called, Serves}
@@ -230,11 +230,11 @@ down_own (before_typing name written cause why is told) = (λ clash. cc, λ clas
 down_own (by_derivation name written p why is refused) = (λ clash. cc, λ clash. cc)
 down_own (by_shapes name written p d error why is spells accepted shaping told) = (λ clash. cc, λ clash. cc)
 
-pub serves_down : (order : Order) (sources : Sources) (text : Bytes) (status : ℕ) (why : Note) (b c d : Contents) (k k1 k2 : Counts) (e e1 e2 : FileCalls) (result : Result ℕ Stop) → text_of order sources ≡ Some text
+pub serves_down : (order : Order) (sources : Sources) (text : Bytes) (status : ℕ) (why : Note) (b c d : Contents) (k k1 k2 : Counts) (e e1 e2 : FileCalls) (result : Result ℕ Stop) → text_of order sources ≡ Some text → tells_lines order why ≡ false
     → IsTurnedDown text (named_by order) sources.derivation status why → After order sources b c d k k1 k2 e e1 e2 result → result ≢ Err Memory → Did (told status (why ∷ [])) c d result → e2 ≡ e1
     → Serves (Some order) b d k k2 e e2 result
-serves_down order sources text status why b c d k k1 k2 e e1 e2 result is_text is a ready did same =
-    done_quietly order sources b c d k k1 k2 e e1 e2 result (told status (why ∷ [])) a (λ input. turned_down order text status why is_text is) did (λ _ memory. absurd (ready memory)) (λ _ _. called_none e1 e2 same)
+serves_down order sources text status why b c d k k1 k2 e e1 e2 result is_text silent is a ready did same =
+    done_quietly order sources b c d k k1 k2 e e1 e2 result (told status (why ∷ [])) a (λ input. turned_down order text status why is_text silent is) did (λ _ memory. absurd (ready memory)) (λ _ _. called_none e1 e2 same)
 
 -- ---- texts for which no derivation is named
 

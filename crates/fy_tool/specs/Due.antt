@@ -41,7 +41,7 @@ use Rattle.fy_world.specs.declared.note.Note.{Note}
 use Rattle.fy_world.specs.declared.note.Note.TheVariants as note
 use Rattle.fy_front.specs.declared.refusal.Refusal.{Refusal}
 use Rattle.fy_front.specs.Checked.{IsProgramText, IsInUse, IsAccepted, HasNames}
-use Rattle.fy_tool.specs.Given.{IsGiven, IsTurnedDown}
+use Rattle.fy_tool.specs.Given.{IsGiven, IsStoppedAt, IsTurnedDown}
 use Rattle.fy_tool.specs.Units.{Listed, ListsUnits, names_of, IsUnitOfText, IsNoUnit, IsLinkedBy, IsNotLinked, PassesShapes}
 
 -- ---- what an order reads and keeps
@@ -81,6 +81,7 @@ taking taken = record { takes = taken; derivation = None; keeps = None; runs_ima
 abbrev pub signature_of : Order → Signature
 signature_of (orders.check file) = taking (program_text file)
 signature_of (orders.derive file) = taking (program_text file)
+signature_of (orders.judge file named) = record (taking (program_text file)) { derivation = Some named }
 signature_of (orders.build file image stack named) = record (taking (program_text file)) { derivation = named; keeps = Some image }
 signature_of (orders.exec image steps last) = record (taking (image_bytes image)) { runs_image = true; ready_first = is_none last }
 signature_of (orders.run file steps stack named image) = record (taking (program_text file)) { derivation = named; keeps = Some (kept_as file image); runs_image = true }
@@ -153,6 +154,11 @@ IsReadyFirst order = T (signature_of order).ready_first
 abbrev pub RunsImage : Order → Type 0
 RunsImage order = T (signature_of order).runs_image
 
+-- a note below which lines are due at output
+abbrev pub tells_lines : Order → Note → Bool
+tells_lines (orders.judge file named) (note.DerivationNode node) = true
+tells_lines order why = false
+
 -- ---- images
 
 -- the image of a phrase with so many stack words, by a derivation in use, whose shapes are numbered in order: its table has a row for each shape of the derivation, it is selected from right code, laid out, that hands no constant as a thunk,
@@ -182,7 +188,7 @@ pub record RunsBuilt (text : Bytes) (named derivation : Option Bytes) (stack ste
 
 -- ---- what is due
 
--- what `check` is due to write of a text that is accepted
+-- what `check` is due to write of a text that is accepted, and `judge` of a derivation
 abbrev pub accepted : Due
 accepted = written (codes "accepted" ++ 10 ∷ [])
 
@@ -200,8 +206,8 @@ pub data IsDue (sources : Sources) (input : Bytes) : Option Order → Due → Ty
   usage : IsDue sources input None (told 5 (note.Usage ∷ []))
   -- a call that the outside or want of memory stopped before it did anything
   stopped : (order : Order) → IsDue sources input (Some order) (told 7 [])
-  -- a text that is refused, or the derivation that is named for it
-  turned_down : (order : Order) (text : Bytes) (status : ℕ) (why : Note) → text_of order sources ≡ Some text → IsTurnedDown text (named_by order) sources.derivation status why
+  -- a text that is refused, or the derivation that is named for it, where no lines are due below the note
+  turned_down : (order : Order) (text : Bytes) (status : ℕ) (why : Note) → text_of order sources ≡ Some text → tells_lines order why ≡ false → IsTurnedDown text (named_by order) sources.derivation status why
       → IsDue sources input (Some order) (told status (why ∷ []))
   -- bytes that are no image, where one is taken
   unread : (order : Order) (bytes : Bytes) (error : ImageError) (why : Note) → image_of order sources ≡ Some bytes → refusal_of bytes ≡ Some error → refusal_note error ≡ Some why
@@ -211,6 +217,12 @@ pub data IsDue (sources : Sources) (input : Bytes) : Option Order → Due → Ty
   -- `derive` writes the text of the derivation in use, which shows that the phrase is a command; it can be read back, since it is one of that derivation, which keeps the limits
   derives : (file text : Bytes) (p : Tree) (names : List Bytes) (d : PlainDerivation) → sources.file ≡ Some text → IsProgramText text p → HasNames text names → IsInUse p d → HasAllPairs [] p d
       → IsTextOf names d (derivation_text names d) → IsDue sources input (Some (orders.derive file)) (written (derivation_text names d))
+  -- `judge` of a derivation that is accepted
+  judges : (file name text : Bytes) (p : Tree) (d : PlainDerivation) → sources.file ≡ Some text → IsGiven text p d (Some name) sources.derivation → IsInUse p d
+      → IsDue sources input (Some (orders.judge file name)) accepted
+  -- `judge` of one that isn't tells the node at which judging stops, and writes why
+  misjudges : (file name text derivation : Bytes) (node : ℕ) (lines : Bytes) → sources.file ≡ Some text → sources.derivation ≡ Some derivation → IsStoppedAt text derivation node lines
+      → IsDue sources input (Some (orders.judge file name)) (record (told 8 (note.DerivationNode node ∷ [])) { output = lines })
   -- `build` keeps the image's bytes, in version 2
   builds : (file name : Bytes) (stack : Option ℕ) (named : Option Bytes) (text : Bytes) (image : Image) (bytes : Bytes) → sources.file ≡ Some text
       → IsBuilt text named sources.derivation (stack_wanted stack) image → IsSpelled Two image bytes

@@ -2,12 +2,19 @@
 use Rattle.std.specs.Prelude.{◌≡◌, ℕ, ◌<◌, ◌≤◌, List, [], length, Some, None, Ok, Err}
 use Rattle.std.specs.declared.option.Option.{Option}
 use Rattle.fy_base.specs.Outside.{Bytes}
-use Rattle.fy_phrase.specs.Tree.{Tree}
-use Rattle.fy_expand.specs.Judged.{IsJudged}
+use Rattle.fy_base.specs.declared.data.Place.{Place}
+use Rattle.fy_lexer.specs.declared.token.Token.{Token}
+use Rattle.fy_syntax.specs.Trees as surface
+use Rattle.fy_phrase.specs.Tree.{Tree, place_of}
+use Rattle.fy_expand.specs.Judged.{HasTokens, IsAllowed, IsJudged}
 use Rattle.fy_expand.specs.Judged as judged
 use Rattle.fy_derive.specs.Derivations.{PlainDerivation}
 use Rattle.fy_derive.specs.Judging.{conclusion_of, refusal as refusal_of}
 use Rattle.fy_derive.specs.Limits.{KeepsLimits}
+use Rattle.fy_reasons.specs.Reasons.{reason_of}
+use Rattle.fy_show.specs.Binders.{program_binders}
+use Rattle.fy_show.specs.declared.binders.Binder.{Binder}
+use Rattle.fy_told.specs.ReasonTexts.{source_names, told_of}
 use Rattle.fy_least.specs.Pairs.{HasAllPairs}
 use Rattle.fy_read.specs.FieldNames.{NumbersFields}
 use Rattle.fy_read.specs.Refusals.{IsReadFault, KeepsThroughout}
@@ -54,3 +61,22 @@ pub data IsTurnedDown (text : Bytes) : Option Bytes → Option Bytes → ℕ →
   by_derivation : (name written : Bytes) (p : Tree) (why : Note) → IsJudged text (Ok p) → IsDerivationRefused text p written why → IsTurnedDown text (Some name) (Some written) 8 why
   by_shapes : (name written : Bytes) (p : Tree) (d : PlainDerivation) (error : ShapeError) (why : Refusal) → IsJudged text (Ok p) → Spells text written d
       → refusal_of (conclusion_of p d) ≡ None → IsShaping (Err error) p d → shapes_refusal error ≡ Some why → IsTurnedDown text (Some name) (Some written) 2 (note.Refused why)
+
+-- the names that a text gives its binders, by the tree that its tokens spell, where the phrase stands at that place
+pub record HasBinders (text : Bytes) (at : Place) (binders : List Binder) : Type 0 where
+  pub tokens : List Token
+  pub has : HasTokens text tokens
+  pub tree : surface.Tree
+  pub allowed : IsAllowed tokens tree
+  pub are : binders ≡ program_binders at tree
+
+-- judging of the derivation that is written stops at that node for the phrase of the text, and the lines tell why with the names of the text
+pub record IsStoppedAt (text written : Bytes) (node : ℕ) (lines : Bytes) : Type 0 where
+  pub p : Tree
+  pub is_judged : IsJudged text (Ok p)
+  pub d : PlainDerivation
+  pub spelled : Spells text written d
+  pub stops : refusal_of (conclusion_of p d) ≡ Some node
+  pub binders : List Binder
+  pub named : HasBinders text (place_of p) binders
+  pub lines_are : lines ≡ told_of (source_names spelled.after binders) d p (reason_of d p)

@@ -1,6 +1,6 @@
 -- What the parts of a command's work did with texts, derivations and the images of programs.
 use Rattle.std.specs.Borrow.{Bor}
-use Rattle.std.specs.Prelude.{◌≡◌, ◌⊎◌, ℕ, ◌+◌, ◌<◌, ◌≤◌, List, [], ◌∷◌, ◌++◌, length, map, All, IsUtf8, Some, None, Ok, Err, MatchOption, MatchResult, IfOk}
+use Rattle.std.specs.Prelude.{◌≡◌, ◌⊎◌, ℕ, ◌+◌, ◌<◌, ◌≤◌, false, List, [], ◌∷◌, ◌++◌, length, map, All, IsUtf8, Some, None, Ok, Err, MatchOption, MatchResult, IfOk}
 use Rattle.std.specs.declared.alloc.Global.{Global}
 use Rattle.std.specs.declared.option.Option.{Option}
 use Rattle.std.specs.declared.result.Result.{Result}
@@ -56,14 +56,18 @@ use Rattle.fy_world.specs.declared.note.Note.{Note}
 use Rattle.fy_front.specs.declared.refusal.Refusal.{Refusal}
 use Rattle.fy_world.specs.declared.world.Stop.{Stop}
 use Rattle.fy_world.specs.declared.world.Stop.TheVariants.{Fetch}
-use Rattle.fy_front.specs.Checked.{IsRefusedFor, shapes_refusal, IsCore, IsUnjudged, IsOfText}
-use Rattle.fy_tool.specs.Given.{IsGiven, IsTurnedDown}
-use Rattle.fy_tool.specs.Due.{TellsNamed, AreListed, AreTold}
+use Rattle.fy_front.specs.Checked.{IsRefusedFor, shapes_refusal, IsCore, IsInUse, IsUnjudged, IsOfText}
+use Rattle.fy_words.specs.Order.{judge}
+use Rattle.fy_tool.specs.Given.{IsGiven, IsStoppedAt, IsTurnedDown, Spells}
+use Rattle.fy_tool.specs.Due.{TellsNamed, AreListed, AreTold, tells_lines}
 use Rattle.fy_tool.specs.Fetched.{HasFetched, LastRose}
 use Rattle.fy_tool.specs.Units.{most_unit, Listed, names_of, ListsUnits, ListsNone, IsUnitOfText, IsNoUnit, AreUnitsRead, IsBadObject, IsLinkedBy, IsNotLinked, link_note}
 use Rattle.fy_front.specs.declared.texts.Core.{Core}
 use Rattle.fy_front.specs.declared.texts.Program.{Program}
 use Rattle.fy_tool.specs.declared.given.TurnedDown.{TurnedDown}
+use Rattle.fy_tool.specs.declared.judge.Judgement.{Judgement}
+use Rattle.fy_tool.specs.declared.judge.Judgement.TheVariants as judgement
+use Rattle.fy_tool.specs.declared.texts.Source.{Source}
 use Rattle.fy_tool.specs.declared.link.Together.{Together}
 use Rattle.fy_tool.specs.declared.objects.Objects.{Objects}
 
@@ -97,9 +101,13 @@ pub record IsBuildable (program : Program) : Type 0 where
 abbrev pub IsDown : Bytes → Option Bytes → Option Bytes → TurnedDown → Type 0
 IsDown text named written down = IsTurnedDown text named written down.status down.note
 
--- the core phrase of the text in a file, or why it has none
-abbrev pub ReadsCore : Bytes → Option Folder → Result (Result Core Refusal) Stop → Type 0
-ReadsCore file files result = IfOk result (λ found. (text : Bytes) × Tells files file (Some text) × MatchResult found (IsCore text) (IsUnjudged text))
+-- the text with its core phrase
+abbrev pub IsSource : Bytes → Source → Type 0
+IsSource text source = (source.text.items ≡ text) × IsCore text source.core
+
+-- the text in a file with its core phrase, or why it has none
+abbrev pub ReadsSource : Bytes → Option Folder → Result (Result Source Refusal) Stop → Type 0
+ReadsSource file files result = IfOk result (λ found. (text : Bytes) × Tells files file (Some text) × MatchResult found (IsSource text) (IsUnjudged text))
 
 -- a text that was checked
 abbrev pub Checks : Bytes → Option Folder → Result (Result Program Refusal) Stop → Type 0
@@ -145,6 +153,48 @@ Tables p d found =
 -- the core phrase of whatever text it is by the derivation that is written, under whatever name
 abbrev pub GivenBy : Core → Bytes → Result Program TurnedDown → Type 0
 GivenBy core written found = (text name : Bytes) → IsCore text core → MatchResult found (IsGivenFor text (Some name) (Some written)) (IsDown text (Some name) (Some written))
+
+-- the derivation that is named for a text is accepted
+pub record IsGivenInUse (text name : Bytes) (derivation : Option Bytes) : Type 0 where
+  pub p : Tree
+  pub d : PlainDerivation
+  pub given : IsGiven text p d (Some name) derivation
+  pub used : IsInUse p d
+
+-- what a file holds is so, if it holds anything
+abbrev pub HasWritten : Option Bytes → (Bytes → Type 0) → Type 0
+HasWritten None P = ⊥
+HasWritten (Some written) P = P written
+
+-- what judging comes to of the derivation that is named for a text, where these bytes are written: it is accepted, or the text or the derivation is turned down, or judging stops at a node, as lines tell
+abbrev pub IsJudgement : Bytes → Bytes → Option Bytes → Judgement → Type 0
+IsJudgement text name derivation judgement.Accepted = IsGivenInUse text name derivation
+IsJudgement text name derivation (judgement.Down down) = IsDown text (Some name) derivation down × (tells_lines (judge name name) down.note ≡ false)
+IsJudgement text name derivation (judgement.Stopped node lines) = HasWritten derivation (λ written. IsStoppedAt text written node lines)
+
+-- the same of a derivation for the phrase, of whatever text it is and however the derivation is written
+abbrev pub JudgesFor : Tree → PlainDerivation → Judgement → Type 0
+JudgesFor p d found = (text name written : Bytes) → IsJudged text (Ok p) → Spells text written d → IsJudgement text name (Some written) found
+
+-- of a derivation for the phrase of a text, whose fields these names number
+abbrev pub JudgesUnder : Bytes → List Bytes → Tree → PlainDerivation → Judgement → Type 0
+JudgesUnder text names p d found = (name written : Bytes) → IsJudged text (Ok p) → (spelled : Spells text written d) → spelled.after ≡ names → IsJudgement text name (Some written) found
+
+-- and of what is written for a text, under whatever name
+abbrev pub JudgesWritten : Bytes → Bytes → Judgement → Type 0
+JudgesWritten text written found = (name : Bytes) → IsJudgement text name (Some written) found
+
+-- the derivation in a file was judged for the text in another
+pub record WasJudged (file name : Bytes) (files : Option Folder) (calls calls' : FileCalls) (found : Judgement) : Type 0 where
+  pub text : Bytes
+  pub told : Tells files file (Some text)
+  pub derivation : Option Bytes
+  pub told_named : Tells files name derivation
+  pub called : HasFetched (Some file) (Some name) (Some text) [] calls calls'
+  pub is : IsJudgement text name derivation found
+
+abbrev pub Judges : Bytes → Bytes → Option Folder → FileCalls → FileCalls → Result Judgement Stop → Type 0
+Judges file name files calls calls' result = IfOk result (WasJudged file name files calls calls')
 
 -- ---- images
 

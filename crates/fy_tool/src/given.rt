@@ -10,7 +10,7 @@ ghost use Rattle.fy_phrase.specs.Sizes.{nodes};
 ghost use Rattle.fy_world.specs.Counted.{Counted, IsReadStop};
 ghost use Rattle.fy_tool.specs.Working.{ChecksGiven, GivenBy, ReadFrom, Tables, WasUngiven};
 
-use crate::texts::{core_in, program_in};
+use crate::texts::{program_in, source_in};
 use fy_derive::{Derivation, DeriveError, check};
 use fy_front::{Core, Program, Refusal, shapes_refusal};
 use fy_phrase::{Phrase, ShapeTable};
@@ -20,8 +20,8 @@ use fy_world::{Note, Stop, World, read_note};
 use pe_shapes::shapes_of;
 use std::alloc::Global;
 
-// The most bytes that the text of a derivation has.
-const WRITTEN_LIMIT: usize = 16_777_216;
+/// The most bytes that the text of a derivation has.
+pub(crate) const WRITTEN_LIMIT: usize = 16_777_216;
 
 /// With which status and note a text is turned down, or the derivation that is named for it.
 #[derive(Clone, Copy, PartialEq, Eq, Debug)]
@@ -30,8 +30,8 @@ pub(crate) struct TurnedDown {
     pub note: Note,
 }
 
-// The derivation that is written, or why there is none. The names get those of its fields that are new.
-fn read_named(
+/// The derivation that is written, or why there is none. The names get those of its fields that are new.
+pub(crate) fn read_named(
     alloc: Global,
     names: &mut Names,
     written: &[u8],
@@ -50,8 +50,12 @@ fn read_named(
     }
 }
 
-// The node of a derivation at which judging stops, if it does.
-fn stop_of(alloc: Global, phrase: &Phrase, derivation: &Derivation) -> Result<Option<u32>, Stop>
+/// The node of a derivation at which judging stops, if it does.
+pub(crate) fn stop_of(
+    alloc: Global,
+    phrase: &Phrase,
+    derivation: &Derivation,
+) -> Result<Option<u32>, Stop>
     requires { KeepsLimits (plain_derivation derivation.now) }
     ensures node { IfOk result (λ node. refusal (conclusion_of (reads phrase.now) (plain_derivation derivation.now)) ≡ node) }
     ensures memory { IfErr result (λ stop. stop ≡ Stop.Memory) }
@@ -135,8 +139,8 @@ fn named_in<W: World>(
     ensures input { IfErr result IsReadStop }
     ensures same { W.names world.new ≡ W.names world.old }
 {
-    let core = match core_in(alloc, file, world) {
-        Ok(Ok(core)) => core,
+    let source = match source_in(alloc, file, world) {
+        Ok(Ok(source)) => source,
         Ok(Err(why)) => {
             return Ok(Err(TurnedDown {
                 status: 2,
@@ -155,7 +159,7 @@ fn named_in<W: World>(
         }
         Err(stop) => return Err(stop),
     };
-    given_by(alloc, core, written.as_slice())
+    given_by(alloc, source.core, written.as_slice())
 }
 
 // The program of the text in a file by a derivation that is found, or why there is none.

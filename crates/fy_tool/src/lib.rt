@@ -9,6 +9,7 @@ mod derive;
 mod elf;
 mod exec;
 mod given;
+mod judge;
 mod laws;
 mod link;
 mod list;

@@ -11,6 +11,7 @@ use crate::copy::copy_file;
 use crate::derive::derive_file;
 use crate::elf::{elf_file, unelf_file};
 use crate::exec::exec_file;
+use crate::judge::judge_file;
 use crate::link::{join_file, link_file};
 use crate::list::list_file;
 use crate::migrate::migrate_file;
@@ -31,6 +32,7 @@ pub(crate) fn serve<W: World>(alloc: Global, command: Command, world: &mut W) ->
     match command {
         Command::Check { file } => check_file(alloc, file, world),
         Command::Derive { file } => derive_file(alloc, file, world),
+        Command::Judge { file, derivation } => judge_file(alloc, file, derivation, world),
         Command::Build {
             file,
             image,

@@ -5,7 +5,7 @@ ghost use Rattle.fy_base.specs.Outside.{once_fetched};
 ghost use Rattle.fy_expand.specs.Judged.{most_text};
 ghost use Rattle.fy_front.specs.Checked.{IsRefusedFor, IsCore, IsOfText, IsUnjudged};
 ghost use Rattle.fy_world.specs.Counted.{Counted, IsReadStop};
-ghost use Rattle.fy_tool.specs.Working.{Checks, ReadsCore};
+ghost use Rattle.fy_tool.specs.Working.{Checks, ReadsSource};
 
 use fy_front::{Core, FrontError, Program, Refusal, core_of, program_of};
 use fy_world::{Stop, World};
@@ -13,6 +13,13 @@ use std::alloc::Global;
 
 /// The most bytes that a text has.
 pub(crate) const TEXT_LIMIT: usize = 1_048_576;
+
+/// A text with its core phrase.
+#[derive(Debug, Drop)]
+pub(crate) struct Source {
+    pub text: Vec<u8>,
+    pub core: Core,
+}
 
 // The core phrase of a text, or why it has none.
 fn core_from(alloc: Global, text: &[u8]) -> Result<Result<Core, Refusal>, Stop>
@@ -27,15 +34,15 @@ fn core_from(alloc: Global, text: &[u8]) -> Result<Result<Core, Refusal>, Stop>
     }
 }
 
-/// The core phrase of the text in a file, or why it has none. The stages are its length, its tokens,
+/// The text in a file with its core phrase, or why it has none. The stages are its length, its tokens,
 /// its syntax with its nesting, its expansion and the core limits; the first that refuses is told.
-pub(crate) fn core_in<W: World>(
+pub(crate) fn source_in<W: World>(
     alloc: Global,
     file: &str,
     world: &mut W,
-) -> Result<Result<Core, Refusal>, Stop>
+) -> Result<Result<Source, Refusal>, Stop>
     ensures holds { W.holds world.new ≡ W.holds world.old }
-    ensures read { ReadsCore file.now (W.holds world.old).files result }
+    ensures read { ReadsSource file.now (W.holds world.old).files result }
     ensures counted { Counted (file.now ∷ []) [] (W.counts world.old) (W.counts world.new) result }
     ensures input { IfErr result IsReadStop }
     ensures same { W.names world.new ≡ W.names world.old }
@@ -45,7 +52,10 @@ pub(crate) fn core_in<W: World>(
         return Ok(Err(Refusal::Length));
     };
     let found = core_from(alloc, text.as_slice())?;
-    Ok(found)
+    match found {
+        Ok(core) => Ok(Ok(Source { text, core })),
+        Err(why) => Ok(Err(why)),
+    }
 }
 
 /// The program of a text, or why it is none.

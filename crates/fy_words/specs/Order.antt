@@ -13,6 +13,7 @@ use Rattle.fy_words.specs.declared.command.Command.TheVariants as command
 pub data Order : Type 0 where
   check : (file : Bytes) → Order
   derive : (file : Bytes) → Order
+  judge : (file derivation : Bytes) → Order
   build : (file image : Bytes) (stack : Option ℕ) (derivation : Option Bytes) → Order
   exec : (image : Bytes) (steps last : Option ℕ) → Order
   run : (file : Bytes) (steps stack : Option ℕ) (derivation image : Option Bytes) → Order
@@ -32,6 +33,7 @@ pub data Order : Type 0 where
 abbrev pub order_of : Command → Order
 order_of (command.Check file) = check file.now
 order_of (command.Derive file) = derive file.now
+order_of (command.Judge file derivation) = judge file.now derivation.now
 order_of (command.Build file image stack derivation) = build file.now image.now stack (option_map (λ name. name.now) derivation)
 order_of (command.Exec image steps last) = exec image.now steps last
 order_of (command.Run file steps stack derivation image) = run file.now steps stack (option_map (λ name. name.now) derivation) (option_map (λ name. name.now) image)
@@ -152,6 +154,14 @@ check_from words = if are_known [] words then option_map check (only_operand (op
 abbrev pub derive_from : List Bytes → Option Order
 derive_from words = if are_known [] words then option_map derive (only_operand (operands words)) else None
 
+-- `judge FILE --derivation=D`
+abbrev pub judge_with : Option Bytes → Option (Option Bytes) → Option Order
+judge_with (Some file) (Some (Some derivation)) = Some (judge file derivation)
+judge_with _ _ = None
+
+abbrev pub judge_from : List Bytes → Option Order
+judge_from words = if are_known (codes "--derivation=" ∷ []) words then judge_with (only_operand (operands words)) (derivation_option words) else None
+
 -- `build FILE --image=OUT [--stack=W] [--derivation=D]`
 abbrev pub build_with : Option Bytes → Option (Option Bytes) → Option (Option ℕ) → Option (Option Bytes) → Option Order
 build_with (Some file) (Some (Some image)) (Some stack) (Some derivation) = Some (build file image stack derivation)
@@ -252,6 +262,7 @@ command_from [] = None
 command_from (name ∷ words) =
     if bytes_eq name (codes "check") then check_from words
     else (if bytes_eq name (codes "derive") then derive_from words
+    else (if bytes_eq name (codes "judge") then judge_from words
     else (if bytes_eq name (codes "build") then build_from words
     else (if bytes_eq name (codes "exec") then exec_from words
     else (if bytes_eq name (codes "run") then run_from words
@@ -266,7 +277,7 @@ command_from (name ∷ words) =
     else (if bytes_eq name (codes "unit") then unit_from words
     else (if bytes_eq name (codes "join") then join_from words
     else (if bytes_eq name (codes "link") then link_from words
-    else None)))))))))))))))
+    else None))))))))))))))))
 
 -- ---- what is wanted where no option says it
 
@@ -299,6 +310,7 @@ IsInRange (trace file steps) = trace_steps_wanted steps ≤ 1000000
 IsInRange (sample number size) = (number < 2 ^ 32) × (1 ≤ size) × (size ≤ 2000)
 IsInRange (check file) = Unit {0}
 IsInRange (derive file) = Unit {0}
+IsInRange (judge file derivation) = Unit {0}
 IsInRange (exec image steps last) = Unit {0}
 IsInRange (list file) = Unit {0}
 IsInRange (audit image) = Unit {0}

@@ -3,7 +3,7 @@
 ghost use Rattle.std.specs.Prelude.{◌≡◌, ◌≤◌, map, string_bytes, IfSome};
 ghost use Rattle.std.specs.Option.{option_map};
 ghost use Rattle.fy_words.specs.Order.{IsInRange, IsStackInRange, copy_wanted, trace_steps_wanted};
-ghost use Rattle.fy_words.specs.Order.{stack_option, trace_option, steps_option, check_from, build_from, exec_from, run_from, list_from, sample_from, command_from, order_of, copy_option, copy_from, trace_steps_option, trace_from, derive_from, audit_from, migrate_from, elf_from, unelf_from, unit_from, join_from, link_from};
+ghost use Rattle.fy_words.specs.Order.{stack_option, trace_option, steps_option, check_from, build_from, exec_from, run_from, list_from, sample_from, command_from, order_of, copy_option, copy_from, trace_steps_option, trace_from, derive_from, judge_from, audit_from, migrate_from, elf_from, unelf_from, unit_from, join_from, link_from};
 
 use crate::words::{
     are_known, both_names, both_operands, name_option, number_in, number_option, only_operand,
@@ -19,6 +19,11 @@ pub enum Command<'a> {
     /// Writes a derivation of the text in the file.
     Derive {
         file: &'a str,
+    },
+    /// Judges the derivation in the other file for the text in the file.
+    Judge {
+        file: &'a str,
+        derivation: &'a str,
     },
     /// Builds an image of the text in the file, and keeps it.
     Build {
@@ -165,6 +170,19 @@ fn derive_of(words: &[String]) -> Option<Command<'_>>
     }
     let file = only_operand(words)?;
     Some(Command::Derive { file })
+}
+
+// `judge FILE --derivation=D`
+fn judge_of(words: &[String]) -> Option<Command<'_>>
+    ensures order { option_map order_of result ≡ judge_from (map string_bytes words.now) }
+    ensures stack { IfSome result (λ command. IsInRange (order_of command)) }
+{
+    if !are_known(&["--derivation="], words) {
+        return None;
+    }
+    let file = only_operand(words)?;
+    let derivation = name_option("--derivation=", words)??;
+    Some(Command::Judge { file, derivation })
 }
 
 // `build FILE --image=OUT [--stack=W] [--derivation=D]`
@@ -383,6 +401,7 @@ pub fn command_of(words: &[String]) -> Option<Command<'_>>
     match name.as_str() {
         "check" => check_of(words),
         "derive" => derive_of(words),
+        "judge" => judge_of(words),
         "build" => build_of(words),
         "exec" => exec_of(words),
         "run" => run_of(words),

@@ -20,7 +20,7 @@ pub returns-in-Ok-Err-clause-serves : goal.returns-in-Ok-Err-clause-serves
 returns-in-Ok-Err-clause-serves g c =
     let h = rw c.in-Ok-Err.field-0-is at c.in-Ok-Err.ensures.given in
     let order = build c.args.file.now c.args.name.now c.args.stack (option_map (λ name. name.now) c.args.derivation) in
-    serves_down order (both h.text h.written) h.text _ _ _ _ _ _ _ _ _ _ _ _ refl h.is
+    serves_down order (both h.text h.written) h.text _ _ _ _ _ _ _ _ _ _ _ _ refl refl h.is
     (after order (both h.text h.written) _ _ _ _ _ _ _ _ _ _ (tells order _ _ _ h.told h.told_named) c.in-Ok-Err.ensures.holds c.in-Ok-Err.ensures.counted h.called c.refuse.ensures.own (counted_keeps [] (keeps_of order) _ _ c.refuse.result c.refuse.ensures.counted) (called_same 0 _ _ _ c.refuse.ensures.called))
     c.refuse.ensures.memory c.refuse.ensures.did c.refuse.ensures.called
 

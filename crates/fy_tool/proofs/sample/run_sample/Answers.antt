@@ -16,7 +16,7 @@ pub returns-in-Ok-Err-clause-serves : goal.returns-in-Ok-Err-clause-serves
 returns-in-Ok-Err-clause-serves g c =
     let is = rw c.in-Ok-Err.field-0-is at c.in-Ok-Err.ensures.program in
     let order = sample c.args.number c.args.size in
-    serves_down order nothing_read (sample_text c.args.number c.args.size) 2 (note.Refused c.in-Ok-Err.why) _ _ _ _ _ _ _ _ _ _ refl (by_text None c.in-Ok-Err.why is)
+    serves_down order nothing_read (sample_text c.args.number c.args.size) 2 (note.Refused c.in-Ok-Err.why) _ _ _ _ _ _ _ _ _ _ refl refl (by_text None c.in-Ok-Err.why is)
     (after order nothing_read _ _ _ _ _ _ _ _ _ _ (tells order _ _ _ tt tt) refl refl (fetched_file order nothing_read _ _ (called_none _ _ refl)) c.refuse.ensures.own (counted_keeps [] (keeps_of order) _ _ c.refuse.result c.refuse.ensures.counted) (called_same 0 _ _ _ c.refuse.ensures.called)) c.refuse.ensures.memory c.refuse.ensures.did c.refuse.ensures.called
 
 pub sample_program-requires : goal.sample_program-requires

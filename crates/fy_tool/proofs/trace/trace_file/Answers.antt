@@ -16,7 +16,7 @@ pub returns-in-Ok-Err-clause-serves : goal.returns-in-Ok-Err-clause-serves
 returns-in-Ok-Err-clause-serves g c =
     let h = rw c.in-Ok-Err.field-0-is at c.in-Ok-Err.ensures.read in
     let order = trace c.args.file.now c.args.steps in
-    serves_down order (only h.0) h.0 2 (note.Refused c.in-Ok-Err.why) _ _ _ _ _ _ _ _ _ _ refl (by_text None c.in-Ok-Err.why h.2)
+    serves_down order (only h.0) h.0 2 (note.Refused c.in-Ok-Err.why) _ _ _ _ _ _ _ _ _ _ refl refl (by_text None c.in-Ok-Err.why h.2)
     (after order (only h.0) _ _ _ _ _ _ _ _ _ _ (tells order _ _ _ h.1 tt) c.in-Ok-Err.ensures.holds c.in-Ok-Err.ensures.counted (fetched_file order (only h.0) _ _ (called_fetch _ _ c.in-Ok-Err.ensures.called)) c.refuse.ensures.own c.refuse.ensures.counted (called_same 0 _ _ _ c.refuse.ensures.called)) c.refuse.ensures.memory c.refuse.ensures.did c.refuse.ensures.called
 
 pub trace_program-requires-clause-text : goal.trace_program-requires-clause-text
