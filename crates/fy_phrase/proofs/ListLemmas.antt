@@ -5,6 +5,7 @@ use Rattle.fy_phrase.specs.Tree.{Tree, Trees, no_trees, and_tree}
 use Rattle.fy_phrase.specs.Reads.{phrases_in, reads, reads_parts, trees_from}
 use Rattle.fy_phrase.specs.Closing.{closed_at, all_closed_at}
 use Rattle.fy_phrase.specs.Sizes.{nodes, all_nodes, depth, all_depth}
+use Rattle.fy_phrase.specs.Premises.{nothing, of_parts}
 use Rattle.fy_phrase.specs.declared.phrase.Phrase.{Phrase}
 use Rattle.fy_phrase.specs.declared.phrase.Parts.{Parts}
 use Rattle.fy_phrase.proofs.ReadLemmas.{reads_parts-at}
@@ -56,3 +57,15 @@ all_closed_at-more n a l m made ps i d h pushed is closed =
     ∙ ap (with_last (all_closed_at n a before)) closed
     ∙ sym (all_closed_at-with_last n a before last)
     ∙ ap (all_closed_at n a) (sym (trees_from-take ps i d h))
+
+of_parts-with_last : (ps : Trees) (p : Tree) → of_parts (with_last ps p) ≡ of_parts ps ++ (nothing, p) ∷ []
+of_parts-with_last no_trees p = refl
+of_parts-with_last (and_tree q ps) p = ap (λ Ps. (nothing, q) ∷ Ps) (of_parts-with_last ps p)
+
+-- one premise more
+pub of_parts-more : (ps : List Phrase) (i : ℕ) (x : Phrase) → i < length ps → x ≡ get_or ps i x →
+    of_parts (trees_from (map reads (take i ps))) ++ (nothing, reads x) ∷ [] ≡ of_parts (trees_from (map reads (take (i + 1) ps)))
+of_parts-more ps i x h e =
+    let before = trees_from (map reads (take i ps)) in
+    ap (λ y. of_parts before ++ (nothing, reads y) ∷ []) e
+    ∙ sym (ap of_parts (trees_from-take ps i x h) ∙ of_parts-with_last before (reads (get_or ps i x)))

@@ -1,5 +1,6 @@
 pub mod Tree
 pub mod Reads
+pub mod Premises
 pub mod Sizes
 pub mod Closing
 pub mod Contexts

@@ -4,12 +4,14 @@
 mod closing;
 mod copying;
 mod phrase;
+mod premise;
 mod shapes;
 mod sizes;
 
 pub use closing::close_with;
 pub use copying::copy_phrase;
 pub use phrase::{DataTy, MarkKind, Parts, Phrase};
+pub use premise::{Binds, Given, Premise, premises_of, repeated};
 pub use shapes::{
     Pair, PairList, Shape, ShapeElem, ShapeElemList, ShapeEnd, ShapeList, ShapeTable,
 };

@@ -1,7 +1,8 @@
 //! Core phrases.
 
-ghost use Rattle.std.specs.Prelude.{◌≡◌, [], ◌∷◌, ◌++◌, OnOk, OnErr, length, map};
+ghost use Rattle.std.specs.Prelude.{◌≡◌, [], ◌∷◌, ◌++◌, OnOk, OnErr, length, map, option_map};
 ghost use Rattle.fy_phrase.specs.Reads.{phrases_in, reads, reads_parts, trees_from};
+ghost use Rattle.fy_phrase.specs.Premises.{merged};
 ghost use Rattle.fy_phrase.specs.Tree.{place_of};
 
 use fy_base::{BinOp, Datum, OutOfMemory, Place, PutKind, UnOp};
@@ -117,6 +118,16 @@ impl Phrase {
             | Phrase::Put(_, _, at)
             | Phrase::Read(_, at)
             | Phrase::Mark(_, at) => *at,
+        }
+    }
+
+    /// The operands, if the phrase is a merge.
+    pub fn as_merge(&self) -> Option<(&Phrase, &Phrase)>
+        ensures { option_map (λ x. (reads x.0.now, reads x.1.now)) result ≡ merged (reads self.now) }
+    {
+        match self {
+            Phrase::Merge(left, right, _) => Some((left, right)),
+            _ => None,
         }
     }
 }
