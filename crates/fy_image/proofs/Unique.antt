@@ -23,14 +23,14 @@ use Rattle.fy_image.proofs.Lists.{words_long, doubles_long, spelled_short, front
 use Rattle.fy_image.proofs.Placing.{placed_good, words_same, places_same, place_short}
 use Rattle.fy_image.proofs.Spelling.{refusal_body}
 
-double_same : (x y : ℕ) → x < 2 ^ 64 → y < 2 ^ 64 → double x ≡ double y → x ≡ y
+pub double_same : (x y : ℕ) → x < 2 ^ 64 → y < 2 ^ 64 → double x ≡ double y → x ≡ y
 double_same x y fx fy same = sym (from_le_bytes-to_le_bytes_8 x fx) ∙ ap (λ b. from_le_bytes w64 b) same ∙ from_le_bytes-to_le_bytes_8 y fy
 
-doubles_same : (x y : ℕ) (r s : Bytes) → x < 2 ^ 64 → y < 2 ^ 64 → double x ++ r ≡ double y ++ s → (x ≡ y) × (r ≡ s)
+pub doubles_same : (x y : ℕ) (r s : Bytes) → x < 2 ^ 64 → y < 2 ^ 64 → double x ++ r ≡ double y ++ s → (x ≡ y) × (r ≡ s)
 doubles_same x y r s fx fy same = let both = front_same (double x) (double y) r s refl same in (double_same x y fx fy both.0, both.1)
 
 -- lists of one length that are spelled the same are the same
-lists_same : {X : Type 0} (spell : X → Bytes) (P : X → Type 0) → ((x y : X) (r s : Bytes) → P x → P y → spell x ++ r ≡ spell y ++ s → (x ≡ y) × (r ≡ s)) → (xs ys : List X) (r s : Bytes)
+pub lists_same : {X : Type 0} (spell : X → Bytes) (P : X → Type 0) → ((x y : X) (r s : Bytes) → P x → P y → spell x ++ r ≡ spell y ++ s → (x ≡ y) × (r ≡ s)) → (xs ys : List X) (r s : Bytes)
     → length xs ≡ length ys → All P xs → All P ys → flat_map spell xs ++ r ≡ flat_map spell ys ++ s → (xs ≡ ys) × (r ≡ s)
 lists_same spell P one [] [] r s count fx fy same = (refl, same)
 lists_same spell P one [] (y ∷ ys) r s count fx fy same = absurd (omega arith)

@@ -247,8 +247,8 @@ impl<'a> Fields<'a> {
     }
 }
 
-// The number of eight bytes.
-fn double_of(bytes: &[u8]) -> u64
+/// The number of eight bytes.
+pub fn double_of(bytes: &[u8]) -> u64
     requires { length bytes.now ≡ 8 }
     ensures { double result ≡ bytes.now }
 {

@@ -11,7 +11,8 @@ mod version;
 mod write;
 
 pub use error::ImageError;
+pub use fields::double_of;
 pub use image::Image;
 pub use laws::laws_of_images;
 pub use read::read_image;
-pub use write::write_image;
+pub use write::{put_doubles, put_words, write_image};

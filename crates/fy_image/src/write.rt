@@ -19,8 +19,8 @@ fn put_number(bytes: &mut Vec<u8>, n: u32) -> Result<(), OutOfMemory>
     Ok(())
 }
 
-// Writes words of four bytes.
-fn put_words(bytes: &mut Vec<u8>, words: &[u32]) -> Result<(), OutOfMemory>
+/// Writes words of four bytes.
+pub fn put_words(bytes: &mut Vec<u8>, words: &[u32]) -> Result<(), OutOfMemory>
     ensures put { OnOk result (bytes.new.items ≡ bytes.old.items ++ flat_map word words.now) }
     ensures fit { All (λ n. n < 2 ^ 32) words.now }
 {
@@ -30,8 +30,8 @@ fn put_words(bytes: &mut Vec<u8>, words: &[u32]) -> Result<(), OutOfMemory>
     Ok(())
 }
 
-// Writes words of eight bytes.
-fn put_doubles(bytes: &mut Vec<u8>, doubles: &[u64]) -> Result<(), OutOfMemory>
+/// Writes words of eight bytes.
+pub fn put_doubles(bytes: &mut Vec<u8>, doubles: &[u64]) -> Result<(), OutOfMemory>
     ensures put { OnOk result (bytes.new.items ≡ bytes.old.items ++ flat_map double doubles.now) }
     ensures fit { All (λ n. n < 2 ^ 64) doubles.now }
 {
