@@ -1,15 +1,16 @@
 -- Lists of words and places, and their bytes.
 use Rattle.std.proofs.Common.{◌≡◌, ℕ, suc, ◌+◌, ◌-◌, ◌*◌, ◌^◌, ◌<◌, List, [], ◌∷◌, ◌++◌, length, append_assoc, All, sym, ap, ◌∙◌, refl, arith}
 use Rattle.std.specs.List.{flat_map}
-use Rattle.std.specs.Int.{w32, w64, from_le_bytes}
+use Rattle.std.specs.Int.{w32, from_le_bytes}
 use Rattle.std.proofs.lemmas.List.Elements.{All-head, All-tail}
-use Rattle.std.proofs.lemmas.Nat.{from_le_bytes-to_le_bytes_4, from_le_bytes-to_le_bytes_8}
+use Rattle.std.proofs.lemmas.Nat.{from_le_bytes-to_le_bytes_4}
 use Rattle.fy_base.specs.Outside.{Bytes}
 use Rattle.fy_base.specs.declared.data.Place.{Place}
 use Rattle.fy_base.proofs.PlaceLemmas.{place-equal}
 use Rattle.fy_image.specs.declared.version.Version.TheVariants.{One}
-use Rattle.fy_image.specs.Form.{PlaceFits, word, double, place_bytes}
+use Rattle.fy_image.specs.Form.{PlaceFits, word, place_bytes}
 use Rattle.fy_image.proofs.Lists.{front_same}
+pub use Rattle.fy_image.proofs.Unique.{doubles_same, lists_same}
 use Rattle.fy_elf.specs.Reading.{IsTaken}
 use Rattle.fy_elf.specs.Refusals.{Rest, Judge, nonzeros, nonzero, IsCause}
 use Rattle.fy_elf.specs.declared.error.ElfError.{ElfError}
@@ -24,28 +25,11 @@ word_same x y fx fy same = sym (from_le_bytes-to_le_bytes_4 x fx) ∙ ap (λ b. 
 pub words_same : (x y : ℕ) (r s : Bytes) → x < 2 ^ 32 → y < 2 ^ 32 → word x ++ r ≡ word y ++ s → (x ≡ y) × (r ≡ s)
 words_same x y r s fx fy same = let both = front_same (word x) (word y) r s refl same in (word_same x y fx fy both.0, both.1)
 
-double_same : (x y : ℕ) → x < 2 ^ 64 → y < 2 ^ 64 → double x ≡ double y → x ≡ y
-double_same x y fx fy same = sym (from_le_bytes-to_le_bytes_8 x fx) ∙ ap (λ b. from_le_bytes w64 b) same ∙ from_le_bytes-to_le_bytes_8 y fy
-
-pub doubles_same : (x y : ℕ) (r s : Bytes) → x < 2 ^ 64 → y < 2 ^ 64 → double x ++ r ≡ double y ++ s → (x ≡ y) × (r ≡ s)
-doubles_same x y r s fx fy same = let both = front_same (double x) (double y) r s refl same in (double_same x y fx fy both.0, both.1)
-
 pub places_same : (x y : Place) (r s : Bytes) → PlaceFits x → PlaceFits y → place_bytes One x ++ r ≡ place_bytes One y ++ s → (x ≡ y) × (r ≡ s)
 places_same x y r s fx fy same =
     let line = words_same x.line y.line (word x.col ++ r) (word y.col ++ s) fx.line fy.line (sym (append_assoc (word x.line) (word x.col) r) ∙ same ∙ append_assoc (word y.line) (word y.col) s) in
     let col = words_same x.col y.col r s fx.col fy.col line.1 in
     (place-equal x y line.0 col.0, col.1)
-
--- lists of one length that are spelled the same are the same
-pub lists_same : {X : Type 0} (spell : X → Bytes) (P : X → Type 0) → ((x y : X) (r s : Bytes) → P x → P y → spell x ++ r ≡ spell y ++ s → (x ≡ y) × (r ≡ s)) → (xs ys : List X) (r s : Bytes)
-    → length xs ≡ length ys → All P xs → All P ys → flat_map spell xs ++ r ≡ flat_map spell ys ++ s → (xs ≡ ys) × (r ≡ s)
-lists_same spell P one [] [] r s count fx fy same = (refl, same)
-lists_same spell P one [] (y ∷ ys) r s count fx fy same = absurd (omega arith)
-lists_same spell P one (x ∷ xs) [] r s count fx fy same = absurd (omega arith)
-lists_same spell P one (x ∷ xs) (y ∷ ys) r s count fx fy same =
-    let first = one x y (flat_map spell xs ++ r) (flat_map spell ys ++ s) (All-head P x xs fx) (All-head P y ys fy) (sym (append_assoc (spell x) (flat_map spell xs) r) ∙ same ∙ append_assoc (spell y) (flat_map spell ys) s) in
-    let others = lists_same spell P one xs ys r s (omega arith) (All-tail P x xs fx) (All-tail P y ys fy) first.1 in
-    (λ t. first.0 t ∷ others.0 t, others.1)
 
 -- ---- places
 

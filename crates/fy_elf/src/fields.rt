@@ -13,6 +13,7 @@ use crate::counted::Counted;
 use crate::error::ElfError;
 use crate::number::Number;
 use fy_base::{DoubleList, Place, PlaceList, WordList};
+use fy_image::double_of;
 use std::alloc::Global;
 use std::marker::Model;
 
@@ -214,16 +215,6 @@ impl<'a> Fields<'a> {
             Err(ElfError::Trailing(self.rest.len() as u64))
         }
     }
-}
-
-// The number of eight bytes.
-fn double_of(bytes: &[u8]) -> u64
-    requires { length bytes.now ≡ 8 }
-    ensures { double result ≡ bytes.now }
-{
-    let mut eight = [0; 8];
-    eight.copy_from_slice(bytes);
-    u64::from_le_bytes(eight)
 }
 
 // How many parts the size is of, where it is one.

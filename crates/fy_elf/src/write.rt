@@ -1,8 +1,8 @@
 //! Writing an ELF file.
 
-ghost use Rattle.std.specs.Prelude.{◌≡◌, ◌++◌, ◌<◌, ◌^◌, All, IfOk, OnOk};
+ghost use Rattle.std.specs.Prelude.{◌≡◌, ◌++◌, All, IfOk, OnOk};
 ghost use Rattle.std.specs.List.{flat_map};
-ghost use Rattle.fy_image.specs.Form.{PlaceFits, word, double, place_bytes};
+ghost use Rattle.fy_image.specs.Form.{PlaceFits, place_bytes};
 ghost use Rattle.fy_image.specs.Ranges.{IsImage};
 ghost use Rattle.fy_image.specs.declared.version.Version.TheVariants.{One};
 ghost use Rattle.fy_elf.specs.Elf.{IsElfBytes, headers, number_bytes, numbers_bytes, program_header};
@@ -14,7 +14,7 @@ use crate::headers::{
 };
 use crate::number::Number;
 use fy_base::{OutOfMemory, Place};
-use fy_image::Image;
+use fy_image::{Image, put_doubles, put_words};
 use std::alloc::Global;
 
 // Writes a number.
@@ -73,28 +73,6 @@ fn put_headers(bytes: &mut Vec<u8>, sizes: &Sizes) -> Result<(), OutOfMemory>
         note,
         note,
     )?;
-    Ok(())
-}
-
-// Writes words of four bytes.
-fn put_words(bytes: &mut Vec<u8>, words: &[u32]) -> Result<(), OutOfMemory>
-    ensures put { OnOk result (bytes.new.items ≡ bytes.old.items ++ flat_map word words.now) }
-    ensures fit { All (λ n. n < 2 ^ 32) words.now }
-{
-    for word in words {
-        bytes.extend_from_slice(&word.to_le_bytes())?;
-    }
-    Ok(())
-}
-
-// Writes words of eight bytes.
-fn put_doubles(bytes: &mut Vec<u8>, doubles: &[u64]) -> Result<(), OutOfMemory>
-    ensures put { OnOk result (bytes.new.items ≡ bytes.old.items ++ flat_map double doubles.now) }
-    ensures fit { All (λ n. n < 2 ^ 64) doubles.now }
-{
-    for double in doubles {
-        bytes.extend_from_slice(&double.to_le_bytes())?;
-    }
     Ok(())
 }
 
