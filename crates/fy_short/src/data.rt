@@ -14,10 +14,10 @@ ghost use Rattle.fy_short.specs.DataTexts.{
   put_word as put_word_of,
   string_text,
 };
-ghost use Rattle.fy_syntax.specs.Print.{hex_digit as hex_digit_of, operator_text, prefix_text};
+ghost use Rattle.fy_syntax.specs.Print.{hex_digit as hex_digit_of};
 
 use crate::bytes::put;
-use fy_base::{BinOp, Datum, OutOfMemory, PutKind, UnOp};
+use fy_base::{BinOp, Datum, OutOfMemory, PutKind};
 use fy_phrase::DataTy;
 
 const DOUBLE_QUOTE: u8 = 34;
@@ -138,39 +138,6 @@ pub fn left_level(op: BinOp) -> u8
 {
     let level = operator_level(op);
     if level == 6 { 7 } else { level }
-}
-
-/// The operator with a blank behind it.
-pub fn operator_word(op: BinOp) -> &'static [u8]
-    ensures { result.now ≡ operator_text op }
-{
-    match op {
-        BinOp::Or => b"or ",
-        BinOp::And => b"and ",
-        BinOp::Eq => b"= ",
-        BinOp::Ne => b"<> ",
-        BinOp::Lt => b"< ",
-        BinOp::Le => b"<= ",
-        BinOp::Gt => b"> ",
-        BinOp::Ge => b">= ",
-        BinOp::Add => b"+ ",
-        BinOp::Sub => b"- ",
-        BinOp::Mul => b"* ",
-        BinOp::Div => b"div ",
-        BinOp::Rem => b"rem ",
-    }
-}
-
-/// The operator with a blank behind it.
-pub fn prefix_word(op: UnOp) -> &'static [u8]
-    ensures { result.now ≡ prefix_text op }
-{
-    match op {
-        UnOp::Neg => b"- ",
-        UnOp::Not => b"not ",
-        UnOp::Ord => b"ord ",
-        UnOp::Chr => b"chr ",
-    }
 }
 
 /// The name of the data type.

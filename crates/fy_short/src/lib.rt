@@ -7,8 +7,7 @@ mod types;
 
 pub use bytes::{is_same, put, put_cut, put_number};
 pub use data::{
-    data_word, datum_level, left_level, operator_level, operator_word, prefix_word, put_datum,
-    put_string, put_word,
+    data_word, datum_level, left_level, operator_level, put_datum, put_string, put_word,
 };
 pub use types::{
     name_bytes, print_short_type, put_alternatives, put_name, put_type, sequence_word,

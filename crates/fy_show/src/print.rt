@@ -48,9 +48,10 @@ use crate::view::{View, in_manner, in_scope};
 use fy_base::{BinOp, OutOfMemory, Place, PutKind, Text};
 use fy_phrase::{DataTy, Parts, Phrase};
 use fy_short::{
-    data_word, left_level, operator_level, operator_word, prefix_word, put, put_alternatives,
-    put_cut, put_datum, put_name, put_string, put_type, put_word,
+    data_word, left_level, operator_level, put, put_alternatives, put_cut, put_datum, put_name,
+    put_string, put_type, put_word,
 };
+use fy_syntax::{operator_word, prefix_word};
 use fy_types::{Name, Ty, TyList};
 
 /// The text of the phrase: that of its form, with its parts in the view's manner. Parts stand in parentheses where their levels

@@ -219,7 +219,7 @@ fn put_links(text: &mut Vec<u8>, names: &Names, links: &LinkList) -> Result<(), 
     ensures ranges { OnOk result (AreLinksInRanges (links_of links.now)) }
 {
     for link in links.as_slice() {
-        put(text, word_of_operator(link.op))?;
+        put(text, operator_word(link.op))?;
         put_tree(text, names, &link.item)?;
     }
     Ok(())
@@ -308,7 +308,7 @@ fn put_prefixes(text: &mut Vec<u8>, operators: &PrefixList) -> Result<(), OutOfM
     ensures { OnOk result (text.new.items ≡ text.old.items ++ prefixes_text operators.now) }
 {
     for operator in operators.as_slice() {
-        put(text, word_of_prefix(operator.op))?;
+        put(text, prefix_word(operator.op))?;
     }
     Ok(())
 }
@@ -363,7 +363,8 @@ fn put(text: &mut Vec<u8>, bytes: &[u8]) -> Result<(), OutOfMemory>
     Ok(())
 }
 
-fn word_of_operator(op: BinOp) -> &'static [u8]
+/// The operator with a blank behind it.
+pub fn operator_word(op: BinOp) -> &'static [u8]
     ensures { result.now ≡ operator_text op }
 {
     match op {
@@ -383,7 +384,8 @@ fn word_of_operator(op: BinOp) -> &'static [u8]
     }
 }
 
-fn word_of_prefix(op: UnOp) -> &'static [u8]
+/// The operator with a blank behind it.
+pub fn prefix_word(op: UnOp) -> &'static [u8]
     ensures { result.now ≡ prefix_text op }
 {
     match op {
