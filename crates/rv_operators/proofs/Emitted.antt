@@ -1,5 +1,5 @@
 -- Blocks appended one behind the other.
-use Rattle.std.proofs.Common.{◌≡◌, ℕ, suc, ◌+◌, List, [], ◌∷◌, ◌++◌, length, refl, sym, ap, ◌∙◌, append_assoc, append-nil, arith, Result, Ok, Err, OnOk, OnErr}
+use Rattle.std.proofs.Common.{◌≡◌, ℕ, suc, ◌+◌, List, [], ◌∷◌, ◌++◌, length, refl, sym, ap, ◌∙◌, append_assoc, append-nil, arith, subst, Result, Ok, Err, OnOk, OnErr}
 use Rattle.rv_asm.specs.declared.items.Item.{Item}
 use Rattle.rv_asm.specs.declared.items.Item.TheVariants.{Mark}
 use Rattle.rv_word.specs.declared.micros.Micro.{Micro}
@@ -65,13 +65,16 @@ micro_items-append entries (m ∷ xs) ys =
     ∙ sym (append_assoc (lowered entries 0 m) (micro_items entries 0 xs) (micro_items entries 0 ys))
 
 -- the work of an operator behind what leaves its context
-pub work_behind : (entries label other : ℕ) (first work : List Micro) (a b c : List Item) → other ≡ label → b ≡ a ++ block_items entries 0 other first → c ≡ b ++ micro_items entries 0 work
+pub work_behind : (entries label : ℕ) (first work : List Micro) (a b c : List Item) → b ≡ a ++ block_items entries 0 label first → c ≡ b ++ micro_items entries 0 work
     → AddsBlock entries label (first ++ work) a c
-work_behind entries label other first work a b c same h k =
-    let mark : List Item = Mark other ∷ micro_items entries 0 first in
+work_behind entries label first work a b c h k =
+    let mark : List Item = Mark label ∷ micro_items entries 0 first in
     record {
       is =
           k ∙ ap (λ (l : List Item). l ++ micro_items entries 0 work) h ∙ append_assoc a mark (micro_items entries 0 work)
-          ∙ ap (λ (l : List Item). a ++ (Mark other ∷ l)) (sym (micro_items-append entries first work))
-          ∙ ap (λ (n : ℕ). a ++ block_items entries 0 n (first ++ work)) same;
+          ∙ ap (λ (l : List Item). a ++ (Mark label ∷ l)) (sym (micro_items-append entries first work));
     }
+
+-- a block under the same label
+pub relabelled : {entries other label : ℕ} {micros : List Micro} {a b : List Item} → other ≡ label → AddsBlock entries other micros a b → AddsBlock entries label micros a b
+relabelled {entries} {other} {label} {micros} {a} {b} e h = let P : ℕ → Type 0 = λ n. AddsBlock entries n micros a b in subst P e h

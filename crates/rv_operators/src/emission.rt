@@ -1,6 +1,6 @@
 //! The items of the operators.
 
-ghost use Rattle.std.specs.Prelude.{◌≡◌, ◌+◌, ◌^◌, ◌≤◌, ◌++◌, pos, IsTrue, OnErr, OnOk};
+ghost use Rattle.std.specs.Prelude.{◌≡◌, ◌+◌, ◌^◌, ◌≤◌, ◌++◌, IsTrue, OnErr, OnOk};
 ghost use Rattle.rv_flow.specs.Emission.{Extends, are_near};
 ghost use Rattle.rv_flow.specs.Lowering.{blocks_items};
 ghost use Rattle.rv_operators.specs.Emission.{AddsBlock, AddsBlocks};
@@ -358,19 +358,12 @@ fn add_one(items: &mut Vec<Item>, site: Site, op: UnOp, work: &[Micro]) -> Resul
     ensures ok { OnOk result (AddsBlock site.entries (unary_label site.first op) (meet_operand work.now) items.old.items items.new.items) }
     ensures err { OnErr result (Extends items.old.items items.new.items) }
 {
-    let micros = [
+    let leaving = [
         Micro::Window(Context, 2),
         Micro::Imm(ImmOp::Addi, Top, Context, 0),
         Micro::Get(Context, Context, 1),
     ];
-    lower_block(
-        items,
-        site.entries,
-        0,
-        label_of_unary(site.first, op),
-        &micros,
-    )?;
-    lower_all(items, site.entries, 0, work)
+    add_block(items, site, label_of_unary(site.first, op), &leaving, work)
 }
 
 // The same of an operator that may fault.
@@ -384,20 +377,13 @@ fn add_one_or_fault(
     ensures ok { OnOk result (AddsBlock site.entries (unary_label site.first op) (meet_operand_or_fault work.now) items.old.items items.new.items) }
     ensures err { OnErr result (Extends items.old.items items.new.items) }
 {
-    let micros = [
+    let leaving = [
         Micro::Window(Context, 2),
         Micro::Get(Third, Context, 0),
         Micro::Imm(ImmOp::Addi, Top, Context, 0),
         Micro::Get(Context, Context, 1),
     ];
-    lower_block(
-        items,
-        site.entries,
-        0,
-        label_of_unary(site.first, op),
-        &micros,
-    )?;
-    lower_all(items, site.entries, 0, work)
+    add_block(items, site, label_of_unary(site.first, op), &leaving, work)
 }
 
 // A block that leaves the context of a binary operator, and then does its work.
@@ -406,20 +392,13 @@ fn add_two(items: &mut Vec<Item>, site: Site, op: BinOp, work: &[Micro]) -> Resu
     ensures ok { OnOk result (AddsBlock site.entries (binary_label site.first op) (meet_operands work.now) items.old.items items.new.items) }
     ensures err { OnErr result (Extends items.old.items items.new.items) }
 {
-    let micros = [
+    let leaving = [
         Micro::Window(Context, 3),
         Micro::Get(First, Context, 2),
         Micro::Imm(ImmOp::Addi, Top, Context, 0),
         Micro::Get(Context, Context, 1),
     ];
-    lower_block(
-        items,
-        site.entries,
-        0,
-        label_of_binary(site.first, op),
-        &micros,
-    )?;
-    lower_all(items, site.entries, 0, work)
+    add_block(items, site, label_of_binary(site.first, op), &leaving, work)
 }
 
 // The same of an operator that may fault.
@@ -433,19 +412,29 @@ fn add_two_or_fault(
     ensures ok { OnOk result (AddsBlock site.entries (binary_label site.first op) (meet_operands_or_fault work.now) items.old.items items.new.items) }
     ensures err { OnErr result (Extends items.old.items items.new.items) }
 {
-    let micros = [
+    let leaving = [
         Micro::Window(Context, 3),
         Micro::Get(Third, Context, 0),
         Micro::Get(First, Context, 2),
         Micro::Imm(ImmOp::Addi, Top, Context, 0),
         Micro::Get(Context, Context, 1),
     ];
-    lower_block(
-        items,
-        site.entries,
-        0,
-        label_of_binary(site.first, op),
-        &micros,
-    )?;
+    add_block(items, site, label_of_binary(site.first, op), &leaving, work)
+}
+
+// A block that leaves a context, and then does its work.
+fn add_block(
+    items: &mut Vec<Item>,
+    site: Site,
+    label: u32,
+    leaving: &[Micro],
+    work: &[Micro],
+) -> Result<(), OutOfMemory>
+    requires leaving { IsTrue (are_near leaving.now) }
+    requires work { IsTrue (are_near work.now) }
+    ensures ok { OnOk result (AddsBlock site.entries label (leaving.now ++ work.now) items.old.items items.new.items) }
+    ensures err { OnErr result (Extends items.old.items items.new.items) }
+{
+    lower_block(items, site.entries, 0, label, leaving)?;
     lower_all(items, site.entries, 0, work)
 }
