@@ -56,33 +56,33 @@ asked_by (element_c n) = for_end a_value
 
 -- ---- the shapes of ends
 
-data_atom-shape : (D : DataTy) → end_shape (data_atom D) ≡ a_value
+pub data_atom-shape : (D : DataTy) → end_shape (data_atom D) ≡ a_value
 data_atom-shape data_type.Int = refl
 data_atom-shape data_type.Bool = refl
 data_atom-shape data_type.Char = refl
 
-acceptor_atom-shape : (D : DataTy) → end_shape (acceptor_atom D) ≡ an_assignment
+pub acceptor_atom-shape : (D : DataTy) → end_shape (acceptor_atom D) ≡ an_assignment
 acceptor_atom-shape data_type.Int = refl
 acceptor_atom-shape data_type.Bool = refl
 acceptor_atom-shape data_type.Char = refl
 
-datum_atom-shape : (v : Datum) → end_shape (datum_atom v) ≡ a_value
+pub datum_atom-shape : (v : Datum) → end_shape (datum_atom v) ≡ a_value
 datum_atom-shape (datum.Int n) = refl
 datum_atom-shape (datum.Bool b) = refl
 datum_atom-shape (datum.Char c) = refl
 
-operand_atom-shape : (op : UnOp) → end_shape (operand_atom op) ≡ a_value
+pub operand_atom-shape : (op : UnOp) → end_shape (operand_atom op) ≡ a_value
 operand_atom-shape Neg = refl
 operand_atom-shape Not = refl
 operand_atom-shape Ord = refl
 operand_atom-shape Chr = refl
 
-put_atom-shape : (kind : PutKind) → end_shape (put_atom kind) ≡ a_value
+pub put_atom-shape : (kind : PutKind) → end_shape (put_atom kind) ≡ a_value
 put_atom-shape put_kind.Int = refl
 put_atom-shape put_kind.Char = refl
 put_atom-shape put_kind.Bool = refl
 
-command-shape : (R : Atom) → is_command R ≡ true → end_shape R ≡ a_run
+pub command-shape : (R : Atom) → is_command R ≡ true → end_shape R ≡ a_run
 command-shape atoms.Comm e = refl
 command-shape atoms.Compl e = refl
 command-shape R e = absurd cc
@@ -133,7 +133,7 @@ Takes-asked rest W P (element_c n) t = value_asked data_type.Int t.1
 -- ---- merges
 
 -- whether what is asked for is of the kind
-abbrev is_of : Kind → Asked → Bool
+abbrev pub is_of : Kind → Asked → Bool
 is_of of_call for_call = true
 is_of of_call a = false
 is_of (of_field i) (for_field j) = i == j
@@ -143,15 +143,9 @@ is_of of_assignment a = false
 
 acceptor-is_of : (a : Atom) → is_acceptor a ≡ is_of of_assignment (for_end (end_shape a))
 acceptor-is_of atoms.Int = refl
-acceptor-is_of atoms.Bool = refl
-acceptor-is_of atoms.Char = refl
-acceptor-is_of atoms.Comm = refl
-acceptor-is_of atoms.Compl = refl
-acceptor-is_of atoms.IntAcc = refl
-acceptor-is_of atoms.BoolAcc = refl
-acceptor-is_of atoms.CharAcc = refl
+acceptor-is_of a = refl
 
-begins-is_of : (k : Kind) (P : PlainPath) → begins k P ≡ is_of k (first_asked P)
+pub begins-is_of : (k : Kind) (P : PlainPath) → begins k P ≡ is_of k (first_asked P)
 begins-is_of of_call (end a) = refl
 begins-is_of of_call (call D p) = refl
 begins-is_of of_call (pick i p) = refl

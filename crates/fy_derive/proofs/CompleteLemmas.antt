@@ -43,11 +43,11 @@ AreDerived G p As = (ds : PlainDerivations) × ((n : ℕ) (Bs : List PlainType) 
     each_judged ds n G (replicate (count ds) (nothing, p)) Bs ≡ all_conclude (Bs ++ listed As))
 
 -- one copy of the type for each part
-abbrev copies : Trees → PlainType → List PlainType
+abbrev pub copies : Trees → PlainType → List PlainType
 copies no_trees A = []
 copies (and_tree p ps) A = A ∷ copies ps A
 
-all_same-copies : (ps : Trees) (A : PlainType) → all_same A (copies ps A) ≡ true
+pub all_same-copies : (ps : Trees) (A : PlainType) → all_same A (copies ps A) ≡ true
 all_same-copies no_trees A = refl
 all_same-copies (and_tree p ps) A = and_from _ _ (same_type-refl A) (all_same-copies ps A)
 

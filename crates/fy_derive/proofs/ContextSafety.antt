@@ -37,7 +37,7 @@ Behind s W P = AllTake W P s.contexts
 ends_same : {P : PlainPath} {a b : Atom} → P ≡ end a → P ≡ end b → a ≡ b
 ends_same e f = cc
 
-acceptor_atom-same : (D E : DataTy) → acceptor_atom D ≡ acceptor_atom E → D ≡ E
+pub acceptor_atom-same : (D E : DataTy) → acceptor_atom D ≡ acceptor_atom E → D ≡ E
 acceptor_atom-same data_type.Int data_type.Int e = refl
 acceptor_atom-same data_type.Bool data_type.Bool e = refl
 acceptor_atom-same data_type.Char data_type.Char e = refl

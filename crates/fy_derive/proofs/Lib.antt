@@ -15,7 +15,7 @@ pub mod JudgeLemmas
 pub mod StepLemmas
 pub mod SoundLemmas
 pub mod CompleteLemmas
-pub mod PremiseLemmas
+pub mod PartLemmas
 pub mod SizeLemmas
 pub mod PrintLemmas
 pub mod PathTyping

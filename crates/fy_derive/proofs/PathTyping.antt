@@ -6,7 +6,7 @@ use Rattle.fy_base.specs.declared.data.Datum.TheVariants as datum
 use Rattle.fy_base.specs.declared.data.UnOp.{UnOp}
 use Rattle.fy_base.specs.declared.data.UnOp.TheVariants.{Neg, Not, Ord, Chr}
 use Rattle.fy_base.specs.declared.data.BinOp.{BinOp}
-use Rattle.fy_base.specs.declared.data.BinOp.TheVariants.{Add, Sub, Mul, Div, Rem, Eq, Ne, Lt, Le, Gt, Ge, And, Or}
+use Rattle.fy_base.specs.declared.data.BinOp.TheVariants.{Add}
 use Rattle.fy_types.specs.declared.types.Atom.{Atom}
 use Rattle.fy_types.specs.declared.types.Atom.TheVariants.{Int, Bool as Truth, Comm, Compl, IntAcc}
 use Rattle.fy_types.specs.Paths.{PlainPath, PlainPaths, end, call, pick, no_paths, and_path, paths}
@@ -117,59 +117,48 @@ HasBelow-up (there some) high = there (HasBelow-up some high)
 -- ---- what holds of a path above
 
 -- an end that isn't `compl` has only itself above
-abbrev IsFixed : Atom → Type 0
+abbrev pub IsFixed : Atom → Type 0
 IsFixed Compl = ⊥
 IsFixed a = Unit {0}
 
-fixed-up : (a : Atom) {P Q : PlainPath} → IsFixed a → P ≡ end a → IsPathBelow P Q → Q ≡ end a
+pub fixed-up : (a : Atom) {P Q : PlainPath} → IsFixed a → P ≡ end a → IsPathBelow P Q → Q ≡ end a
 fixed-up a fixed e (ends same_end) = e
 fixed-up a fixed e (ends compl_below) = let f : a ≡ Compl = cc in absurd (subst IsFixed f fixed)
 fixed-up a fixed e (calls wide low) = absurd cc
 fixed-up a fixed e (picks low) = absurd cc
 
-data_atom-fixed : (D : DataTy) → IsFixed (data_atom D)
+pub data_atom-fixed : (D : DataTy) → IsFixed (data_atom D)
 data_atom-fixed data_type.Int = tt
 data_atom-fixed data_type.Bool = tt
 data_atom-fixed data_type.Char = tt
 
-acceptor_atom-fixed : (D : DataTy) → IsFixed (acceptor_atom D)
+pub acceptor_atom-fixed : (D : DataTy) → IsFixed (acceptor_atom D)
 acceptor_atom-fixed data_type.Int = tt
 acceptor_atom-fixed data_type.Bool = tt
 acceptor_atom-fixed data_type.Char = tt
 
-datum_atom-fixed : (v : Datum) → IsFixed (datum_atom v)
+pub datum_atom-fixed : (v : Datum) → IsFixed (datum_atom v)
 datum_atom-fixed (datum.Int n) = tt
 datum_atom-fixed (datum.Bool b) = tt
 datum_atom-fixed (datum.Char c) = tt
 
-unary_atom-fixed : (op : UnOp) → IsFixed (unary_atom op)
+pub unary_atom-fixed : (op : UnOp) → IsFixed (unary_atom op)
 unary_atom-fixed Neg = tt
 unary_atom-fixed Not = tt
 unary_atom-fixed Ord = tt
 unary_atom-fixed Chr = tt
 
-binary_atom-fixed : (op : BinOp) → IsFixed (binary_atom op)
+pub binary_atom-fixed : (op : BinOp) → IsFixed (binary_atom op)
 binary_atom-fixed Add = tt
-binary_atom-fixed Sub = tt
-binary_atom-fixed Mul = tt
-binary_atom-fixed Div = tt
-binary_atom-fixed Rem = tt
-binary_atom-fixed Eq = tt
-binary_atom-fixed Ne = tt
-binary_atom-fixed Lt = tt
-binary_atom-fixed Le = tt
-binary_atom-fixed Gt = tt
-binary_atom-fixed Ge = tt
-binary_atom-fixed And = tt
-binary_atom-fixed Or = tt
+binary_atom-fixed op = tt
 
-run-up : {P Q : PlainPath} → IsRun P → IsPathBelow P Q → IsRun Q
+pub run-up : {P Q : PlainPath} → IsRun P → IsPathBelow P Q → IsRun Q
 run-up (R, is, e) (ends same_end) = (R, is, e)
 run-up (R, is, e) (ends compl_below) = (Comm, refl, refl)
 run-up (R, is, e) (calls wide low) = absurd cc
 run-up (R, is, e) (picks low) = absurd cc
 
-call-up : {P Q : PlainPath} (D : PlainPaths) (R : PlainPath) → P ≡ call D R → IsPathBelow P Q →
+pub call-up : {P Q : PlainPath} (D : PlainPaths) (R : PlainPath) → P ≡ call D R → IsPathBelow P Q →
     (E : PlainPaths) × (S : PlainPath) × (Q ≡ call E S) × ArePathsBelow E D × IsPathBelow R S
 call-up D R e (ends low) = absurd cc
 call-up D R e (calls {D = A} {E = E} {p = p} {q = q} wide low) =
@@ -178,7 +167,7 @@ call-up D R e (calls {D = A} {E = E} {p = p} {q = q} wide low) =
     (E, q, refl, subst (ArePathsBelow E) f wide, subst (λ r. IsPathBelow r q) g low)
 call-up D R e (picks low) = absurd cc
 
-pick-up : {P Q : PlainPath} (i : ℕ) (R : PlainPath) → P ≡ pick i R → IsPathBelow P Q → (S : PlainPath) × (Q ≡ pick i S) × IsPathBelow R S
+pub pick-up : {P Q : PlainPath} (i : ℕ) (R : PlainPath) → P ≡ pick i R → IsPathBelow P Q → (S : PlainPath) × (Q ≡ pick i S) × IsPathBelow R S
 pick-up i R e (ends low) = absurd cc
 pick-up i R e (calls wide low) = absurd cc
 pick-up i R e (picks {i = j} {p = p} {q = q} low) =
@@ -204,14 +193,14 @@ begins-up of_assignment (picks low) = refl
 abbrev pub Covers : List PlainPaths → List PlainPaths → Type 0
 Covers H G = (k : ℕ) (P : PlainPath) → HasBelow (paths_at G k) P → HasBelow (paths_at H k) P
 
-covers-same : (G : List PlainPaths) → Covers G G
+pub covers-same : (G : List PlainPaths) → Covers G G
 covers-same G k P some = some
 
-covers-under : (D E : PlainPaths) (H G : List PlainPaths) → ArePathsBelow E D → Covers H G → Covers (E ∷ H) (D ∷ G)
+pub covers-under : (D E : PlainPaths) (H G : List PlainPaths) → ArePathsBelow E D → Covers H G → Covers (E ∷ H) (D ∷ G)
 covers-under D E H G low c zero P some = HasBelow-trans D low some
 covers-under D E H G low c (suc k) P some = c k P some
 
-under-same : (D : PlainPaths) (H G : List PlainPaths) → Covers H G → Covers (D ∷ H) (D ∷ G)
+pub under-same : (D : PlainPaths) (H G : List PlainPaths) → Covers H G → Covers (D ∷ H) (D ∷ G)
 under-same D H G c = covers-under D D H G (ArePathsBelow-refl D) c
 
 module _ (W V : World) (grow : (m : Entry) → Stands m W → Stands m V) where

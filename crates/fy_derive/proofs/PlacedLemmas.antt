@@ -113,29 +113,7 @@ placed-count w (P ∷ Ps) (and_derivation d ds) = ap (λ n. 1 + n) (placed-count
 
 kind-alike : {f : ℕ → ℕ} {p q : Tree} → Alike f p q → kind_of p ≡ kind_of q
 kind-alike (alike.var i) = refl
-kind-alike alike.lit = refl
-kind-alike (alike.unary h) = refl
-kind-alike (alike.binary h k) = refl
-kind-alike (alike.cond h k l) = refl
-kind-alike (alike.case h hs) = refl
-kind-alike (alike.lam h) = refl
-kind-alike (alike.app h k) = refl
-kind-alike (alike.field h) = refl
-kind-alike (alike.sel h) = refl
-kind-alike (alike.merge h k) = refl
-kind-alike (alike.let_in h k) = refl
-kind-alike (alike.rec h) = refl
-kind-alike alike.skip = refl
-kind-alike (alike.seq h k) = refl
-kind-alike (alike.assign h k) = refl
-kind-alike (alike.while_do h k) = refl
-kind-alike (alike.forever h) = refl
-kind-alike (alike.new h k) = refl
-kind-alike (alike.cells h k) = refl
-kind-alike (alike.escape h) = refl
-kind-alike (alike.accept h) = refl
-kind-alike (alike.put h) = refl
-kind-alike (alike.read h) = refl
+kind-alike h = refl
 
 -- ---- contexts
 

@@ -36,7 +36,7 @@ PremisesTyped G (P ∷ Ps) As (B ∷ Bs) = HasType (under P.0 As G) P.1 B × Pre
 pub some_same : {X : Type 0} {x y : X} → Some x ≡ Some y → x ≡ y
 some_same e = cc
 
-provided-some : (b : Bool) (A C : PlainType) → provided b A ≡ Some C → (b ≡ true) × (A ≡ C)
+pub provided-some : (b : Bool) (A C : PlainType) → provided b A ≡ Some C → (b ≡ true) × (A ≡ C)
 provided-some true A C e = (refl, some_same e)
 provided-some false A C e = absurd cc
 
@@ -310,7 +310,7 @@ meet-typed G p [] l h = absurd (omega arith)
 meet-typed G p (A ∷ []) l h = absurd (omega arith)
 meet-typed G p (A ∷ B ∷ Bs) l (typing.and_has x (typing.and_has y z)) = typing.by_meet x y z
 
-all-same : (As Cs : List PlainType) → all_conclude As ≡ all_conclude Cs → Cs ≡ As
+pub all-same : (As Cs : List PlainType) → all_conclude As ≡ all_conclude Cs → Cs ≡ As
 all-same As Cs e = cc
 
 pub append-none : (As : List PlainType) → As ++ [] ≡ As

@@ -1,5 +1,5 @@
 -- One step of judging, in numbers.
-use Rattle.std.proofs.Common.{ℕ, ◌+◌, ◌<◌, ◌≡◌, ◌≢◌, List, [], ◌∷◌, ◌++◌, length, get_or, map, drop, Some, Box, Global, Err, sym, ap, ◌∙◌, arith}
+use Rattle.std.proofs.Common.{ℕ, ◌+◌, ◌<◌, ◌≡◌, ◌≢◌, List, [], ◌∷◌, ◌++◌, length, get_or, map, drop, slice_get, Some, None, Box, Global, Err, refl, sym, ap, ◌∙◌, subst}
 use Rattle.std.proofs.lemmas.List.{length-map}
 use Rattle.std.proofs.lemmas.List.Elements.{All-head}
 use Rattle.fy_types.specs.declared.types.Ty.{Ty}
@@ -15,23 +15,21 @@ use Rattle.fy_derive.specs.declared.derivation.DerivationList.{DerivationList}
 use Rattle.fy_derive.specs.declared.table.TypeTable.{TypeTable}
 use Rattle.fy_derive.specs.declared.error.DeriveError.{DeriveError}
 use Rattle.fy_derive.specs.declared.error.DeriveError.TheVariants.{Wrong, OutOfMemory}
-use Rattle.fy_derive.specs.declared.premise.Binds.{Binds}
-use Rattle.fy_derive.specs.declared.premise.Binds.TheVariants.{Nothing, First, Given}
-use Rattle.fy_derive.specs.declared.premise.Premise.{Premise}
+use Rattle.fy_phrase.specs.declared.premise.Premise.{Premise}
+use Rattle.fy_phrase.specs.Premises.{Binder, plain_binder, premise_shown}
 use Rattle.fy_derive.specs.Shown.{total, shown, all_shown, Extends, AreIn}
-use Rattle.fy_derive.specs.Standing.{IsJudgedAs, AreJudgedAs, binder_shown, premise_shown, premises_shown, IsBinderIn}
-use Rattle.fy_derive.specs.Contexts.{bound_numbers}
+use Rattle.fy_derive.specs.Standing.{IsJudgedAs, AreJudgedAs}
 use Rattle.fy_derive.specs.Derivations.{PlainDerivation, PlainDerivations, alt, rule, count, nodes}
 use Rattle.fy_derive.specs.Reading.{plain_derivation, plain_derivations, derivation_step, derivations_step, derivations_from}
-use Rattle.fy_derive.specs.Rules.{premises, conclusion}
+use Rattle.fy_derive.specs.Rules.{first, premises, conclusion}
 use Rattle.fy_derive.specs.Judging.{under, alternative, if_form, Judged, concludes, stops, then_judge, then_others, AllJudged, one_stops, from_premises, judged, each_judged}
-use Rattle.fy_derive.proofs.Standings.{AreIn-kept, AreIn-cons, all_shown-kept}
+use Rattle.fy_derive.proofs.Standings.{all_shown-kept}
 use Rattle.fy_derive.proofs.JudgeLemmas.{rule_judged, rule_unfit}
 
-Alt-derivation : (d : Derivation) (i : ℕ) (b : Box Derivation Global) → d ≡ form.Alt i b → plain_derivation d ≡ alt i (plain_derivation b.value)
+pub Alt-derivation : (d : Derivation) (i : ℕ) (b : Box Derivation Global) → d ≡ form.Alt i b → plain_derivation d ≡ alt i (plain_derivation b.value)
 Alt-derivation d i b e = rw e (ap plain_derivation (sym (rolls-Alt i b)) ∙ fold-roll-Derivation PlainDerivation PlainDerivations derivation_step derivations_step (Derivation-F.Alt i b))
 
-Rule-derivation : (d : Derivation) (list : DerivationList) → d ≡ form.Rule list → plain_derivation d ≡ rule (plain_derivations list)
+pub Rule-derivation : (d : Derivation) (list : DerivationList) → d ≡ form.Rule list → plain_derivation d ≡ rule (plain_derivations list)
 Rule-derivation d list e = rw e (ap plain_derivation (sym (rolls-Rule list)) ∙ fold-roll-Derivation PlainDerivation PlainDerivations derivation_step derivations_step (Derivation-F.Rule list))
 
 -- an answer that stops, handed on
@@ -66,42 +64,46 @@ alt_step t u G H k d x i inner p b ty n j e f a more h s g w =
     ∙ (ap (λ ks. judged (plain_derivation x) (n + 1) (all_shown u ks) (reads b)) (sym g) ∙ w)))))
 
 -- a rule that has premises
-pub rule_step : (t u : TypeTable) (G : List ℕ) (d : Derivation) (list : DerivationList) (p : Phrase) (n : ℕ) (Ps : List Premise) (j : AllJudged) →
-    d ≡ form.Rule list → Some (premises_shown u Ps) ≡ premises (reads p) → count (plain_derivations list) ≡ length Ps → Extends t u → AreIn t G →
-    each_judged (plain_derivations list) (n + 1) (all_shown u G) (premises_shown u Ps) [] ≡ j →
-    judged (plain_derivation d) n (all_shown t G) (reads p) ≡ from_premises n j (conclusion (all_shown t G) (reads p))
-rule_step t u G d list p n Ps j e f l more h w =
-    ap (λ D. judged D n (all_shown t G) (reads p)) (Rule-derivation d list e)
-    ∙ rule_judged (plain_derivations list) n (all_shown t G) (reads p) (premises_shown u Ps) j (sym f) (l ∙ sym (length-map Ps (premise_shown u)))
-    (ap (λ As. each_judged (plain_derivations list) (n + 1) As (premises_shown u Ps) []) (sym (all_shown-kept G more h)) ∙ w)
-
-pub rule_misfit : (u : TypeTable) (G : List PlainType) (d : Derivation) (list : DerivationList) (p : Phrase) (n : ℕ) (Ps : List Premise) →
-    d ≡ form.Rule list → Some (premises_shown u Ps) ≡ premises (reads p) → count (plain_derivations list) ≢ length Ps →
-    judged (plain_derivation d) n G (reads p) ≡ stops n
-rule_misfit u G d list p n Ps e f l =
+pub rule_step : (G : List PlainType) (d : Derivation) (list : DerivationList) (p : Phrase) (n : ℕ) (Ps : List Premise) (j : AllJudged) →
+    d ≡ form.Rule list → Some (map premise_shown Ps) ≡ premises (reads p) → count (plain_derivations list) ≡ length Ps →
+    each_judged (plain_derivations list) (n + 1) G (map premise_shown Ps) [] ≡ j →
+    judged (plain_derivation d) n G (reads p) ≡ from_premises n j (conclusion G (reads p))
+rule_step G d list p n Ps j e f l w =
     ap (λ D. judged D n G (reads p)) (Rule-derivation d list e)
-    ∙ rule_unfit (plain_derivations list) n G (reads p) (premises_shown u Ps) (sym f) (λ g. l (g ∙ length-map Ps (premise_shown u)))
+    ∙ rule_judged (plain_derivations list) n G (reads p) (map premise_shown Ps) j (sym f) (l ∙ sym (length-map Ps premise_shown)) w
 
--- the context of a premise
-pub under-shown : (t u : TypeTable) (b : Binds) (ks G : List ℕ) → Extends t u → AreIn t G → IsBinderIn t b →
-    all_shown u (bound_numbers b ks G) ≡ under (binder_shown t b) (all_shown u ks) (all_shown t G)
-under-shown t u Nothing ks G e h b = all_shown-kept G e h
-under-shown t u First [] G e h b = all_shown-kept G e h
-under-shown t u First (k ∷ ks) G e h b = ap (λ As. shown u k ∷ As) (all_shown-kept G e h)
-under-shown t u (Given k) ks G e h b = ap (λ As. shown u k ∷ As) (all_shown-kept G e h) ∙ ap (λ A. A ∷ all_shown t G) (e.same k b)
+pub rule_misfit : (G : List PlainType) (d : Derivation) (list : DerivationList) (p : Phrase) (n : ℕ) (Ps : List Premise) →
+    d ≡ form.Rule list → Some (map premise_shown Ps) ≡ premises (reads p) → count (plain_derivations list) ≢ length Ps →
+    judged (plain_derivation d) n G (reads p) ≡ stops n
+rule_misfit G d list p n Ps e f l =
+    ap (λ D. judged D n G (reads p)) (Rule-derivation d list e)
+    ∙ rule_unfit (plain_derivations list) n G (reads p) (map premise_shown Ps) (sym f) (λ g. l (g ∙ length-map Ps premise_shown))
 
-pub under-in : (t u : TypeTable) (b : Binds) (ks G : List ℕ) → Extends t u → AreIn t G → IsBinderIn t b → AreIn u ks → AreIn u (bound_numbers b ks G)
-under-in t u Nothing ks G e h b d = AreIn-kept e h
-under-in t u First [] G e h b d = AreIn-kept e h
-under-in t u First (k ∷ ks) G e h b d = AreIn-cons k (All-head (λ k. k < total u) k ks d.below) (AreIn-kept e h)
-under-in t u (Given k) ks G e h b d = AreIn-cons k (omega (arith, e.more)) (AreIn-kept e h)
+-- the context of a premise under a variable of the first premise's type
+pub under-first : (t : TypeTable) (ks : List ℕ) (k : ℕ) (As : List PlainType) → Some k ≡ slice_get ks 0 → shown t k ∷ As ≡ under first (all_shown t ks) As
+under-first t [] k As e = absurd cc
+under-first t (j ∷ ks) k As e = let same : k ≡ j = cc in ap (λ i. shown t i ∷ As) same
+
+pub under-none : (t : TypeTable) (ks : List ℕ) (As : List PlainType) → None ≡ slice_get ks 0 → As ≡ under first (all_shown t ks) As
+under-none t [] As e = refl
+under-none t (j ∷ ks) As e = absurd cc
+
+pub first-in : (t : TypeTable) (ks : List ℕ) (k : ℕ) → Some k ≡ slice_get ks 0 → AreIn t ks → k < total t
+first-in t [] k e h = absurd cc
+first-in t (j ∷ ks) k e h = let same : k ≡ j = cc in subst (λ i. i < total t) (sym same) (All-head (λ i. i < total t) j ks h.below)
+
+-- the context of a premise, in a table that has grown since
+pub under-kept : (t u v : TypeTable) (b : Binder) (ks xs G H : List ℕ) → all_shown v H ≡ under b (all_shown u xs) (all_shown u G) → xs ≡ ks → Extends t u → AreIn t G →
+    all_shown v H ≡ under b (all_shown u ks) (all_shown t G)
+under-kept t u v b ks xs G H s e more h =
+    s ∙ (ap (λ ys. under b (all_shown u ys) (all_shown u G)) e ∙ ap (under b (all_shown u ks)) (all_shown-kept G more h))
 
 -- the next premise, and those after it
-pub each_step : (t : TypeTable) (items : List Derivation) (Ps : List Premise) (i n : ℕ) (x : Derivation) (P : Premise) (G As : List PlainType) →
+pub each_step : (items : List Derivation) (Ps : List Premise) (i n : ℕ) (x : Derivation) (P : Premise) (G As : List PlainType) →
     i < length items → x ≡ get_or items i x → i < length Ps → P ≡ get_or Ps i P →
-    each_judged (derivations_from (map plain_derivation (drop i items))) n G (premises_shown t (drop i Ps)) As
-    ≡ then_others (judged (plain_derivation x) n (under (binder_shown t P.binds) As G) (reads P.part.now))
-    (λ A. each_judged (derivations_from (map plain_derivation (drop (i + 1) items))) (n + nodes (plain_derivation x)) G (premises_shown t (drop (i + 1) Ps)) (As ++ A ∷ []))
-each_step t items Ps i n x P G As h e l f =
-    ap (λ ds. each_judged (derivations_from ds) n G (premises_shown t (drop i Ps)) As) (drop_item plain_derivation items i x h e)
-    ∙ ap (λ Qs. each_judged (derivations_from (plain_derivation x ∷ map plain_derivation (drop (i + 1) items))) n G Qs As) (drop_item (premise_shown t) Ps i P l f)
+    each_judged (derivations_from (map plain_derivation (drop i items))) n G (map premise_shown (drop i Ps)) As
+    ≡ then_others (judged (plain_derivation x) n (under (plain_binder P.binds) As G) (reads P.part.now))
+    (λ A. each_judged (derivations_from (map plain_derivation (drop (i + 1) items))) (n + nodes (plain_derivation x)) G (map premise_shown (drop (i + 1) Ps)) (As ++ A ∷ []))
+each_step items Ps i n x P G As h e l f =
+    ap (λ ds. each_judged (derivations_from ds) n G (map premise_shown (drop i Ps)) As) (drop_item plain_derivation items i x h e)
+    ∙ ap (λ Qs. each_judged (derivations_from (plain_derivation x ∷ map plain_derivation (drop (i + 1) items))) n G Qs As) (drop_item premise_shown Ps i P l f)

@@ -72,7 +72,7 @@ types_of-new xs n =
     ∙ get_or_push (types_of xs) (node_type (types_of xs) n) ns (length xs) (length-types_of xs)
 
 -- what holds below n and at n holds below n + 1
-old_or_last : (P : ℕ → Type 0) (n k : ℕ) → k < n + 1 → ((k < n) → P k) → (k ≡ n → P k) → P k
+pub old_or_last : (P : ℕ → Type 0) (n k : ℕ) → k < n + 1 → ((k < n) → P k) → (k ≡ n → P k) → P k
 old_or_last P n k h f g = elim (cases_lt k n) [ inl l ↦ f l | inr l ↦ g (omega arith) ]
 
 old_node : (xs : List TypeNode) (n : TypeNode) (k : ℕ) → k < length xs → node_at (xs ++ n ∷ []) k ≡ node_at xs k
@@ -99,11 +99,11 @@ IsTable-push xs n s r l new = record {
       h;
 }
 
-neither : (a b : Bool) → a || b ≡ false → (a ≡ false) × (b ≡ false)
+pub neither : (a b : Bool) → a || b ≡ false → (a ≡ false) × (b ≡ false)
 neither true b e = absurd cc
 neither false b e = (refl, e)
 
-true_not_false : true ≡ false → ⊥
+pub true_not_false : true ≡ false → ⊥
 true_not_false e = cc
 
 -- a node that the test finds nowhere is new

@@ -14,35 +14,35 @@ use Rattle.fy_derive.proofs.PathTyping.{World, paths_at, EachPath, EachPath-map,
 
 -- ---- each path of a list
 
-EachPath-append : (F : PlainPath → Type 0) (P Q : PlainPaths) → EachPath F P → EachPath F Q → EachPath F (append P Q)
+pub EachPath-append : (F : PlainPath → Type 0) (P Q : PlainPaths) → EachPath F P → EachPath F Q → EachPath F (append P Q)
 EachPath-append F no_paths Q each more = more
 EachPath-append F (and_path p P) Q each more = (each.0, EachPath-append F P Q each.1 more)
 
-EachPath-both : {F H K : PlainPath → Type 0} (P : PlainPaths) → ((p : PlainPath) → F p → H p → K p) → EachPath F P → EachPath H P → EachPath K P
+pub EachPath-both : {F H K : PlainPath → Type 0} (P : PlainPaths) → ((p : PlainPath) → F p → H p → K p) → EachPath F P → EachPath H P → EachPath K P
 EachPath-both no_paths f each more = tt
 EachPath-both (and_path p P) f each more = (f p each.0 more.0, EachPath-both P f each.1 more.1)
 
-EachPath-called : (F : PlainPath → Type 0) (D P : PlainPaths) → EachPath (λ R. F (call D R)) P → EachPath F (called D P)
+pub EachPath-called : (F : PlainPath → Type 0) (D P : PlainPaths) → EachPath (λ R. F (call D R)) P → EachPath F (called D P)
 EachPath-called F D no_paths each = tt
 EachPath-called F D (and_path p P) each = (each.0, EachPath-called F D P each.1)
 
-called-EachPath : (F : PlainPath → Type 0) (D P : PlainPaths) → EachPath F (called D P) → EachPath (λ R. F (call D R)) P
+pub called-EachPath : (F : PlainPath → Type 0) (D P : PlainPaths) → EachPath F (called D P) → EachPath (λ R. F (call D R)) P
 called-EachPath F D no_paths each = tt
 called-EachPath F D (and_path p P) each = (each.0, called-EachPath F D P each.1)
 
-EachPath-picked : (F : PlainPath → Type 0) (i : ℕ) (P : PlainPaths) → EachPath (λ R. F (pick i R)) P → EachPath F (picked i P)
+pub EachPath-picked : (F : PlainPath → Type 0) (i : ℕ) (P : PlainPaths) → EachPath (λ R. F (pick i R)) P → EachPath F (picked i P)
 EachPath-picked F i no_paths each = tt
 EachPath-picked F i (and_path p P) each = (each.0, EachPath-picked F i P each.1)
 
-picked-EachPath : (F : PlainPath → Type 0) (i : ℕ) (P : PlainPaths) → EachPath F (picked i P) → EachPath (λ R. F (pick i R)) P
+pub picked-EachPath : (F : PlainPath → Type 0) (i : ℕ) (P : PlainPaths) → EachPath F (picked i P) → EachPath (λ R. F (pick i R)) P
 picked-EachPath F i no_paths each = tt
 picked-EachPath F i (and_path p P) each = (each.0, picked-EachPath F i P each.1)
 
-EachPath-unit : (P : PlainPaths) → EachPath (λ R. Unit {0}) P
+pub EachPath-unit : (P : PlainPaths) → EachPath (λ R. Unit {0}) P
 EachPath-unit no_paths = tt
 EachPath-unit (and_path p P) = (tt, EachPath-unit P)
 
-not_true : (b : Bool) → not b ≡ true → b ≡ false
+pub not_true : (b : Bool) → not b ≡ true → b ≡ false
 not_true false e = refl
 not_true true e = absurd cc
 
@@ -65,7 +65,7 @@ EachPath-self P = EachPath-own P P (λ R some. some)
 abbrev pub variable_paths : List PlainType → List PlainPaths
 variable_paths G = map paths G
 
-paths_at-get : (G : List PlainType) (k : ℕ) (A : PlainType) → slice_get G k ≡ Some A → paths_at (variable_paths G) k ≡ paths A
+pub paths_at-get : (G : List PlainType) (k : ℕ) (A : PlainType) → slice_get G k ≡ Some A → paths_at (variable_paths G) k ≡ paths A
 paths_at-get [] k A e = absurd cc
 paths_at-get (B ∷ G) zero A e = let f : B ≡ A = cc in subst (λ C. paths B ≡ paths C) f refl
 paths_at-get (B ∷ G) (suc k) A e = paths_at-get G k A e

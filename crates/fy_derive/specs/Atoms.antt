@@ -1,4 +1,5 @@
 -- The atoms that the typing rules name.
+pub use Rattle.fy_phrase.specs.Premises.{data_atom, acceptor_atom, cell_type, sequence_type}
 use Rattle.std.specs.Prelude.{Bool, true, false}
 use Rattle.fy_base.specs.declared.data.Datum.{Datum}
 use Rattle.fy_base.specs.declared.data.Datum.TheVariants as datum
@@ -10,30 +11,8 @@ use Rattle.fy_base.specs.declared.data.PutKind.{PutKind}
 use Rattle.fy_base.specs.declared.data.PutKind.TheVariants as put_kind
 use Rattle.fy_types.specs.declared.types.Atom.{Atom}
 use Rattle.fy_types.specs.declared.types.Atom.TheVariants.{Int, Bool as Truth, Char, Comm, Compl, IntAcc, BoolAcc, CharAcc}
-use Rattle.fy_types.specs.Types.{PlainType, atom, arrow, field}
-use Rattle.fy_types.specs.Subtyping.{both_of}
 use Rattle.fy_phrase.specs.declared.phrase.DataTy.{DataTy}
 use Rattle.fy_phrase.specs.declared.phrase.DataTy.TheVariants as data_type
-
--- the data type, as an atom
-abbrev pub data_atom : DataTy → Atom
-data_atom data_type.Int = Int
-data_atom data_type.Bool = Truth
-data_atom data_type.Char = Char
-
--- the acceptor type of a data type
-abbrev pub acceptor_atom : DataTy → Atom
-acceptor_atom data_type.Int = IntAcc
-acceptor_atom data_type.Bool = BoolAcc
-acceptor_atom data_type.Char = CharAcc
-
--- the type of a cell's variable
-abbrev pub cell_type : DataTy → PlainType
-cell_type D = both_of (atom (data_atom D)) (atom (acceptor_atom D))
-
--- the type of a sequence's variable: a cell of integers for each index, and the length as the field `len`, whose name has the number 0
-abbrev pub sequence_type : PlainType
-sequence_type = both_of (arrow (atom Int) (cell_type data_type.Int)) (field 0 (atom Int))
 
 -- the data type of a datum
 abbrev pub datum_atom : Datum → Atom

@@ -1,4 +1,5 @@
 -- The typing rules as data: the premises of a form, and its conclusion from the context and its premises' types.
+pub use Rattle.fy_phrase.specs.Premises.{Binder, nothing, first, given, Premise, of_parts, premises}
 use Rattle.std.specs.Prelude.{ℕ, Bool, true, false, ◌&&◌, ◌||◌, ◌==◌, List, [], ◌∷◌, Option, Some, None, slice_get, if◌then◌else◌}
 use Rattle.fy_base.specs.declared.data.BinOp.{BinOp}
 use Rattle.fy_types.specs.declared.types.Atom.{Atom}
@@ -7,8 +8,8 @@ use Rattle.fy_types.specs.Types.{PlainType, PlainTypes, ns, atom, arrow, field a
 use Rattle.fy_types.specs.Once.{place}
 use Rattle.fy_phrase.specs.declared.phrase.DataTy.{DataTy}
 use Rattle.fy_phrase.specs.declared.phrase.DataTy.TheVariants as data_type
-use Rattle.fy_phrase.specs.Tree.{Tree, Trees, no_trees, and_tree, var, lit, unary, binary, cond, case, lam, app, field, sel, merge, let_in, rec, skip, seq, assign, while_do, forever, new, cells, escape, accept, put, read, mark}
-use Rattle.fy_derive.specs.Atoms.{data_atom, acceptor_atom, cell_type, sequence_type, datum_atom, operand_atom, unary_atom, takes, binary_atom, put_atom}
+use Rattle.fy_phrase.specs.Tree.{Tree, var, lit, unary, binary, cond, case, lam, app, field, sel, merge, let_in, rec, skip, seq, assign, while_do, forever, new, cells, escape, accept, put, read, mark}
+use Rattle.fy_derive.specs.Atoms.{data_atom, acceptor_atom, datum_atom, operand_atom, unary_atom, takes, binary_atom, put_atom}
 use Rattle.fy_derive.specs.Tables.{type_at}
 
 -- whether two types are the same tree
@@ -25,49 +26,6 @@ abbrev mutual
   same_types no_types no_types = true
   same_types (and_type A As) (and_type B Bs) = same_type A B && same_types As Bs
   same_types As Bs = false
-
--- what a premise's part is under: no binder, a variable of the first premise's type, or one of a type that is written
-pub data Binder : Type 0 where
-  nothing : Binder
-  first : Binder
-  given : PlainType → Binder
-
--- a premise is about a part of the phrase
-abbrev pub Premise : Type 0
-Premise = Binder × Tree
-
--- one premise for each part
-abbrev pub of_parts : Trees → List Premise
-of_parts no_trees = []
-of_parts (and_tree p ps) = (nothing, p) ∷ of_parts ps
-
--- the premises of a phrase's rule, in order; abstractions and merges have rules of their own, and marks have none
-abbrev pub premises : Tree → Option (List Premise)
-premises (var k at) = Some []
-premises (lit v at) = Some []
-premises (unary op p at) = Some ((nothing, p) ∷ [])
-premises (binary op p q at) = Some ((nothing, p) ∷ (nothing, q) ∷ [])
-premises (cond b p q at) = Some ((nothing, b) ∷ (nothing, p) ∷ (nothing, q) ∷ [])
-premises (case e parts at) = Some ((nothing, e) ∷ of_parts parts)
-premises (lam d As b at) = None
-premises (app p q at) = Some ((nothing, p) ∷ (nothing, q) ∷ [])
-premises (field i p at) = Some ((nothing, p) ∷ [])
-premises (sel p i at) = Some ((nothing, p) ∷ [])
-premises (merge p q at) = None
-premises (let_in d p b at) = Some ((nothing, p) ∷ (first, b) ∷ [])
-premises (rec d T b at) = Some ((given T, b) ∷ [])
-premises (skip at) = Some []
-premises (seq p q at) = Some ((nothing, p) ∷ (nothing, q) ∷ [])
-premises (assign p q at) = Some ((nothing, p) ∷ (nothing, q) ∷ [])
-premises (while_do b c at) = Some ((nothing, b) ∷ (nothing, c) ∷ [])
-premises (forever c at) = Some ((nothing, c) ∷ [])
-premises (new d D e b at) = Some ((nothing, e) ∷ (given (cell_type D), b) ∷ [])
-premises (cells d e b at) = Some ((nothing, e) ∷ (given sequence_type, b) ∷ [])
-premises (escape d b at) = Some ((given (atom Compl), b) ∷ [])
-premises (accept d D b at) = Some ((given (atom (data_atom D)), b) ∷ [])
-premises (put kind p at) = Some ((nothing, p) ∷ [])
-premises (read p at) = Some ((nothing, p) ∷ [])
-premises (mark m at) = None
 
 -- the type, if the test is passed
 abbrev pub provided : Bool → PlainType → Option PlainType

@@ -1,5 +1,5 @@
 -- Demand shapes: what the paths of concluded types ask of each node of a phrase, without the domains; and closed tables of them.
-use Rattle.std.specs.Prelude.{ℕ, ◌+◌, ◌*◌, ◌≡◌, Bool, true, false, ◌==◌, List, [], ◌∷◌, ◌++◌, Some}
+use Rattle.std.specs.Prelude.{ℕ, ◌+◌, ◌*◌, ◌≡◌, Bool, true, false, ◌==◌, List, [], ◌∷◌, ◌++◌, Some, map, unwrap_or}
 use Rattle.fy_base.specs.declared.data.Place.{Place}
 use Rattle.fy_base.specs.declared.data.UnOp.{UnOp}
 use Rattle.fy_base.specs.declared.data.BinOp.{BinOp}
@@ -13,7 +13,7 @@ use Rattle.fy_phrase.specs.Tree.{Tree, Trees, no_trees, and_tree, var, lit, unar
 use Rattle.fy_phrase.specs.Sizes.{nodes}
 use Rattle.fy_derive.specs.Derivations.{PlainDerivation, PlainDerivations, sub, meets, alt, left, right, rule, and_derivation}
 use Rattle.fy_derive.specs.Kinds.{Kind, of_call, of_field, of_assignment, kind_of}
-use Rattle.fy_derive.specs.Rules.{Premise, premises}
+use Rattle.fy_derive.specs.Rules.{Premise, premises, of_parts as parts_premises}
 use Rattle.fy_derive.specs.Judging.{judged, concludes, alternative, operands, under}
 
 pub data EndShape : Type 0 where
@@ -137,37 +137,18 @@ abbrev mutual
 abbrev pub table_words : Tree → ℕ → ℕ
 table_words p shapes = shapes * (4 + thunks p)
 
+-- what premises are about
+abbrev pub subjects : List Premise → List Tree
+subjects Ps = map (λ (P : Premise). P.1) Ps
+
 abbrev pub of_trees : Trees → List Tree
-of_trees no_trees = []
-of_trees (and_tree p ps) = p ∷ of_trees ps
+of_trees ps = subjects (parts_premises ps)
 
 -- the direct parts, in order
 abbrev pub parts_of : Tree → List Tree
-parts_of (var k at) = []
-parts_of (lit v at) = []
-parts_of (unary op p at) = p ∷ []
-parts_of (binary op p q at) = p ∷ q ∷ []
-parts_of (cond b p q at) = b ∷ p ∷ q ∷ []
-parts_of (case e parts at) = e ∷ of_trees parts
 parts_of (lam d As b at) = b ∷ []
-parts_of (app p q at) = p ∷ q ∷ []
-parts_of (field i p at) = p ∷ []
-parts_of (sel p i at) = p ∷ []
 parts_of (merge p q at) = p ∷ q ∷ []
-parts_of (let_in d p b at) = p ∷ b ∷ []
-parts_of (rec d T b at) = b ∷ []
-parts_of (skip at) = []
-parts_of (seq p q at) = p ∷ q ∷ []
-parts_of (assign p q at) = p ∷ q ∷ []
-parts_of (while_do b c at) = b ∷ c ∷ []
-parts_of (forever c at) = c ∷ []
-parts_of (new d D e b at) = e ∷ b ∷ []
-parts_of (cells d e b at) = e ∷ b ∷ []
-parts_of (escape d b at) = b ∷ []
-parts_of (accept d D b at) = b ∷ []
-parts_of (put kind p at) = p ∷ []
-parts_of (read p at) = p ∷ []
-parts_of (mark m at) = []
+parts_of p = subjects (unwrap_or (premises p) [])
 
 mutual
   -- q has the preorder number k in p, whose own number is m

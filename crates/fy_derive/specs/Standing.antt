@@ -1,18 +1,13 @@
 -- Answers in numbers of a table for answers in types.
-use Rattle.std.specs.Prelude.{ℕ, ◌<◌, ◌≡◌, List, map, All, Option, Some, None, Result, Ok, Err, Vec}
+use Rattle.std.specs.Prelude.{ℕ, ◌<◌, ◌≡◌, Option, Some, None, Result, Ok, Err, Vec}
 use Rattle.std.specs.declared.alloc.Global.{Global}
-use Rattle.fy_phrase.specs.Reads.{reads}
 use Rattle.fy_derive.specs.declared.table.TypeTable.{TypeTable}
 use Rattle.fy_derive.specs.declared.error.DeriveError.{DeriveError}
 use Rattle.fy_derive.specs.declared.error.DeriveError.TheVariants.{Wrong, OutOfMemory}
-use Rattle.fy_derive.specs.declared.premise.Binds.{Binds}
-use Rattle.fy_derive.specs.declared.premise.Binds.TheVariants.{Nothing, First, Given}
-use Rattle.fy_derive.specs.declared.premise.Premise.{Premise}
 use Rattle.fy_derive.specs.declared.kind.Demand.{Demand}
 use Rattle.fy_derive.specs.declared.kind.Demand.TheVariants as demand
 use Rattle.fy_derive.specs.Shown.{total, shown, all_shown, AreIn}
 use Rattle.fy_derive.specs.Kinds.{Kind, of_call, of_field, of_assignment}
-use Rattle.fy_derive.specs.Rules.{Binder, nothing, first, given, Premise as PlainPremise}
 use Rattle.fy_derive.specs.Judging.{Judged, concludes, stops, AllJudged, all_conclude, one_stops}
 
 -- the kind that a demand is
@@ -20,27 +15,6 @@ abbrev pub plain_kind : Demand → Kind
 plain_kind demand.Call = of_call
 plain_kind (demand.Field i) = of_field i
 plain_kind demand.Assignment = of_assignment
-
--- what a premise stands for
-abbrev pub binder_shown : TypeTable → Binds → Binder
-binder_shown t Nothing = nothing
-binder_shown t First = first
-binder_shown t (Given k) = given (shown t k)
-
-abbrev pub premise_shown : TypeTable → Premise → PlainPremise
-premise_shown t P = (binder_shown t P.binds, reads P.part.now)
-
-abbrev pub premises_shown : TypeTable → List Premise → List PlainPremise
-premises_shown t Ps = map (premise_shown t) Ps
-
--- a number that is bound is one of the table's
-abbrev pub IsBinderIn : TypeTable → Binds → Type 0
-IsBinderIn t Nothing = Unit {0}
-IsBinderIn t First = Unit {0}
-IsBinderIn t (Given k) = k < total t
-
-pub record ArePremisesIn (t : TypeTable) (Ps : List Premise) : Type 0 where
-  pub binders : All (λ P. IsBinderIn t P.binds) Ps
 
 -- the answer is what judging gives
 abbrev pub IsJudgedAs : TypeTable → Result ℕ DeriveError → Judged → Type 0

@@ -1,14 +1,15 @@
 //! Whether a derivation concludes that a phrase is a command.
 
-ghost use Rattle.std.specs.Prelude.{◌≡◌, ◌+◌, ◌^◌, ◌<◌, ◌≤◌, [], IfOk, OnOk, length};
+ghost use Rattle.std.specs.Prelude.{◌≡◌, ◌+◌, ◌^◌, ◌<◌, ◌≤◌, [], IfOk, OnOk, length, map};
 ghost use Rattle.fy_phrase.specs.Reads.{reads};
+ghost use Rattle.fy_phrase.specs.Premises.{premise_shown};
 ghost use Rattle.fy_types.specs.Reading.{plain_type};
 ghost use Rattle.fy_derive.specs.Contexts.{numbers};
 ghost use Rattle.fy_derive.specs.Derivations.{nodes, all_nodes, nesting, count, most_nodes, most_nesting};
 ghost use Rattle.fy_derive.specs.Judging.{judged as judged_type, each_judged, conclusion_of, in_scope, refusal, refusal_at};
 ghost use Rattle.fy_derive.specs.Reading.{plain_derivation, plain_derivations};
 ghost use Rattle.fy_derive.specs.Shown.{all_shown, AreIn, Extends};
-ghost use Rattle.fy_derive.specs.Standing.{premises_shown, ArePremisesIn, IsJudgedAs, AreJudgedAs, IsVerdict};
+ghost use Rattle.fy_derive.specs.Standing.{IsJudgedAs, AreJudgedAs, IsVerdict};
 
 use crate::below::is_below;
 use crate::context::{Context, under};
@@ -18,11 +19,10 @@ use crate::fits::same_as_written;
 use crate::kind::none_begins;
 use crate::node::TypeNode;
 use crate::parts::{alternative, operands};
-use crate::premise::{Premise, repeated, rule_premises};
 use crate::reading::{number_of_meet, number_of_type, numbers_in_scope};
 use crate::rules::conclusion;
 use crate::table::TypeTable;
-use fy_phrase::Phrase;
+use fy_phrase::{Phrase, Premise, premises_of, repeated};
 use fy_types::{Atom, Ty, TyList};
 use std::alloc::Global;
 
@@ -111,7 +111,7 @@ pub fn judge(
             if count < 2 {
                 return Err(DeriveError::Wrong(at));
             }
-            let premises = repeated(alloc, table, &*p, count)?;
+            let premises = repeated(alloc, &*p, count)?;
             let done = judge_each(alloc, table, next, list, &premises, context)?;
             let number = number_of_meet(table, &done)?;
             Ok(number)
@@ -144,7 +144,7 @@ pub fn judge(
             judge(alloc, table, next, inner, context, right)
         }
         Derivation::Rule(list) => {
-            let Some(premises) = rule_premises(alloc, table, &*p)? else {
+            let Some(premises) = premises_of(alloc, &*p)? else {
                 return Err(DeriveError::Wrong(at));
             };
             if list.len() != premises.len() {
@@ -170,11 +170,10 @@ pub fn judge_each(
     context: &Context<'_>,
 ) -> Result<Vec<usize>, DeriveError>
     requires context { AreIn table.old (numbers context.now) }
-    requires premises { ArePremisesIn table.old premises.now }
     requires all { length premises.now ≡ count (plain_derivations list.now) }
     requires room { next.old + all_nodes (plain_derivations list.now) < 2 ^ 32 }
     ensures judged { AreJudgedAs table.new result
-        (each_judged (plain_derivations list.now) next.old (all_shown table.old (numbers context.now)) (premises_shown table.old premises.now) []) }
+        (each_judged (plain_derivations list.now) next.old (all_shown table.old (numbers context.now)) (map premise_shown premises.now) []) }
     ensures length { IfOk result (λ v. length v.items ≡ length premises.now) }
     ensures next { OnOk result (next.new ≡ next.old + all_nodes (plain_derivations list.now)) }
     ensures extends { OnOk result (Extends table.old table.new) }
@@ -183,7 +182,7 @@ pub fn judge_each(
     let mut done = Vec::new(alloc);
     for i in 0..items.len() {
         let premise = &premises[i];
-        let inside = under(&*context, premise.binds, &done);
+        let inside = under(alloc, table, &*context, premise.binds, &done)?;
         let number = judge(alloc, table, next, &items[i], &inside, premise.part)?;
         done.push(number)?;
     }

@@ -33,28 +33,7 @@ pub fn demand_of(p: &Phrase) -> Option<Demand>
         Phrase::Lam(..) => Some(Demand::Call),
         Phrase::Field(name, _, _) => Some(Demand::Field(*name)),
         Phrase::Accept(..) => Some(Demand::Assignment),
-        Phrase::Var(..)
-        | Phrase::Lit(..)
-        | Phrase::Unary(..)
-        | Phrase::Binary(..)
-        | Phrase::Cond(..)
-        | Phrase::Case(..)
-        | Phrase::App(..)
-        | Phrase::Sel(..)
-        | Phrase::Merge(..)
-        | Phrase::LetIn(..)
-        | Phrase::Rec(..)
-        | Phrase::Skip(_)
-        | Phrase::Seq(..)
-        | Phrase::Assign(..)
-        | Phrase::WhileDo(..)
-        | Phrase::Forever(..)
-        | Phrase::New(..)
-        | Phrase::Cells(..)
-        | Phrase::Escape(..)
-        | Phrase::Put(..)
-        | Phrase::Read(..)
-        | Phrase::Mark(..) => None,
+        _ => None,
     }
 }
 

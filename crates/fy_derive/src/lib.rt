@@ -14,7 +14,6 @@ mod members;
 mod node;
 mod parts;
 mod placed;
-mod premise;
 mod print;
 mod reading;
 mod rules;
@@ -38,7 +37,6 @@ pub use laws::{
 pub use node::TypeNode;
 pub use parts::{alternative, operands};
 pub use placed::derivations_are_kept;
-pub use premise::{Binds, Premise, repeated, rule_premises};
 pub use print::print_derivation;
 pub use reading::number_of_type;
 pub use sizes::{nesting_of, nodes_of};

@@ -32,30 +32,7 @@ pub fn alternative(p: &Phrase, index: u32) -> Option<(&Ty, &Phrase)>
             Some(ty) => Some((ty, body)),
             None => None,
         },
-        Phrase::Var(..)
-        | Phrase::Lit(..)
-        | Phrase::Unary(..)
-        | Phrase::Binary(..)
-        | Phrase::Cond(..)
-        | Phrase::Case(..)
-        | Phrase::App(..)
-        | Phrase::Field(..)
-        | Phrase::Sel(..)
-        | Phrase::Merge(..)
-        | Phrase::LetIn(..)
-        | Phrase::Rec(..)
-        | Phrase::Skip(_)
-        | Phrase::Seq(..)
-        | Phrase::Assign(..)
-        | Phrase::WhileDo(..)
-        | Phrase::Forever(..)
-        | Phrase::New(..)
-        | Phrase::Cells(..)
-        | Phrase::Escape(..)
-        | Phrase::Accept(..)
-        | Phrase::Put(..)
-        | Phrase::Read(..)
-        | Phrase::Mark(..) => None,
+        _ => None,
     }
 }
 
@@ -68,29 +45,6 @@ pub fn operands(p: &Phrase) -> Option<(&Phrase, &Phrase, Demand)>
             Some(demand) => Some((left, right, demand)),
             None => None,
         },
-        Phrase::Var(..)
-        | Phrase::Lit(..)
-        | Phrase::Unary(..)
-        | Phrase::Binary(..)
-        | Phrase::Cond(..)
-        | Phrase::Case(..)
-        | Phrase::Lam(..)
-        | Phrase::App(..)
-        | Phrase::Field(..)
-        | Phrase::Sel(..)
-        | Phrase::LetIn(..)
-        | Phrase::Rec(..)
-        | Phrase::Skip(_)
-        | Phrase::Seq(..)
-        | Phrase::Assign(..)
-        | Phrase::WhileDo(..)
-        | Phrase::Forever(..)
-        | Phrase::New(..)
-        | Phrase::Cells(..)
-        | Phrase::Escape(..)
-        | Phrase::Accept(..)
-        | Phrase::Put(..)
-        | Phrase::Read(..)
-        | Phrase::Mark(..) => None,
+        _ => None,
     }
 }

@@ -10,19 +10,20 @@ use Rattle.fy_phrase.specs.Tree.{Tree}
 use Rattle.fy_phrase.specs.Reads.{reads}
 use Rattle.fy_derive.specs.declared.derivation.Derivation as form
 use Rattle.fy_derive.specs.declared.derivation.Derivation.{Derivation, Derivation-F, fold-roll-Derivation, size-Derivation}
-use Rattle.fy_derive.specs.declared.derivation.Derivation.TheVariants.{rolls-Sub, rolls-Meet, rolls-Alt, rolls-Left, rolls-Right, rolls-Rule}
+use Rattle.fy_derive.specs.declared.derivation.Derivation.TheVariants.{rolls-Sub, rolls-Meet, rolls-Left, rolls-Right}
 use Rattle.fy_derive.specs.declared.derivation.DerivationList.{DerivationList, size-DerivationList}
 use Rattle.fy_derive.specs.declared.table.TypeTable.{TypeTable}
-use Rattle.fy_derive.specs.declared.premise.Premise.{Premise}
+use Rattle.fy_phrase.specs.declared.premise.Premise.{Premise}
+use Rattle.fy_phrase.specs.Premises.{plain_binder, premise_shown}
 use Rattle.fy_derive.specs.Derivations.{PlainDerivation, PlainDerivations, sub, meets, alt, left, right, rule, count, nodes, all_nodes}
 use Rattle.fy_derive.specs.Reading.{plain_derivation, plain_derivations, derivation_step, derivations_step, derivations_from}
 use Rattle.fy_derive.specs.Shown.{total, shown, all_shown, Extends, AreIn}
-use Rattle.fy_derive.specs.Standing.{binder_shown, premise_shown, premises_shown}
 use Rattle.fy_derive.specs.Kinds.{Kind}
 use Rattle.fy_derive.specs.Rules.{nothing, premises, same_type}
 use Rattle.fy_derive.specs.Rules.{Premise as PlainPremise}
 use Rattle.fy_derive.specs.Judging.{concludes, stops, all_conclude, one_stops, judged, each_judged, alternative, operands, under}
 use Rattle.fy_derive.proofs.Standings.{all_shown-kept}
+pub use Rattle.fy_derive.proofs.StepLemmas.{Alt-derivation, Rule-derivation}
 use Rattle.fy_reasons.specs.Reasons.{Reason, Stop, stop_at, no_alternative_of, other_form, other_count, few_parts, not_below, taken_right, other_types, no_command, judged_so, each_so, refused_whole, reason_of}
 use Rattle.fy_reasons.specs.Reasons as so
 use Rattle.fy_reasons.specs.declared.reasons.Why.{Why}
@@ -36,17 +37,11 @@ Sub-derivation d T b e = rw e (ap plain_derivation (sym (rolls-Sub T b)) ∙ fol
 pub Meet-derivation : (d : Derivation) (list : DerivationList) → d ≡ form.Meet list → plain_derivation d ≡ meets (plain_derivations list)
 Meet-derivation d list e = rw e (ap plain_derivation (sym (rolls-Meet list)) ∙ fold-roll-Derivation PlainDerivation PlainDerivations derivation_step derivations_step (Derivation-F.Meet list))
 
-pub Alt-derivation : (d : Derivation) (i : ℕ) (b : Box Derivation Global) → d ≡ form.Alt i b → plain_derivation d ≡ alt i (plain_derivation b.value)
-Alt-derivation d i b e = rw e (ap plain_derivation (sym (rolls-Alt i b)) ∙ fold-roll-Derivation PlainDerivation PlainDerivations derivation_step derivations_step (Derivation-F.Alt i b))
-
 pub Left-derivation : (d : Derivation) (b : Box Derivation Global) → d ≡ form.Left b → plain_derivation d ≡ left (plain_derivation b.value)
 Left-derivation d b e = rw e (ap plain_derivation (sym (rolls-Left b)) ∙ fold-roll-Derivation PlainDerivation PlainDerivations derivation_step derivations_step (Derivation-F.Left b))
 
 pub Right-derivation : (d : Derivation) (b : Box Derivation Global) → d ≡ form.Right b → plain_derivation d ≡ right (plain_derivation b.value)
 Right-derivation d b e = rw e (ap plain_derivation (sym (rolls-Right b)) ∙ fold-roll-Derivation PlainDerivation PlainDerivations derivation_step derivations_step (Derivation-F.Right b))
-
-pub Rule-derivation : (d : Derivation) (list : DerivationList) → d ≡ form.Rule list → plain_derivation d ≡ rule (plain_derivations list)
-Rule-derivation d list e = rw e (ap plain_derivation (sym (rolls-Rule list)) ∙ fold-roll-Derivation PlainDerivation PlainDerivations derivation_step derivations_step (Derivation-F.Rule list))
 
 -- what stands below a node is less deep
 pub alt_size : (d x : Derivation) (i : ℕ) (b : Box Derivation Global) → d ≡ form.Alt i b → x ≡ b.value → size-Derivation x < size-Derivation d
@@ -135,30 +130,27 @@ right_so d x b n G p q r k s e f o h =
     ∙ right-so (plain_derivation b.value) n G p q r k s (sym o) (sym (ap (λ y. judged_so (plain_derivation y) (n + 1) G r) f) ∙ h)
 
 -- a rule that has premises
-pub rule_inner : (t u : TypeTable) (G : List ℕ) (d : Derivation) (list : DerivationList) (n w : ℕ) (p : Tree) (Ps : List PlainPremise) → d ≡ form.Rule list →
-    Some Ps ≡ premises p → count (plain_derivations list) ≡ length Ps → Extends t u → AreIn t G →
-    judged (plain_derivation d) n (all_shown t G) p ≡ stops w → w ≢ n → each_judged (plain_derivations list) (n + 1) (all_shown u G) Ps [] ≡ one_stops w
-rule_inner t u G d list n w p Ps e o l more i h a =
-    ap (λ As. each_judged (plain_derivations list) (n + 1) As Ps []) (all_shown-kept G more i)
-    ∙ rule-inner (plain_derivations list) n w (all_shown t G) p Ps (sym o) l (sym (ap (λ D. judged D n (all_shown t G) p) (Rule-derivation d list e)) ∙ h) a
+pub rule_inner : (G : List PlainType) (d : Derivation) (list : DerivationList) (n w : ℕ) (p : Tree) (Ps : List PlainPremise) → d ≡ form.Rule list →
+    Some Ps ≡ premises p → count (plain_derivations list) ≡ length Ps → judged (plain_derivation d) n G p ≡ stops w → w ≢ n →
+    each_judged (plain_derivations list) (n + 1) G Ps [] ≡ one_stops w
+rule_inner G d list n w p Ps e o l h a =
+    rule-inner (plain_derivations list) n w G p Ps (sym o) l (sym (ap (λ D. judged D n G p) (Rule-derivation d list e)) ∙ h) a
 
-pub rule_so : (t u : TypeTable) (G : List ℕ) (d : Derivation) (list : DerivationList) (n : ℕ) (p : Tree) (Ps : List PlainPremise) (s : Stop) → d ≡ form.Rule list →
-    Some Ps ≡ premises p → count (plain_derivations list) ≡ length Ps → Extends t u → AreIn t G →
-    each_so (plain_derivations list) (n + 1) (all_shown u G) Ps [] ≡ so.one_stops s → judged_so (plain_derivation d) n (all_shown t G) p ≡ so.stops s
-rule_so t u G d list n p Ps s e o l more i h =
-    ap (λ D. judged_so D n (all_shown t G) p) (Rule-derivation d list e)
-    ∙ rule-so (plain_derivations list) n (all_shown t G) p Ps s (sym o) l
-    (sym (ap (λ As. each_so (plain_derivations list) (n + 1) As Ps []) (all_shown-kept G more i)) ∙ h)
+pub rule_so : (G : List PlainType) (d : Derivation) (list : DerivationList) (n : ℕ) (p : Tree) (Ps : List PlainPremise) (s : Stop) → d ≡ form.Rule list →
+    Some Ps ≡ premises p → count (plain_derivations list) ≡ length Ps → each_so (plain_derivations list) (n + 1) G Ps [] ≡ so.one_stops s →
+    judged_so (plain_derivation d) n G p ≡ so.stops s
+rule_so G d list n p Ps s e o l h =
+    ap (λ D. judged_so D n G p) (Rule-derivation d list e) ∙ rule-so (plain_derivations list) n G p Ps s (sym o) l h
 
 -- the next premise, and those after it
-pub each_so_step : (t : TypeTable) (items : List Derivation) (Ps : List Premise) (i n : ℕ) (x : Derivation) (P : Premise) (G As : List PlainType) →
+pub each_so_step : (items : List Derivation) (Ps : List Premise) (i n : ℕ) (x : Derivation) (P : Premise) (G As : List PlainType) →
     i < length items → x ≡ get_or items i x → i < length Ps → P ≡ get_or Ps i P →
-    each_so (derivations_from (map plain_derivation (drop i items))) n G (premises_shown t (drop i Ps)) As
-    ≡ so.then_others (judged_so (plain_derivation x) n (under (binder_shown t P.binds) As G) (reads P.part.now))
-    (λ A. each_so (derivations_from (map plain_derivation (drop (i + 1) items))) (n + nodes (plain_derivation x)) G (premises_shown t (drop (i + 1) Ps)) (As ++ A ∷ []))
-each_so_step t items Ps i n x P G As h e l f =
-    ap (λ ds. each_so (derivations_from ds) n G (premises_shown t (drop i Ps)) As) (drop_item plain_derivation items i x h e)
-    ∙ ap (λ Qs. each_so (derivations_from (plain_derivation x ∷ map plain_derivation (drop (i + 1) items))) n G Qs As) (drop_item (premise_shown t) Ps i P l f)
+    each_so (derivations_from (map plain_derivation (drop i items))) n G (map premise_shown (drop i Ps)) As
+    ≡ so.then_others (judged_so (plain_derivation x) n (under (plain_binder P.binds) As G) (reads P.part.now))
+    (λ A. each_so (derivations_from (map plain_derivation (drop (i + 1) items))) (n + nodes (plain_derivation x)) G (map premise_shown (drop (i + 1) Ps)) (As ++ A ∷ []))
+each_so_step items Ps i n x P G As h e l f =
+    ap (λ ds. each_so (derivations_from ds) n G (map premise_shown (drop i Ps)) As) (drop_item plain_derivation items i x h e)
+    ∙ ap (λ Qs. each_so (derivations_from (plain_derivation x ∷ map plain_derivation (drop (i + 1) items))) n G Qs As) (drop_item premise_shown Ps i P l f)
 
 -- the reason of the node itself
 own_at : (d : Derivation) (D : PlainDerivation) (n : ℕ) (G : List PlainType) (p : Tree) (why : Reason) → plain_derivation d ≡ D →
@@ -215,15 +207,13 @@ pub rule_count : (d : Derivation) (list : DerivationList) (n : ℕ) (G : List Pl
 rule_count d list n G p Ps e o l =
     own_at d (rule (plain_derivations list)) n G p other_count (Rule-derivation d list e) (rule-count (plain_derivations list) n G p Ps (sym o) l)
 
-pub rule_own : (t u : TypeTable) (G : List ℕ) (d : Derivation) (list : DerivationList) (n : ℕ) (p : Tree) (Ps : List PlainPremise) (As : List PlainType) →
-    d ≡ form.Rule list → Some Ps ≡ premises p → count (plain_derivations list) ≡ length Ps → Extends t u → AreIn t G →
-    each_judged (plain_derivations list) (n + 1) (all_shown u G) Ps [] ≡ all_conclude As → judged (plain_derivation d) n (all_shown t G) p ≡ stops n →
-    judged_so (plain_derivation d) n (all_shown t G) p ≡ so.stops (stop_at n (plain_derivation d) (all_shown t G) p (other_types As))
-rule_own t u G d list n p Ps As e o l more i j h =
-    own_at d (rule (plain_derivations list)) n (all_shown t G) p (other_types As) (Rule-derivation d list e)
-    (rule-own (plain_derivations list) n (all_shown t G) p Ps As (sym o) l
-    (sym (ap (λ Bs. each_judged (plain_derivations list) (n + 1) Bs Ps []) (all_shown-kept G more i)) ∙ j)
-    (sym (ap (λ X. judged X n (all_shown t G) p) (Rule-derivation d list e)) ∙ h))
+pub rule_own : (G : List PlainType) (d : Derivation) (list : DerivationList) (n : ℕ) (p : Tree) (Ps : List PlainPremise) (As : List PlainType) →
+    d ≡ form.Rule list → Some Ps ≡ premises p → count (plain_derivations list) ≡ length Ps →
+    each_judged (plain_derivations list) (n + 1) G Ps [] ≡ all_conclude As → judged (plain_derivation d) n G p ≡ stops n →
+    judged_so (plain_derivation d) n G p ≡ so.stops (stop_at n (plain_derivation d) G p (other_types As))
+rule_own G d list n p Ps As e o l j h =
+    own_at d (rule (plain_derivations list)) n G p (other_types As) (Rule-derivation d list e)
+    (rule-own (plain_derivations list) n G p Ps As (sym o) l j (sym (ap (λ X. judged X n G p) (Rule-derivation d list e)) ∙ h))
 
 -- a stop, from what it is made of
 pub stop-made : (t u : TypeTable) (G : List ℕ) (s : Stopped) (n : ℕ) (D : PlainDerivation) (p : Tree) (w : Why) → Extends t u → AreIn t G →

@@ -1,22 +1,22 @@
 //! Why judging stops.
 
-ghost use Rattle.std.specs.Prelude.{◌≡◌, ◌+◌, ◌^◌, ◌<◌, ◌≤◌, [], IfOk, IfSome, OnOk, if◌then◌else◌, length, option_map};
+ghost use Rattle.std.specs.Prelude.{◌≡◌, ◌+◌, ◌^◌, ◌<◌, ◌≤◌, [], IfOk, IfSome, OnOk, if◌then◌else◌, length, map, option_map};
 ghost use Rattle.fy_phrase.specs.Reads.{reads};
+ghost use Rattle.fy_phrase.specs.Premises.{premise_shown};
 ghost use Rattle.fy_derive.specs.Contexts.{numbers};
 ghost use Rattle.fy_derive.specs.Derivations.{nodes, all_nodes, nesting, count, most_nodes, most_nesting};
 ghost use Rattle.fy_derive.specs.Judging.{judged as judged_type, each_judged, stops, one_stops};
 ghost use Rattle.fy_derive.specs.Reading.{plain_derivation, plain_derivations};
 ghost use Rattle.fy_reasons.specs.Reasons.{Forgets, no_alternative, no_alternative_of, other_form, judged_so, each_so, reason_of, stops as stops_so, one_stops as one_stops_so};
 ghost use Rattle.fy_derive.specs.Shown.{all_shown, AreIn, Extends};
-ghost use Rattle.fy_derive.specs.Standing.{premises_shown, ArePremisesIn};
 ghost use Rattle.fy_reasons.specs.Stopping.{OwnStop, stop_read, IsStopIn, IsWhyIn};
 
 use fy_base::OutOfMemory;
 use fy_derive::{
-    Context, Derivation, DerivationList, DeriveError, Premise, TypeTable, alternative, is_atom,
-    judge, judge_each, nodes_of, number_of_type, operands, repeated, rule_premises, under,
+    Context, Derivation, DerivationList, DeriveError, TypeTable, alternative, is_atom, judge,
+    judge_each, nodes_of, number_of_type, operands, under,
 };
-use fy_phrase::Phrase;
+use fy_phrase::{Phrase, Premise, premises_of, repeated};
 use fy_types::Atom;
 use std::alloc::Global;
 
@@ -112,7 +112,7 @@ fn stop_in<'a>(
         Derivation::Ns => Err(DeriveError::Wrong(wrong)),
         Derivation::Sub(_, inner) => stop_in(alloc, table, wrong, at + 1, inner, context, p),
         Derivation::Meet(list) => {
-            let premises = repeated(alloc, table, p, list.len())?;
+            let premises = repeated(alloc, p, list.len())?;
             stop_among(alloc, table, wrong, at + 1, list, &premises, context)
         }
         Derivation::Alt(index, inner) => {
@@ -136,7 +136,7 @@ fn stop_in<'a>(
             stop_in(alloc, table, wrong, at + 1, inner, context, right)
         }
         Derivation::Rule(list) => {
-            let Some(premises) = rule_premises(alloc, table, p)? else {
+            let Some(premises) = premises_of(alloc, p)? else {
                 return Err(DeriveError::Wrong(wrong));
             };
             if list.len() != premises.len() {
@@ -159,11 +159,10 @@ fn stop_among<'a>(
     context: &Context<'_>,
 ) -> Result<Stopped<'a>, DeriveError>
     requires context { AreIn table.old (numbers context.now) }
-    requires premises { ArePremisesIn table.old premises.now }
     requires all { length premises.now ≡ count (plain_derivations list.now) }
     requires room { at + all_nodes (plain_derivations list.now) < 2 ^ 32 }
-    requires wrong { each_judged (plain_derivations list.now) at (all_shown table.old (numbers context.now)) (premises_shown table.old premises.now) [] ≡ one_stops wrong }
-    ensures stop { IfOk result (λ s. each_so (plain_derivations list.now) at (all_shown table.old (numbers context.now)) (premises_shown table.old premises.now) []
+    requires wrong { each_judged (plain_derivations list.now) at (all_shown table.old (numbers context.now)) (map premise_shown premises.now) [] ≡ one_stops wrong }
+    ensures stop { IfOk result (λ s. each_so (plain_derivations list.now) at (all_shown table.old (numbers context.now)) (map premise_shown premises.now) []
         ≡ one_stops_so (stop_read table.new s)) }
     ensures within { IfOk result (IsStopIn table.new) }
 {
@@ -173,7 +172,7 @@ fn stop_among<'a>(
     for i in 0..items.len() {
         let premise = &premises[i];
         let item = &items[i];
-        let inside = under(&*context, premise.binds, &done);
+        let inside = under(alloc, table, &*context, premise.binds, &done)?;
         if wrong < next + nodes_of(item) {
             return stop_in(alloc, table, wrong, next, item, &inside, premise.part);
         }
@@ -235,7 +234,7 @@ fn own_reason(
             Some(_) => Err(DeriveError::Wrong(at)),
             None => Ok(Why::OtherForm),
         },
-        Derivation::Rule(list) => match rule_premises(alloc, table, &*p)? {
+        Derivation::Rule(list) => match premises_of(alloc, &*p)? {
             None => Ok(Why::OtherForm),
             Some(premises) => {
                 if list.len() != premises.len() {
@@ -254,30 +253,7 @@ fn is_abstraction(p: &Phrase) -> bool
 {
     match p {
         Phrase::Lam(..) => true,
-        Phrase::Var(..)
-        | Phrase::Lit(..)
-        | Phrase::Unary(..)
-        | Phrase::Binary(..)
-        | Phrase::Cond(..)
-        | Phrase::Case(..)
-        | Phrase::App(..)
-        | Phrase::Field(..)
-        | Phrase::Sel(..)
-        | Phrase::Merge(..)
-        | Phrase::LetIn(..)
-        | Phrase::Rec(..)
-        | Phrase::Skip(_)
-        | Phrase::Seq(..)
-        | Phrase::Assign(..)
-        | Phrase::WhileDo(..)
-        | Phrase::Forever(..)
-        | Phrase::New(..)
-        | Phrase::Cells(..)
-        | Phrase::Escape(..)
-        | Phrase::Accept(..)
-        | Phrase::Put(..)
-        | Phrase::Read(..)
-        | Phrase::Mark(..) => false,
+        _ => false,
     }
 }
 

@@ -1,22 +1,23 @@
-use Rattle.std.proofs.Common.{◌≡◌, ◌≢◌, ◌+◌, ◌<◌, [], length, get_or, ℕ, List, ◌∷◌, ◌++◌, map, drop, sym, ap, ◌∙◌, subst, arith, refl, Some, IfSome, option_map}
+use Rattle.std.proofs.Common.{◌≡◌, ◌≢◌, ◌+◌, ◌<◌, [], length, ℕ, List, ◌∷◌, ◌++◌, map, drop, sym, ap, ◌∙◌, subst, arith, refl, Some, option_map}
 use Rattle.std.proofs.lemmas.List.{length-map}
 use Rattle.std.proofs.lemmas.Result.{IfOk-weaker}
 use Rattle.fy_types.specs.Types.{PlainType}
 use Rattle.fy_types.specs.Reading.{plain_type}
 use Rattle.fy_types.proofs.Steps.{drop_item}
 use Rattle.fy_phrase.specs.Reads.{reads}
+use Rattle.fy_phrase.specs.Premises.{plain_binder, premise_shown}
 use Rattle.fy_derive.specs.Derivations.{nodes, all_nodes, count}
 use Rattle.fy_derive.specs.Reading.{plain_derivation, plain_derivations, derivations_from}
 use Rattle.fy_derive.specs.Rules.{premises}
-use Rattle.fy_derive.specs.Judging.{under, judged, each_judged, concludes, stops, one_stops, AllJudged, then_others, alternative, operands}
+use Rattle.fy_derive.specs.Judging.{under, judged, each_judged, concludes, stops, one_stops, AllJudged, then_others, operands}
 use Rattle.fy_derive.specs.Shown.{AreIn, total, shown, all_shown}
-use Rattle.fy_derive.specs.Standing.{plain_kind, binder_shown, premise_shown, premises_shown, IsBinderIn, ArePremisesIn}
-use Rattle.fy_derive.specs.Contexts.{numbers, bound_numbers}
-use Rattle.fy_derive.proofs.Standings.{Extends-trans, AreIn-kept, AreIn-push, AreIn-cons, all_shown-push, all_shown-kept}
+use Rattle.fy_derive.specs.Standing.{plain_kind}
+use Rattle.fy_derive.specs.Contexts.{numbers}
+use Rattle.fy_derive.proofs.Standings.{Extends-trans, AreIn-kept, AreIn-push, AreIn-cons, all_shown-push}
 use Rattle.fy_derive.proofs.ContextLemmas.{numbers-under}
 use Rattle.fy_derive.proofs.ReadLemmas.{count-in}
 use Rattle.fy_derive.proofs.DerivationSizes.{member_size}
-use Rattle.fy_derive.proofs.StepLemmas.{under-shown, under-in, each_step}
+use Rattle.fy_derive.proofs.StepLemmas.{under-kept, each_step}
 use Rattle.fy_reasons.specs.Reasons.{AllReasoned, judged_so, each_so}
 use Rattle.fy_reasons.specs.Reasons as so
 use Rattle.fy_reasons.specs.Stopping.{stop_read}
@@ -28,6 +29,12 @@ pub stop_among-bounds-premises-i : goal.stop_among-bounds-premises-i
 stop_among-bounds-premises-i t c =
     omega (arith, c.requires.all, count-in c.args.list.now, ap length c.as_slice-items.ensures.members, c.loop-i-test.true)
 
+pub stop_among-under-requires-clause-context : goal.stop_among-under-requires-clause-context
+stop_among-under-requires-clause-context t c = AreIn-kept c.loop-i.invariant.extends c.requires.context
+
+pub stop_among-under-requires-clause-done : goal.stop_among-under-requires-clause-done
+stop_among-under-requires-clause-done t c = subst (λ ks. AreIn c.loop-i.table ks) (sym c.deref.ensures.value) c.loop-i.invariant.within
+
 pub stop_among-stop_in-requires : goal.stop_among-stop_in-requires
 stop_among-stop_in-requires t c =
     let inv = c.loop-i.invariant in
@@ -37,33 +44,26 @@ stop_among-stop_in-requires t c =
     let x = c.index-items-i.result in
     let here : c.loop-i.i < length c.args.premises.now =
     omega (arith, c.requires.all, count-in c.args.list.now, ap length c.as_slice-items.ensures.members, c.loop-i-test.true) in
-    let binder : IsBinderIn c.args.table.now P.binds =
-    subst (λ Q. IsBinderIn c.args.table.now Q.binds) (sym c.index-premises-i.is) (c.requires.premises.binders c.loop-i.i P here) in
-    let bound : numbers c.under-inside.result ≡ bound_numbers P.binds c.loop-i.done.items G =
-    c.under-inside.ensures ∙ ap (λ ks. bound_numbers P.binds ks G) c.deref.ensures.value in
-    let context : all_shown c.loop-i.table (numbers c.under-inside.result)
-    ≡ under (binder_shown c.args.table.now P.binds) (all_shown c.loop-i.table c.loop-i.done.items) (all_shown c.args.table.now G) =
-    ap (all_shown c.loop-i.table) bound
-    ∙ under-shown c.args.table.now c.loop-i.table P.binds c.loop-i.done.items G inv.extends c.requires.context binder in
+    let context = under-kept c.args.table.now c.loop-i.table c.under.new.table (plain_binder P.binds) c.loop-i.done.items c.deref.result.now G (numbers c.in_ok-inside.inside)
+    c.in_ok-inside.ensures.shown c.deref.ensures.value inv.extends c.requires.context in
     let left : all_nodes (derivations_from (map plain_derivation (drop c.loop-i.i items)))
     ≡ nodes (plain_derivation x) + all_nodes (derivations_from (map plain_derivation (drop (c.loop-i.i + 1) items))) =
     ap (λ ds. all_nodes (derivations_from ds)) (drop_item plain_derivation items c.loop-i.i x c.loop-i-test.true c.index-items-i.is) in
     let deep = member_size c.args.list.now c.loop-i.i x
     (rw c.as_slice-items.ensures.members at c.loop-i-test.true) (rw c.as_slice-items.ensures.members at c.index-items-i.is) in
-    let whole : then_others (judged (plain_derivation x) c.loop-i.next (under (binder_shown c.args.table.now P.binds) (all_shown c.loop-i.table c.loop-i.done.items) (all_shown c.args.table.now G)) (reads P.part.now))
+    let whole : then_others (judged (plain_derivation x) c.loop-i.next (under (plain_binder P.binds) (all_shown c.loop-i.table c.loop-i.done.items) (all_shown c.args.table.now G)) (reads P.part.now))
     (λ A. each_judged (derivations_from (map plain_derivation (drop (c.loop-i.i + 1) items))) (c.loop-i.next + nodes (plain_derivation x)) (all_shown c.args.table.now G)
-    (premises_shown c.args.table.now (drop (c.loop-i.i + 1) c.args.premises.now)) (all_shown c.loop-i.table c.loop-i.done.items ++ A ∷ [])) ≡ one_stops c.args.wrong =
-    sym (each_step c.args.table.now items c.args.premises.now c.loop-i.i c.loop-i.next x P
+    (map premise_shown (drop (c.loop-i.i + 1) c.args.premises.now)) (all_shown c.loop-i.table c.loop-i.done.items ++ A ∷ [])) ≡ one_stops c.args.wrong =
+    sym (each_step items c.args.premises.now c.loop-i.i c.loop-i.next x P
     (all_shown c.args.table.now G) (all_shown c.loop-i.table c.loop-i.done.items) c.loop-i-test.true c.index-items-i.is here c.index-premises-i.is) ∙ inv.judged in (
       omega (arith, deep, c.decreases),
       (
-        subst (λ ks. AreIn c.loop-i.table ks) (sym bound)
-            (under-in c.args.table.now c.loop-i.table P.binds c.loop-i.done.items G inv.extends c.requires.context binder inv.within),
+        c.in_ok-inside.ensures.within,
         (
           omega (arith, left, inv.next, c.requires.room),
           ap (λ As. judged (plain_derivation x) c.loop-i.next As (reads P.part.now)) context
               ∙ stops-here (plain_derivation x) (derivations_from (map plain_derivation (drop (c.loop-i.i + 1) items))) c.loop-i.next c.args.wrong (all_shown c.args.table.now G)
-              (premise_shown c.args.table.now P) (premises_shown c.args.table.now (drop (c.loop-i.i + 1) c.args.premises.now)) (all_shown c.loop-i.table c.loop-i.done.items)
+              (premise_shown P) (map premise_shown (drop (c.loop-i.i + 1) c.args.premises.now)) (all_shown c.loop-i.table c.loop-i.done.items)
               whole (omega (arith, c.if-wrong-next.true, c.nodes_of.ensures)),
         ),
       ),
@@ -78,34 +78,16 @@ stop_among-returns-then-wrong-next-clause-stop t c =
     let x = c.index-items-i.result in
     let here : c.loop-i.i < length c.args.premises.now =
     omega (arith, c.requires.all, count-in c.args.list.now, ap length c.as_slice-items.ensures.members, c.loop-i-test.true) in
-    let binder : IsBinderIn c.args.table.now P.binds =
-    subst (λ Q. IsBinderIn c.args.table.now Q.binds) (sym c.index-premises-i.is) (c.requires.premises.binders c.loop-i.i P here) in
-    let context : all_shown c.loop-i.table (numbers c.under-inside.result)
-    ≡ under (binder_shown c.args.table.now P.binds) (all_shown c.loop-i.table c.loop-i.done.items) (all_shown c.args.table.now G) =
-    ap (all_shown c.loop-i.table) (c.under-inside.ensures ∙ ap (λ ks. bound_numbers P.binds ks G) c.deref.ensures.value)
-    ∙ under-shown c.args.table.now c.loop-i.table P.binds c.loop-i.done.items G inv.extends c.requires.context binder in
+    let context = under-kept c.args.table.now c.loop-i.table c.under.new.table (plain_binder P.binds) c.loop-i.done.items c.deref.result.now G (numbers c.in_ok-inside.inside)
+    c.in_ok-inside.ensures.shown c.deref.ensures.value inv.extends c.requires.context in
     IfOk-weaker c.stop_in.result _ _
     (λ s h. sym inv.reasoned
-    ∙ (each_so_step c.args.table.now items c.args.premises.now c.loop-i.i c.loop-i.next x P
+    ∙ (each_so_step items c.args.premises.now c.loop-i.i c.loop-i.next x P
     (all_shown c.args.table.now G) (all_shown c.loop-i.table c.loop-i.done.items) c.loop-i-test.true c.index-items-i.is here c.index-premises-i.is
     ∙ ap (λ z. so.then_others z (λ A. each_so (derivations_from (map plain_derivation (drop (c.loop-i.i + 1) items))) (c.loop-i.next + nodes (plain_derivation x)) (all_shown c.args.table.now G)
-    (premises_shown c.args.table.now (drop (c.loop-i.i + 1) c.args.premises.now)) (all_shown c.loop-i.table c.loop-i.done.items ++ A ∷ [])))
+    (map premise_shown (drop (c.loop-i.i + 1) c.args.premises.now)) (all_shown c.loop-i.table c.loop-i.done.items ++ A ∷ [])))
     (ap (λ As. judged_so (plain_derivation x) c.loop-i.next As (reads P.part.now)) (sym context) ∙ h)))
     c.stop_in.ensures.stop
-
-pub stop_among-judge-requires-clause-context : goal.stop_among-judge-requires-clause-context
-stop_among-judge-requires-clause-context t c =
-    let inv = c.loop-i.invariant in
-    let G = numbers c.args.context.now in
-    let P = c.index-premises-i.result in
-    let here : c.loop-i.i < length c.args.premises.now =
-    omega (arith, c.requires.all, count-in c.args.list.now, ap length c.as_slice-items.ensures.members, c.loop-i-test.true) in
-    let binder : IsBinderIn c.args.table.now P.binds =
-    subst (λ Q. IsBinderIn c.args.table.now Q.binds) (sym c.index-premises-i.is) (c.requires.premises.binders c.loop-i.i P here) in
-    let bound : numbers c.under-inside.result ≡ bound_numbers P.binds c.loop-i.done.items G =
-    c.under-inside.ensures ∙ ap (λ ks. bound_numbers P.binds ks G) c.deref.ensures.value in
-    subst (λ ks. AreIn c.loop-i.table ks) (sym bound)
-    (under-in c.args.table.now c.loop-i.table P.binds c.loop-i.done.items G inv.extends c.requires.context binder inv.within)
 
 pub stop_among-loop-i-preserved : goal.stop_among-loop-i-preserved
 stop_among-loop-i-preserved t c =
@@ -119,43 +101,40 @@ stop_among-loop-i-preserved t c =
     let old = all_shown c.loop-i.table c.loop-i.done.items in
     let here : c.loop-i.i < length c.args.premises.now =
     omega (arith, c.requires.all, count-in c.args.list.now, ap length c.as_slice-items.ensures.members, c.loop-i-test.true) in
-    let binder : IsBinderIn c.args.table.now P.binds =
-    subst (λ Q. IsBinderIn c.args.table.now Q.binds) (sym c.index-premises-i.is) (c.requires.premises.binders c.loop-i.i P here) in
-    let context : all_shown c.loop-i.table (numbers c.under-inside.result)
-    ≡ under (binder_shown c.args.table.now P.binds) (all_shown c.loop-i.table c.loop-i.done.items) (all_shown c.args.table.now G) =
-    ap (all_shown c.loop-i.table) (c.under-inside.ensures ∙ ap (λ ks. bound_numbers P.binds ks G) c.deref.ensures.value)
-    ∙ under-shown c.args.table.now c.loop-i.table P.binds c.loop-i.done.items G inv.extends c.requires.context binder in
+    let context = under-kept c.args.table.now c.loop-i.table c.under.new.table (plain_binder P.binds) c.loop-i.done.items c.deref.result.now G (numbers c.in_ok-inside.inside)
+    c.in_ok-inside.ensures.shown c.deref.ensures.value inv.extends c.requires.context in
     let left : all_nodes (derivations_from (map plain_derivation (drop c.loop-i.i items)))
     ≡ nodes (plain_derivation x) + all_nodes (derivations_from (map plain_derivation (drop (c.loop-i.i + 1) items))) =
     ap (λ ds. all_nodes (derivations_from ds)) (drop_item plain_derivation items c.loop-i.i x c.loop-i-test.true c.index-items-i.is) in
     let A : PlainType = shown c.judge.new.table c.in_ok-number.number in
-    let concluded : judged (plain_derivation x) n (under (binder_shown c.args.table.now P.binds) old (all_shown c.args.table.now G)) (reads P.part.now) ≡ concludes A =
+    let concluded : judged (plain_derivation x) n (under (plain_binder P.binds) old (all_shown c.args.table.now G)) (reads P.part.now) ≡ concludes A =
     ap (λ As. judged (plain_derivation x) n As (reads P.part.now)) (sym context) ∙ one.judged.1 in
+    let more = Extends-trans c.in_ok-inside.ensures.extends one.extends in
     let grown : all_shown c.judge.new.table c.push.new.self.items ≡ old ++ A ∷ [] =
-    all_shown-push c.loop-i.done.items c.push.new.self.items c.in_ok-number.number A one.extends inv.within c.in_ok-push.ensures.items refl in
+    all_shown-push c.loop-i.done.items c.push.new.self.items c.in_ok-number.number A more inv.within c.in_ok-push.ensures.items refl in
     let rest : ℕ → List PlainType → AllJudged = λ k As. each_judged (derivations_from (map plain_derivation (drop (c.loop-i.i + 1) items))) k (all_shown c.args.table.now G)
-    (premises_shown c.args.table.now (drop (c.loop-i.i + 1) c.args.premises.now)) As in
+    (map premise_shown (drop (c.loop-i.i + 1) c.args.premises.now)) As in
     let rest_so : ℕ → List PlainType → AllReasoned = λ k As. each_so (derivations_from (map plain_derivation (drop (c.loop-i.i + 1) items))) k (all_shown c.args.table.now G)
-    (premises_shown c.args.table.now (drop (c.loop-i.i + 1) c.args.premises.now)) As in
+    (map premise_shown (drop (c.loop-i.i + 1) c.args.premises.now)) As in
     record {
       within = subst (λ ks. AreIn c.judge.new.table ks) (sym c.in_ok-push.ensures.items)
-          (AreIn-push c.in_ok-number.number (AreIn-kept one.extends inv.within) one.judged.0);
+          (AreIn-push c.in_ok-number.number (AreIn-kept more inv.within) one.judged.0);
       next = omega (arith, left, inv.next, one.next);
-      extends = Extends-trans inv.extends one.extends;
+      extends = Extends-trans inv.extends more;
       judged =
           ap (λ k. rest k (all_shown c.judge.new.table c.push.new.self.items)) one.next
           ∙ (ap (rest (n + nodes (plain_derivation x))) grown
-          ∙ (sym (each_step c.args.table.now items c.args.premises.now c.loop-i.i n x P
+          ∙ (sym (each_step items c.args.premises.now c.loop-i.i n x P
           (all_shown c.args.table.now G) old c.loop-i-test.true c.index-items-i.is here c.index-premises-i.is
           ∙ ap (λ z. then_others z (λ B. rest (n + nodes (plain_derivation x)) (old ++ B ∷ []))) concluded)
           ∙ inv.judged));
       reasoned =
           ap (λ k. rest_so k (all_shown c.judge.new.table c.push.new.self.items)) one.next
           ∙ (ap (rest_so (n + nodes (plain_derivation x))) grown
-          ∙ (sym (each_so_step c.args.table.now items c.args.premises.now c.loop-i.i n x P
+          ∙ (sym (each_so_step items c.args.premises.now c.loop-i.i n x P
           (all_shown c.args.table.now G) old c.loop-i-test.true c.index-items-i.is here c.index-premises-i.is
           ∙ ap (λ z. so.then_others z (λ B. rest_so (n + nodes (plain_derivation x)) (old ++ B ∷ [])))
-          (so-concludes (plain_derivation x) n (under (binder_shown c.args.table.now P.binds) old (all_shown c.args.table.now G)) (reads P.part.now) A concluded))
+          (so-concludes (plain_derivation x) n (under (plain_binder P.binds) old (all_shown c.args.table.now G)) (reads P.part.now) A concluded))
           ∙ inv.reasoned));
     }
 
@@ -202,28 +181,22 @@ stop_in-stop_in-requires-in-Left t c =
 
 pub stop_in-stop_among-requires-in-Rule : goal.stop_in-stop_among-requires-in-Rule
 stop_in-stop_among-requires-in-Rule t c =
-    let u = c.rule_premises.new.table in
     let xs = c.deref-in-Rule.result.now in
-    let more = c.in_ok-premises-in-Rule.ensures.extends in
     let fit : count (plain_derivations c.in-Rule.list) ≡ length xs =
     sym c.len-in-Rule.ensures ∙ (c.if-len.false ∙ (c.len-in-Rule-2.ensures ∙ sym c.deref-in-Rule.ensures.len)) in
-    let asked : Some (premises_shown u xs) ≡ premises (reads c.args.p.now) =
-    ap (λ ys. Some (premises_shown u ys)) c.deref-in-Rule.ensures.value
-    ∙ subst (λ o. option_map (λ v. premises_shown u v.items) o ≡ premises (reads c.args.p.now)) c.in-Some-2.is c.in_ok-premises-in-Rule.ensures.shown in
+    let asked : Some (map premise_shown xs) ≡ premises (reads c.args.p.now) =
+    ap (λ ys. Some (map premise_shown ys)) c.deref-in-Rule.ensures.value
+    ∙ subst (λ o. option_map (λ v. map premise_shown v.items) o ≡ premises (reads c.args.p.now)) c.in-Some-2.is c.in_ok-premises-in-Rule.ensures in
     let size : nodes (plain_derivation c.args.d.now) ≡ 1 + all_nodes (plain_derivations c.in-Rule.list) = ap nodes (Rule-derivation c.args.d.now c.in-Rule.list c.in-Rule.is) in (
       omega (arith, rule_size c.args.d.now c.in-Rule.list c.in-Rule.is, c.decreases),
       (
-        AreIn-kept more c.requires.context,
+        c.requires.context,
         (
-          subst (λ ys. ArePremisesIn u ys) (sym c.deref-in-Rule.ensures.value)
-              (subst (λ o. IfSome o (λ v. ArePremisesIn u v.items)) c.in-Some-2.is c.in_ok-premises-in-Rule.ensures.within),
+          sym fit,
           (
-            sym fit,
-            (
-              omega (arith, size, c.requires.room),
-              rule_inner c.args.table.now u (numbers c.args.context.now) c.args.d.now c.in-Rule.list c.args.at c.args.wrong (reads c.args.p.now) (premises_shown u xs)
-                  c.in-Rule.is asked (fit ∙ sym (length-map xs (premise_shown u))) more c.requires.context c.requires.wrong c.if-wrong-at.false,
-            ),
+            omega (arith, size, c.requires.room),
+            rule_inner (all_shown c.args.table.now (numbers c.args.context.now)) c.args.d.now c.in-Rule.list c.args.at c.args.wrong (reads c.args.p.now) (map premise_shown xs)
+                c.in-Rule.is asked (fit ∙ sym (length-map xs premise_shown)) c.requires.wrong c.if-wrong-at.false,
           ),
         ),
       ),
@@ -240,15 +213,13 @@ stop_in-returns-in_ok-domain-in-Alt-clause-stop t c =
 
 pub stop_in-returns-else-len-clause-stop : goal.stop_in-returns-else-len-clause-stop
 stop_in-returns-else-len-clause-stop t c =
-    let u = c.rule_premises.new.table in
     let xs = c.deref-in-Rule.result.now in
-    let more = c.in_ok-premises-in-Rule.ensures.extends in
     let fit : count (plain_derivations c.in-Rule.list) ≡ length xs =
     sym c.len-in-Rule.ensures ∙ (c.if-len.false ∙ (c.len-in-Rule-2.ensures ∙ sym c.deref-in-Rule.ensures.len)) in
-    let asked : Some (premises_shown u xs) ≡ premises (reads c.args.p.now) =
-    ap (λ ys. Some (premises_shown u ys)) c.deref-in-Rule.ensures.value
-    ∙ subst (λ o. option_map (λ v. premises_shown u v.items) o ≡ premises (reads c.args.p.now)) c.in-Some-2.is c.in_ok-premises-in-Rule.ensures.shown in
+    let asked : Some (map premise_shown xs) ≡ premises (reads c.args.p.now) =
+    ap (λ ys. Some (map premise_shown ys)) c.deref-in-Rule.ensures.value
+    ∙ subst (λ o. option_map (λ v. map premise_shown v.items) o ≡ premises (reads c.args.p.now)) c.in-Some-2.is c.in_ok-premises-in-Rule.ensures in
     IfOk-weaker c.stop_among-in-Rule.result _ _
-    (λ s h. rule_so c.args.table.now u (numbers c.args.context.now) c.args.d.now c.in-Rule.list c.args.at (reads c.args.p.now) (premises_shown u xs)
-    (stop_read c.stop_among-in-Rule.new.table s) c.in-Rule.is asked (fit ∙ sym (length-map xs (premise_shown u))) more c.requires.context h)
+    (λ s h. rule_so (all_shown c.args.table.now (numbers c.args.context.now)) c.args.d.now c.in-Rule.list c.args.at (reads c.args.p.now) (map premise_shown xs)
+    (stop_read c.stop_among-in-Rule.new.table s) c.in-Rule.is asked (fit ∙ sym (length-map xs premise_shown)) h)
     c.stop_among-in-Rule.ensures.stop
