@@ -17,9 +17,9 @@ use Rattle.pe_shapes.specs.declared.numbers.ShapeNumbers.{ShapeNumbers}
 use Rattle.pe_shapes.specs.Finding.{IsFound, Adds, NoPair, IsWalkStop, IsRecording, IsWalk}
 use Rattle.pe_shapes.specs.Numbering.{in_front}
 use Rattle.std.proofs.lemmas.List.{length-map}
-use Rattle.pe_shapes.specs.declared.parts.Part.{Part}
-use Rattle.pe_shapes.specs.Contexts.{part_shown}
-use Rattle.pe_shapes.specs.Parts.{bound_parts, merged}
+use Rattle.fy_phrase.specs.declared.premise.Premise.{Premise as PremiseValue}
+use Rattle.fy_phrase.specs.Premises.{merged, premise_shown}
+use Rattle.pe_shapes.specs.Parts.{bound_parts}
 use Rattle.pe_shapes.specs.Shown.{all_shown, Extends}
 use Rattle.pe_shapes.specs.Standing.{HasShape, AreJust, IsStop}
 use Rattle.pe_shapes.proofs.FoundLemmas.{Adds-none, stop-inside, stop-own}
@@ -252,37 +252,37 @@ rule-own-stop a D ds m G p A z e own j =
     stop-own a (HasPair D m G p) m A z (own-pair j) (own x)
 
 -- the premises, as parts that were made
-asked-made : (ds : PlainDerivations) (G : List PlainType) (p : Tree) (A : PlainType) (Ps : List Part) → map part_shown Ps ≡ bound_parts p → (x : IsRule ds G p A) → map part_shown Ps ≡ x.asked
+asked-made : (ds : PlainDerivations) (G : List PlainType) (p : Tree) (A : PlainType) (Ps : List PremiseValue) → map premise_shown Ps ≡ bound_parts p → (x : IsRule ds G p A) → map premise_shown Ps ≡ x.asked
 asked-made ds G p A Ps made x = premises-made Ps p x.asked made x.are
 
-pub rule-misfit : (D : PlainDerivation) (ds : PlainDerivations) (G : List PlainType) (p : Tree) (A : PlainType) (Ps : List Part) → D ≡ rule ds → map part_shown Ps ≡ bound_parts p →
+pub rule-misfit : (D : PlainDerivation) (ds : PlainDerivations) (G : List PlainType) (p : Tree) (A : PlainType) (Ps : List PremiseValue) → D ≡ rule ds → map premise_shown Ps ≡ bound_parts p →
     count ds ≢ length Ps → judged D 0 G p ≡ concludes A → ⊥
 rule-misfit D ds G p A Ps e made apart j =
     let x = rule-read ds G p A (subst (λ X. judged X 0 G p ≡ concludes A) e j) in
-    apart (x.many ∙ (sym (ap length (asked-made ds G p A Ps made x)) ∙ length-map Ps part_shown))
+    apart (x.many ∙ (sym (ap length (asked-made ds G p A Ps made x)) ∙ length-map Ps premise_shown))
 
-pub rule-each-stop : (a : Found) (D : PlainDerivation) (ds : PlainDerivations) (m : ℕ) (G : List PlainType) (p : Tree) (A : PlainType) (Ps : List Part) (z : ShapeError) → D ≡ rule ds →
-    map part_shown Ps ≡ bound_parts p →
-    ((As : List PlainType) (n : ℕ) → each_judged ds n G (map part_shown Ps) [] ≡ all_conclude As → IsWalkStop z a (PremiseHasPair ds (m + 1) G (map part_shown Ps) [])) →
+pub rule-each-stop : (a : Found) (D : PlainDerivation) (ds : PlainDerivations) (m : ℕ) (G : List PlainType) (p : Tree) (A : PlainType) (Ps : List PremiseValue) (z : ShapeError) → D ≡ rule ds →
+    map premise_shown Ps ≡ bound_parts p →
+    ((As : List PlainType) (n : ℕ) → each_judged ds n G (map premise_shown Ps) [] ≡ all_conclude As → IsWalkStop z a (PremiseHasPair ds (m + 1) G (map premise_shown Ps) [])) →
     judged D 0 G p ≡ concludes A → IsWalkStop z a (HasPair D m G p)
 rule-each-stop a D ds m G p A Ps z e made walk j =
     rule-stop a D ds m G p A z e
     (λ x. let same = asked-made ds G p A Ps made x in
     subst (λ Qs. IsWalkStop z a (PremiseHasPair ds (m + 1) G Qs [])) same (walk x.types 1 (subst (λ Qs. each_judged ds 1 G Qs [] ≡ all_conclude x.types) (sym same) x.judges))) j
 
-pub rule-each-own : (a : Found) (D : PlainDerivation) (ds : PlainDerivations) (m : ℕ) (G : List PlainType) (p : Tree) (A : PlainType) (Ps : List Part) (z : ShapeError) → D ≡ rule ds →
-    map part_shown Ps ≡ bound_parts p →
-    ((As : List PlainType) (n : ℕ) → each_judged ds n G (map part_shown Ps) [] ≡ all_conclude As → conclusion G p As ≡ Some A → IsStop z (HasShape A)) →
+pub rule-each-own : (a : Found) (D : PlainDerivation) (ds : PlainDerivations) (m : ℕ) (G : List PlainType) (p : Tree) (A : PlainType) (Ps : List PremiseValue) (z : ShapeError) → D ≡ rule ds →
+    map premise_shown Ps ≡ bound_parts p →
+    ((As : List PlainType) (n : ℕ) → each_judged ds n G (map premise_shown Ps) [] ≡ all_conclude As → conclusion G p As ≡ Some A → IsStop z (HasShape A)) →
     judged D 0 G p ≡ concludes A → IsWalkStop z a (HasPair D m G p)
 rule-each-own a D ds m G p A Ps z e made own j =
     rule-own-stop a D ds m G p A z e
     (λ x. own x.types 1 (subst (λ Qs. each_judged ds 1 G Qs [] ≡ all_conclude x.types) (sym (asked-made ds G p A Ps made x)) x.judges) x.concluded) j
 
 pub rule-each-arm : (r : Result (Vec ℕ Global) ShapeError) (a b c : Found) (t : ShapeNumbers) (D : PlainDerivation) (ds : PlainDerivations) (m : ℕ) (G : List PlainType) (p : Tree)
-    (A : PlainType) (Ps : List Part) (ks : List ℕ) → D ≡ rule ds → map part_shown Ps ≡ bound_parts p →
-    ((As : List PlainType) (n : ℕ) → each_judged ds n G (map part_shown Ps) [] ≡ all_conclude As → Adds a b (PremiseHasPair ds (m + 1) G (map part_shown Ps) []) NoPair) →
+    (A : PlainType) (Ps : List PremiseValue) (ks : List ℕ) → D ≡ rule ds → map premise_shown Ps ≡ bound_parts p →
+    ((As : List PlainType) (n : ℕ) → each_judged ds n G (map premise_shown Ps) [] ≡ all_conclude As → Adds a b (PremiseHasPair ds (m + 1) G (map premise_shown Ps) []) NoPair) →
     judged D 0 G p ≡ concludes A → Extends b.numbers t → IsFound b →
-    ((As : List PlainType) (n : ℕ) → each_judged ds n G (map part_shown Ps) [] ≡ all_conclude As → conclusion G p As ≡ Some A → AreJust (all_shown t ks) A) →
+    ((As : List PlainType) (n : ℕ) → each_judged ds n G (map premise_shown Ps) [] ≡ all_conclude As → conclusion G p As ≡ Some A → AreJust (all_shown t ks) A) →
     IsRecording r (record b { numbers = t }) c m (all_shown t ks) → IfOk r (λ v. v.items ≡ ks) → IfOk r (λ v. c.numbers ≡ t) → IsWalk r a c A (HasPair D m G p)
 rule-each-arm r a b c t D ds m G p A Ps ks e made walk j more s just rec same numbers =
     rule-arm r a b c t D ds m G p A ks e j

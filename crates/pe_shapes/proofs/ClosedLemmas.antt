@@ -1,19 +1,19 @@
 -- The shape table of a derivation is closed: a pair's node stands in the phrase, and what its form passes is in the table. A pair of a
 -- rule's own conclusion is found again in what the rule's premises conclude; each other pair stands in a part.
-use Rattle.std.proofs.Common.{ℕ, ◌+◌, ◌≡◌, Bool, true, false, if◌then◌else◌, List, [], ◌∷◌, Option, option_map, Some, None, IfSome, refl, sym, ap, ◌∙◌, subst}
+use Rattle.std.proofs.Common.{ℕ, ◌+◌, ◌≡◌, Bool, true, false, if◌then◌else◌, List, [], Some, None, IfSome, refl, sym, ap, ◌∙◌, subst}
 use Rattle.fy_types.specs.declared.types.Atom.TheVariants.{Comm}
 use Rattle.fy_types.specs.Types.{PlainType, atom}
 use Rattle.fy_types.specs.Paths.{PlainPath, end, paths}
-use Rattle.fy_phrase.specs.Tree.{Tree, Trees, no_trees, and_tree, case, lam, merge, mark}
-use Rattle.fy_derive.specs.Kinds.{Kind, kind_of}
+use Rattle.fy_phrase.specs.Tree.{Tree, lam}
 use Rattle.fy_derive.specs.Derivations.{PlainDerivation, PlainDerivations, alt, left, right, rule}
-use Rattle.fy_derive.specs.Rules.{Premise, premises, of_parts as parts_premises, is_atom}
-use Rattle.fy_derive.specs.Judging.{Judged, concludes, stops, member, alternative, operands, judged, conclusion_of, refusal}
-use Rattle.fy_derive.specs.Shapes.{PlainShape, erase, HasPath, first_path, HasPair, own, in_sub, in_meet, in_alt, in_left, in_right, in_rule, OneHasPair, this_one, other_one, PremiseHasPair, this_premise, later_premise, shape_begins, of_trees, parts_of, IsNodeAt, itself, in_part, IsNodeAmong, in_first, in_later, Passes}
+use Rattle.fy_derive.specs.Rules.{Premise, is_atom}
+use Rattle.fy_derive.specs.Judging.{Judged, concludes, stops, alternative, operands, judged, conclusion_of, refusal}
+use Rattle.fy_derive.specs.Shapes.{PlainShape, erase, HasPath, first_path, HasPair, own, in_sub, in_meet, in_alt, in_left, in_right, in_rule, OneHasPair, this_one, other_one, PremiseHasPair, this_premise, later_premise, shape_begins, IsNodeAt, itself, in_part, IsNodeAmong, in_first, in_later, Passes, subjects}
+use Rattle.fy_derive.proofs.PartLemmas.{alternative-parts, operands-parts, rule-parts}
 use Rattle.fy_derive.proofs.RuleLemmas.{same_type-true}
 use Rattle.pe_shapes.specs.Closed.{ShapeTablesAreClosed}
 use Rattle.pe_shapes.proofs.NodeNumbers.{one-node}
-use Rattle.pe_shapes.proofs.JudgedLemmas.{some_same, ArePremisesJudged, rule-inner, alt-inner, left-inner, right-inner}
+use Rattle.pe_shapes.proofs.JudgedLemmas.{ArePremisesJudged, rule-inner, alt-inner, left-inner, right-inner}
 use Rattle.pe_shapes.proofs.RuleBelow.{erase-below, path-called, IsRuleBelow, this_alt, this_left, this_right, this_rule, below_sub, below_meet, IsRuleAmong, below_this, below_other, rule-below}
 use Rattle.pe_shapes.proofs.FormPasses.{asked, rule-passes, lam-passes, left-passes, right-passes, erase-begins, clear-begins, operands-kind, right-begins}
 
@@ -71,43 +71,6 @@ pub own-passed : (d : PlainDerivation) (G : List PlainType) (p : Tree) (A : Plai
 own-passed d G p A P e among pass =
     let r = rule-below d e among in
     below-passed r.stands G p r.concluded r.path r.so r.among (erase-below r.low) pass
-
--- ---- the parts
-
-alternative-parts : (i : ℕ) (p : Tree) (x : PlainType × Tree) → alternative i p ≡ Some x → parts_of p ≡ x.1 ∷ []
-alternative-parts i (lam d As b at) x e = by (member As i) e
-  where
-    by : (o : Option PlainType) → option_map {U = PlainType × Tree} (λ A. (A, b)) o ≡ Some x → b ∷ [] ≡ x.1 ∷ []
-    by None f = absurd cc
-    by (Some A) f = ap (λ y. y.1 ∷ []) (some_same f)
-alternative-parts i p x e = absurd cc
-
-operands-parts : (p : Tree) (x : Tree × Tree × Kind) → operands p ≡ Some x → parts_of p ≡ x.0 ∷ x.1 ∷ []
-operands-parts (merge q r at) x e = by (kind_of r) e
-  where
-    by : (o : Option Kind) → option_map {U = Tree × Tree × Kind} (λ k. (q, r, k)) o ≡ Some x → q ∷ r ∷ [] ≡ x.0 ∷ x.1 ∷ []
-    by None f = absurd cc
-    by (Some k) f = ap (λ y. y.0 ∷ y.1 ∷ []) (some_same f)
-operands-parts p x e = absurd cc
-
--- the parts that premises are about
-abbrev subjects : List Premise → List Tree
-subjects [] = []
-subjects (P ∷ Ps) = P.1 ∷ subjects Ps
-
-subjects-parts : (ps : Trees) → of_trees ps ≡ subjects (parts_premises ps)
-subjects-parts no_trees = refl
-subjects-parts (and_tree p ps) = ap (λ qs. p ∷ qs) (subjects-parts ps)
-
-premises-parts : (p : Tree) → IfSome (premises p) (λ Ps. parts_of p ≡ subjects Ps)
-premises-parts (case e parts at) = ap (λ qs. e ∷ qs) (subjects-parts parts)
-premises-parts (lam d As b at) = tt
-premises-parts (merge p q at) = tt
-premises-parts (mark m at) = tt
-premises-parts p = refl
-
-rule-parts : (p : Tree) (Ps : List Premise) → premises p ≡ Some Ps → parts_of p ≡ subjects Ps
-rule-parts p Ps e = subst (λ o. IfSome o (λ Qs. parts_of p ≡ subjects Qs)) e (premises-parts p)
 
 -- ---- each pair
 

@@ -1,5 +1,5 @@
 -- What a form passes to its parts its premises conclude: from the path of a rule's conclusion, one form at a time.
-use Rattle.std.proofs.Common.{ℕ, ◌+◌, ◌≡◌, Bool, true, false, not, ◌&&◌, ◌||◌, eqb, eqb-true, eq-eqb, List, [], ◌∷◌, Option, option_map, Some, None, IfSome, refl, sym, ap, ◌∙◌, subst}
+use Rattle.std.proofs.Common.{ℕ, ◌+◌, ◌≡◌, true, false, not, ◌&&◌, ◌||◌, eqb, eqb-true, eq-eqb, List, [], ◌∷◌, Option, option_map, Some, None, IfSome, refl, sym, ap, ◌∙◌, subst}
 use Rattle.fy_base.specs.declared.data.Place.{Place}
 use Rattle.fy_base.specs.declared.data.UnOp.{UnOp}
 use Rattle.fy_base.specs.declared.data.UnOp.TheVariants.{Neg}
@@ -25,7 +25,7 @@ use Rattle.fy_derive.specs.Shapes.{EndShape, a_value, an_assignment, a_run, Plai
 use Rattle.fy_derive.proofs.SubsumptionLemmas.{or_cases}
 use Rattle.fy_derive.proofs.RuleLemmas.{same_type-true}
 use Rattle.fy_derive.proofs.PathTyping.{World, EachPath, Answers}
-use Rattle.fy_derive.proofs.TypedAnswers.{variable_paths, typed-answers}
+use Rattle.fy_derive.proofs.TypedAnswers.{variable_paths, typed-answers, not_true}
 use Rattle.fy_derive.proofs.SoundLemmas.{judged-sound}
 use Rattle.pe_shapes.proofs.JudgedLemmas.{some_same, provided-inner, ArePremisesJudged, and_judged}
 use Rattle.pe_shapes.proofs.RuleBelow.{called-path, picked-path, path-picked}
@@ -277,10 +277,6 @@ erase-begins of_assignment (end a) = acceptor-begins a
 erase-begins of_call (call D q) = refl
 erase-begins (of_field i) (pick j q) = refl
 erase-begins k q = refl
-
-not_true : (b : Bool) → not b ≡ true → b ≡ false
-not_true false e = refl
-not_true true e = absurd cc
 
 pub clear-begins : (k : Kind) {P : PlainPaths} {q : PlainPath} → HasPath P q → none_begins k P ≡ true → begins k q ≡ false
 clear-begins k (first_path {p = p} {P = P}) e = not_true (begins k p) (both_true (not (begins k p)) (none_begins k P) e).0

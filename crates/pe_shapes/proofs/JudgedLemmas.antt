@@ -10,9 +10,7 @@ use Rattle.fy_derive.specs.Subsumption.{is_below}
 use Rattle.fy_derive.specs.Rules.{nothing, Premise, premises, provided, conclusion}
 use Rattle.fy_derive.specs.Judging.{Judged, concludes, stops, AllJudged, all_conclude, one_stops, then_judge, then_others, at_node, from_premises, if_form, if_count, alternative, operands, under, judged, each_judged}
 use Rattle.fy_derive.proofs.SoundLemmas.{append-none, append-push}
-
-pub some_same : {X : Type 0} {x y : X} → Some x ≡ Some y → x ≡ y
-some_same e = cc
+pub use Rattle.fy_derive.proofs.SoundLemmas.{node-inner, premises-inner, some_same}
 
 pub concluded_same : {A B : PlainType} → concludes A ≡ concludes B → A ≡ B
 concluded_same e = cc
@@ -35,15 +33,6 @@ pub others-inner : (j : Judged) (f : PlainType → AllJudged) (As : List PlainTy
     (B : PlainType) × (j ≡ concludes B) × (f B ≡ all_conclude As)
 others-inner (concludes B) f As e = (B, refl, e)
 others-inner (stops n) f As e = absurd cc
-
-pub node-inner : (n : ℕ) (o : Option PlainType) (A : PlainType) → at_node n o ≡ concludes A → o ≡ Some A
-node-inner n None A e = absurd cc
-node-inner n (Some B) A e = cc
-
-pub premises-inner : (n : ℕ) (j : AllJudged) (f : List PlainType → Option PlainType) (A : PlainType) → from_premises n j f ≡ concludes A →
-    (Bs : List PlainType) × (j ≡ all_conclude Bs) × (f Bs ≡ Some A)
-premises-inner n (all_conclude Bs) f A e = (Bs, refl, node-inner n (f Bs) A e)
-premises-inner n (one_stops k) f A e = absurd cc
 
 pub form-inner : {X : Type 0} (n : ℕ) (o : Option X) (f : X → Judged) (A : PlainType) → if_form n o f ≡ concludes A →
     (x : X) × (o ≡ Some x) × (f x ≡ concludes A)

@@ -1,20 +1,16 @@
 -- At one number stands one node: the parts of a phrase have ranges of numbers apart.
-use Rattle.std.proofs.Common.{ℕ, ◌+◌, ◌<◌, ◌≤◌, ◌≡◌, List, [], ◌∷◌, refl, ap, arith}
+use Rattle.std.proofs.Common.{ℕ, ◌+◌, ◌<◌, ◌≤◌, ◌≡◌, List, refl, ap, arith}
 use Rattle.fy_phrase.specs.Tree.{Tree, Trees, no_trees, and_tree, case}
 use Rattle.fy_phrase.specs.Sizes.{nodes, all_nodes}
+use Rattle.pe_shapes.specs.Parts.{total_nodes}
 use Rattle.fy_derive.specs.Shapes.{of_trees, parts_of, IsNodeAt, itself, in_part, IsNodeAmong, in_first, in_later}
 
--- the nodes of all the phrases
-abbrev total : List Tree → ℕ
-total [] = 0
-total (p ∷ ps) = nodes p + total ps
-
-trees-total : (ps : Trees) → total (of_trees ps) ≡ all_nodes ps
+trees-total : (ps : Trees) → total_nodes (of_trees ps) ≡ all_nodes ps
 trees-total no_trees = refl
 trees-total (and_tree p ps) = ap (λ n. nodes p + n) (trees-total ps)
 
 -- a phrase is one node and its parts
-nodes-parts : (p : Tree) → nodes p ≡ 1 + total (parts_of p)
+pub nodes-parts : (p : Tree) → nodes p ≡ 1 + total_nodes (parts_of p)
 nodes-parts (case e parts at) = omega (arith, trees-total parts)
 nodes-parts p = omega arith
 
@@ -23,7 +19,7 @@ mutual
   node-from itself = omega arith
   node-from (in_part among) = omega (arith, among-from among)
 
-  among-from : {m k : ℕ} {ps : List Tree} {q : Tree} → IsNodeAmong m ps k q → m ≤ k
+  pub among-from : {m k : ℕ} {ps : List Tree} {q : Tree} → IsNodeAmong m ps k q → m ≤ k
   among-from (in_first node) = node-from node
   among-from (in_later among) = omega (arith, among-from among)
 
@@ -32,7 +28,7 @@ mutual
   node-before (itself {p = p}) = omega (arith, nodes-parts p)
   node-before (in_part {p = p} among) = omega (arith, nodes-parts p, among-before among)
 
-  among-before : {m k : ℕ} {ps : List Tree} {q : Tree} → IsNodeAmong m ps k q → k < m + total ps
+  among-before : {m k : ℕ} {ps : List Tree} {q : Tree} → IsNodeAmong m ps k q → k < m + total_nodes ps
   among-before (in_first node) = omega (arith, node-before node)
   among-before (in_later among) = omega (arith, among-before among)
 

@@ -37,7 +37,7 @@ same_elem-true elem.Call elem.Call e = refl
 same_elem-true (elem.Field i) (elem.Field j) e = ap elem.Field (eqb-true i j e)
 same_elem-true x y e = absurd cc
 
-same_end : (a b : ShapeEnd) → (end_test.ghosts).eq a b ≡ true → a ≡ b
+pub same_end : (a b : ShapeEnd) → (end_test.ghosts).eq a b ≡ true → a ≡ b
 same_end a b e = same_true the_type (search rules) _ _ e
 
 same_node-true : (x y : ShapeNode) → same_node x y ≡ true → x ≡ y

@@ -1,10 +1,10 @@
 -- A list of nodes: the shape of each, and one node more.
-use Rattle.std.proofs.Common.{ℕ, zero, suc, ◌+◌, ◌<◌, ◌≤◌, ◌≡◌, ◌≢◌, ◌||◌, Bool, true, false, List, [], ◌∷◌, ◌++◌, length, refl, sym, ap, ◌∙◌, subst, arith, Result, Ok, Err, cond, IfOk, OnErr, inl, inr}
-use Rattle.std.proofs.lemmas.Bool.{cases_lt}
+use Rattle.std.proofs.Common.{ℕ, zero, suc, ◌+◌, ◌<◌, ◌≤◌, ◌≡◌, ◌≢◌, Bool, true, false, List, [], ◌∷◌, ◌++◌, length, refl, sym, ap, ◌∙◌, subst, arith, Result, Ok, Err, cond, IfOk, OnErr}
 use Rattle.std.proofs.lemmas.List.{length_push, get_or_append_left, get_or_push}
 use Rattle.std.specs.List.{list_any}
 use Rattle.indexmap.specs.IndexSet.{insert_key}
 use Rattle.fy_derive.specs.Shapes.{PlainShape, a_value, at_end}
+use Rattle.fy_derive.proofs.TableLemmas.{old_or_last, neither, true_not_false}
 use Rattle.pe_shapes.specs.declared.node.ShapeNode.{ShapeNode}
 use Rattle.pe_shapes.specs.declared.node.ShapeNode.TheVariants as node
 use Rattle.pe_shapes.specs.Numbering.{in_front, numbered_shape, node_at, node_shape, reach, shapes_after, shapes_of, IsNumbering}
@@ -55,10 +55,6 @@ shapes_of-kept xs n k h =
     ap (λ S. numbered_shape S k) (shapes_of-push xs n)
     ∙ get_or_append_left (shapes_of xs) (node_shape (shapes_of xs) n ∷ []) (at_end a_value) k (omega (arith, length-shapes_of xs))
 
--- what holds below n and at n holds below n + 1
-old_or_last : (P : ℕ → Type 0) (n k : ℕ) → k < n + 1 → ((k < n) → P k) → (k ≡ n → P k) → P k
-old_or_last P n k h f g = elim (cases_lt k n) [ inl l ↦ f l | inr l ↦ g (omega arith) ]
-
 old_node : (xs : List ShapeNode) (n : ShapeNode) (k : ℕ) → k < length xs → node_at (xs ++ n ∷ []) k ≡ node_at xs k
 old_node xs n k h = get_or_append_left xs (n ∷ []) (node_at [] 0) k h
 
@@ -76,13 +72,6 @@ IsNumbering-push xs n s r new = record {
       (λ e h. rw (old_node xs n i (omega arith), last_node xs n j e) (new i (omega arith)))
       h;
 }
-
-neither : (a b : Bool) → a || b ≡ false → (a ≡ false) × (b ≡ false)
-neither true b e = absurd cc
-neither false b e = (refl, e)
-
-true_not_false : true ≡ false → ⊥
-true_not_false e = cc
 
 -- a node that the test finds nowhere is new
 none_same : (eq : ShapeNode → ShapeNode → Bool) → ((x : ShapeNode) → eq x x ≡ true) → (xs : List ShapeNode) (n : ShapeNode) (k : ℕ) →

@@ -5,7 +5,7 @@ use Rattle.fy_base.specs.declared.data.Datum.TheVariants as datum
 use Rattle.fy_base.specs.declared.data.UnOp.{UnOp}
 use Rattle.fy_base.specs.declared.data.UnOp.TheVariants.{Neg, Not, Ord, Chr}
 use Rattle.fy_base.specs.declared.data.BinOp.{BinOp}
-use Rattle.fy_base.specs.declared.data.BinOp.TheVariants.{Add, Sub, Mul, Div, Rem, Eq, Ne, Lt, Le, Gt, Ge, And, Or}
+use Rattle.fy_base.specs.declared.data.BinOp.TheVariants.{Add}
 use Rattle.fy_types.specs.declared.types.Atom.{Atom}
 use Rattle.fy_types.specs.declared.types.Atom.TheVariants.{Int, Bool as Truth, Comm, Compl, IntAcc}
 use Rattle.fy_types.specs.Types.{PlainType, atom, arrow, field as field_type}
@@ -36,20 +36,9 @@ unary_end Chr = refl
 
 binary_end : (op : BinOp) → end_shape (binary_atom op) ≡ a_value
 binary_end Add = refl
-binary_end Sub = refl
-binary_end Mul = refl
-binary_end Div = refl
-binary_end Rem = refl
-binary_end Eq = refl
-binary_end Ne = refl
-binary_end Lt = refl
-binary_end Le = refl
-binary_end Gt = refl
-binary_end Ge = refl
-binary_end And = refl
-binary_end Or = refl
+binary_end op = refl
 
-acceptor_end : (D : DataTy) → end_shape (acceptor_atom D) ≡ an_assignment
+pub acceptor_end : (D : DataTy) → end_shape (acceptor_atom D) ≡ an_assignment
 acceptor_end data_type.Int = refl
 acceptor_end data_type.Bool = refl
 acceptor_end data_type.Char = refl

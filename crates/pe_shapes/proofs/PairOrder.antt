@@ -27,7 +27,7 @@ at-most a b h = by (ltb b.node a.node) (eqb b.node a.node) (ltb b.shape a.shape)
           absurd cc
     ]
 
-at-most-then : (a b c : Pair) → IsAtMost a b → IsAtMost b c → IsAtMost a c
+pub at-most-then : (a b c : Pair) → IsAtMost a b → IsAtMost b c → IsAtMost a c
 at-most-then a b c (inl l) (inl m) = inl (omega (arith, l, m))
 at-most-then a b c (inl l) (inr e) = inl (omega (arith, l, e.0))
 at-most-then a b c (inr e) (inl m) = inl (omega (arith, m, e.0))

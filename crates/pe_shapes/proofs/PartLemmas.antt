@@ -4,47 +4,36 @@ use Rattle.std.proofs.lemmas.List.{length-set, length-map, get_or-map, get_or-se
 use Rattle.std.proofs.lemmas.Option.{slice_get_within, slice_get-get_or, get_or_from_slice_get}
 use Rattle.fy_types.specs.Types.{PlainType}
 use Rattle.fy_types.proofs.Steps.{drop_item}
-use Rattle.fy_phrase.specs.Tree.{Tree, Trees, no_trees, and_tree, case, lam, merge}
+use Rattle.fy_phrase.specs.Tree.{Tree, lam, merge}
 use Rattle.fy_phrase.specs.Reads.{reads}
-use Rattle.fy_phrase.specs.Sizes.{nodes, all_nodes}
+use Rattle.fy_phrase.specs.Sizes.{nodes}
 use Rattle.fy_derive.specs.Kinds.{Kind, kind_of}
-use Rattle.fy_derive.specs.Judging.{alternative, operands, member}
-use Rattle.fy_derive.specs.Rules.{nothing, Premise, premises, of_parts as of_phrases}
-use Rattle.fy_derive.specs.Shapes.{of_trees, parts_of, IsNodeAt, itself, in_part, IsNodeAmong, in_first, in_later}
-use Rattle.pe_shapes.specs.declared.parts.Part.{Part}
-use Rattle.pe_shapes.specs.Contexts.{part_shown}
-use Rattle.pe_shapes.specs.Parts.{bound_parts, merged, parts_in, total_nodes, AreSizes, Keeps}
+use Rattle.fy_derive.specs.Judging.{alternative, operands}
+use Rattle.fy_derive.specs.Rules.{nothing, Premise, premises}
+use Rattle.fy_derive.specs.Shapes.{parts_of, IsNodeAt, itself, in_part, IsNodeAmong, in_first, in_later}
+use Rattle.fy_phrase.specs.declared.premise.Premise.{Premise as PremiseValue}
+use Rattle.fy_phrase.specs.Premises.{merged, premise_shown}
+use Rattle.pe_shapes.specs.Parts.{bound_parts, parts_in, total_nodes, AreSizes, Keeps}
+use Rattle.fy_derive.proofs.PartLemmas.{alternative-parts}
 use Rattle.pe_shapes.proofs.JudgedLemmas.{some_same}
-use Rattle.pe_shapes.proofs.NodeNumbers.{node-from}
-
-of_phrases-trees : (ps : Trees) → map (λ P. P.1) (of_phrases ps) ≡ of_trees ps
-of_phrases-trees no_trees = refl
-of_phrases-trees (and_tree p ps) = ap (λ xs. p ∷ xs) (of_phrases-trees ps)
+use Rattle.pe_shapes.proofs.NodeNumbers.{among-from, nodes-parts}
 
 bound_parts-trees : (p : Tree) → map (λ P. P.1) (bound_parts p) ≡ parts_of p
-bound_parts-trees (case e parts at) = ap (λ xs. e ∷ xs) (of_phrases-trees parts)
+bound_parts-trees (lam d As b at) = refl
 bound_parts-trees p = refl
 
-parts_in-shown : (Ps : List Part) → parts_in Ps ≡ map (λ P. P.1) (map part_shown Ps)
+parts_in-shown : (Ps : List PremiseValue) → parts_in Ps ≡ map (λ P. P.1) (map premise_shown Ps)
 parts_in-shown [] = refl
 parts_in-shown (P ∷ Ps) = ap (λ xs. reads P.part.now ∷ xs) (parts_in-shown Ps)
 
 -- the phrases of the parts that were made
-pub parts_in-made : (Ps : List Part) (p : Tree) → map part_shown Ps ≡ bound_parts p → parts_in Ps ≡ parts_of p
+pub parts_in-made : (Ps : List PremiseValue) (p : Tree) → map premise_shown Ps ≡ bound_parts p → parts_in Ps ≡ parts_of p
 parts_in-made Ps p e = parts_in-shown Ps ∙ (ap (map (λ P. P.1)) e ∙ bound_parts-trees p)
 
-pub premises-made : (Ps : List Part) (p : Tree) (Qs : List Premise) → map part_shown Ps ≡ bound_parts p → premises p ≡ Some Qs → map part_shown Ps ≡ Qs
+pub premises-made : (Ps : List PremiseValue) (p : Tree) (Qs : List Premise) → map premise_shown Ps ≡ bound_parts p → premises p ≡ Some Qs → map premise_shown Ps ≡ Qs
 premises-made Ps p Qs e f = e ∙ ap (λ o. unwrap_or o (map (λ q. (nothing, q)) (parts_of p))) f
 
--- an abstraction's body, and a merge's operands, are its parts
-pub alternative-parts : (i : ℕ) (p : Tree) (x : PlainType × Tree) → alternative i p ≡ Some x → parts_of p ≡ x.1 ∷ []
-alternative-parts i (lam d As b at) x e = by (member As i) e
-  where
-    by : (o : Option PlainType) → option_map (λ A. (A, b)) o ≡ Some x → b ∷ [] ≡ x.1 ∷ []
-    by None f = absurd cc
-    by (Some A) f = ap (λ y. y.1 ∷ []) (some_same f)
-alternative-parts i p x e = absurd cc
-
+-- a merge's operands are its parts
 pub merged-parts : (p : Tree) (x : Tree × Tree) → merged p ≡ Some x → parts_of p ≡ x.0 ∷ x.1 ∷ []
 merged-parts (merge p q at) x e = ap (λ y. y.0 ∷ y.1 ∷ []) (some_same e)
 merged-parts p x e = absurd cc
@@ -62,15 +51,6 @@ operands-merged p x e = absurd cc
 
 -- ---- sizes
 
-trees-total : (ps : Trees) → total_nodes (of_trees ps) ≡ all_nodes ps
-trees-total no_trees = refl
-trees-total (and_tree p ps) = ap (λ n. nodes p + n) (trees-total ps)
-
--- a phrase is one node and its parts
-pub nodes-parts : (p : Tree) → nodes p ≡ 1 + total_nodes (parts_of p)
-nodes-parts (case e parts at) = omega (arith, trees-total parts)
-nodes-parts p = omega arith
-
 -- the nodes of a part are fewer
 total-at : (ps : List Tree) (i : ℕ) (d : Tree) → i < length ps → nodes (get_or ps i d) ≤ total_nodes ps
 total-at [] i d h = absurd (omega arith)
@@ -82,10 +62,6 @@ nodes-part p ps i d e h = omega (arith, total-at ps i d h, nodes-parts p, ap tot
 
 none_among : {m k : ℕ} {q : Tree} → IsNodeAmong m [] k q → ⊥
 none_among x = elim x [ ]
-
-among-from : {m k : ℕ} {ps : List Tree} {q : Tree} → IsNodeAmong m ps k q → m ≤ k
-among-from (in_first node) = node-from node
-among-from (in_later among) = omega (arith, among-from among)
 
 pub sizes-here : {S : List ℕ} {m : ℕ} {p : Tree} {ps : List Tree} → AreSizes S m (p ∷ ps) → slice_get S m ≡ Some (nodes p)
 sizes-here {m = m} {p = p} s = s.each m p (in_first itself)
@@ -171,24 +147,24 @@ sizes-whole S m p s = record {
 
 -- ---- one part after another
 
-next-part : (Ps : List Part) (i : ℕ) (P : Part) → i < length Ps → P ≡ get_or Ps i P → parts_in (take (i + 1) Ps) ≡ parts_in (take i Ps) ++ reads P.part.now ∷ []
+next-part : (Ps : List PremiseValue) (i : ℕ) (P : PremiseValue) → i < length Ps → P ≡ get_or Ps i P → parts_in (take (i + 1) Ps) ≡ parts_in (take i Ps) ++ reads P.part.now ∷ []
 next-part Ps i P h e =
     ap parts_in (take_more Ps i P h) ∙ (map_push (λ Q. reads Q.part.now) (take i Ps) (get_or Ps i P) ∙ ap (λ Q. parts_in (take i Ps) ++ reads Q.part.now ∷ []) (sym e))
 
-pub part-fewer : (Ps : List Part) (i : ℕ) (P : Part) (p : Tree) → i < length Ps → P ≡ get_or Ps i P → map part_shown Ps ≡ bound_parts p → nodes (reads P.part.now) < nodes p
+pub part-fewer : (Ps : List PremiseValue) (i : ℕ) (P : PremiseValue) (p : Tree) → i < length Ps → P ≡ get_or Ps i P → map premise_shown Ps ≡ bound_parts p → nodes (reads P.part.now) < nodes p
 part-fewer Ps i P p h e made =
     let fewer = nodes-part p (parts_in Ps) i (reads P.part.now) (parts_in-made Ps p made) (omega (arith, length-map Ps (λ Q. reads Q.part.now))) in
     let at : get_or (parts_in Ps) i (reads P.part.now) ≡ reads P.part.now =
     get_or-map (λ Q. reads Q.part.now) Ps i P (reads P.part.now) h ∙ ap (λ Q. reads Q.part.now) (sym e) in
     subst (λ q. nodes q < nodes p) at fewer
 
-pub sizes-next : (S T : List ℕ) (m : ℕ) (Ps : List Part) (i : ℕ) (P : Part) → i < length Ps → P ≡ get_or Ps i P → AreSizes S m (parts_in (take i Ps)) → Keeps S T →
+pub sizes-next : (S T : List ℕ) (m : ℕ) (Ps : List PremiseValue) (i : ℕ) (P : PremiseValue) → i < length Ps → P ≡ get_or Ps i P → AreSizes S m (parts_in (take i Ps)) → Keeps S T →
     length S ≡ m + total_nodes (parts_in (take i Ps)) → AreSizes T (length S) (reads P.part.now ∷ []) → AreSizes T m (parts_in (take (i + 1) Ps))
 sizes-next S T m Ps i P h e s k l t =
     subst (AreSizes T m) (sym (next-part Ps i P h e))
     (sizes-push S T m (parts_in (take i Ps)) (reads P.part.now) s k (subst (λ n. AreSizes T n (reads P.part.now ∷ [])) l t))
 
-pub length-next : (s t m : ℕ) (Ps : List Part) (i : ℕ) (P : Part) → i < length Ps → P ≡ get_or Ps i P → s ≡ m + total_nodes (parts_in (take i Ps)) →
+pub length-next : (s t m : ℕ) (Ps : List PremiseValue) (i : ℕ) (P : PremiseValue) → i < length Ps → P ≡ get_or Ps i P → s ≡ m + total_nodes (parts_in (take i Ps)) →
     t ≡ s + nodes (reads P.part.now) → t ≡ m + total_nodes (parts_in (take (i + 1) Ps))
 length-next s t m Ps i P h e a b =
     omega (arith, ap total_nodes (next-part Ps i P h e), total-push (parts_in (take i Ps)) (reads P.part.now))
@@ -198,8 +174,8 @@ pub record AreSizesMade (F T : List ℕ) (p : Tree) : Type 0 where
   pub many : length T ≡ length F + nodes p
   pub sizes : AreSizes T (length F) (p ∷ [])
 
-pub sizes-made : (F S : List ℕ) (at count : ℕ) (p : Tree) (Ps : List Part) (n : ℕ) → at ≡ length F → Keeps F S → length S ≡ at + 1 + total_nodes (parts_in (take n Ps)) →
-    AreSizes S (at + 1) (parts_in (take n Ps)) → length Ps ≤ n → map part_shown Ps ≡ bound_parts p → count + at ≡ length S → AreSizesMade F (set S at count) p
+pub sizes-made : (F S : List ℕ) (at count : ℕ) (p : Tree) (Ps : List PremiseValue) (n : ℕ) → at ≡ length F → Keeps F S → length S ≡ at + 1 + total_nodes (parts_in (take n Ps)) →
+    AreSizes S (at + 1) (parts_in (take n Ps)) → length Ps ≤ n → map premise_shown Ps ≡ bound_parts p → count + at ≡ length S → AreSizesMade F (set S at count) p
 sizes-made F S at count p Ps n here k l s all made counted =
     let whole : parts_in (take n Ps) ≡ parts_of p = ap parts_in (take_all n Ps all) ∙ parts_in-made Ps p made in
     let own : count ≡ nodes p = omega (arith, ap total_nodes whole, nodes-parts p) in
@@ -210,8 +186,8 @@ sizes-made F S at count p Ps n here k l s all made counted =
     }))
 
 -- the parts, as they are read
-pub made-read : (Ps Qs : List Part) (p : Tree) → Qs ≡ Ps → map part_shown Ps ≡ bound_parts p → map part_shown Qs ≡ bound_parts p
-made-read Ps Qs p e made = ap (map part_shown) e ∙ made
+pub made-read : (Ps Qs : List PremiseValue) (p : Tree) → Qs ≡ Ps → map premise_shown Ps ≡ bound_parts p → map premise_shown Qs ≡ bound_parts p
+made-read Ps Qs p e made = ap (map premise_shown) e ∙ made
 
 -- ---- the parts that a walk goes to
 
@@ -228,5 +204,5 @@ pub sizes-right : (S : List ℕ) (m n : ℕ) (p : Tree) (x : Tree × Tree) → m
 sizes-right S m n p x e s is = subst (λ k. AreSizes S k (x.1 ∷ [])) (sym is) (sizes-rest (sizes-left S m p x e s))
 
 -- the parts that are left, one after another
-pub parts_in-next : (Ps : List Part) (i : ℕ) (P : Part) → i < length Ps → P ≡ get_or Ps i P → parts_in (drop i Ps) ≡ reads P.part.now ∷ parts_in (drop (i + 1) Ps)
+pub parts_in-next : (Ps : List PremiseValue) (i : ℕ) (P : PremiseValue) → i < length Ps → P ≡ get_or Ps i P → parts_in (drop i Ps) ≡ reads P.part.now ∷ parts_in (drop (i + 1) Ps)
 parts_in-next Ps i P h e = drop_item (λ Q. reads Q.part.now) Ps i P h e

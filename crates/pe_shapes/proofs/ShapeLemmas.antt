@@ -24,6 +24,7 @@ use Rattle.pe_shapes.specs.Standing.{HasShape, AreJust, IsStop}
 use Rattle.pe_shapes.proofs.Members.{Contains-none, Contains-head, Contains-split, Contains-map, Contains-unmap, HasMany-weaker, HasMany-map}
 use Rattle.pe_shapes.proofs.NodeTests.{in_front-same}
 use Rattle.pe_shapes.proofs.RuleBelow.{called-path, picked-path, path-called, path-picked}
+use Rattle.pe_shapes.proofs.OriginLemmas.{acceptor_end}
 
 none : {q : PlainPath} → HasPath no_paths q → ⊥
 none among = elim among [ ]
@@ -203,11 +204,6 @@ pub data_end : (D : DataTy) → end_shape (data_atom D) ≡ a_value
 data_end data_type.Int = refl
 data_end data_type.Bool = refl
 data_end data_type.Char = refl
-
-pub acceptor_end : (D : DataTy) → end_shape (acceptor_atom D) ≡ an_assignment
-acceptor_end data_type.Int = refl
-acceptor_end data_type.Bool = refl
-acceptor_end data_type.Char = refl
 
 -- the shapes of a cell
 pub AreJust-cell : (D : DataTy) → AreJust (at_end a_value ∷ at_end an_assignment ∷ []) (cell_type D)

@@ -9,9 +9,10 @@ use Rattle.fy_derive.specs.Shapes.{PlainShape}
 use Rattle.fy_derive.specs.Tables.{type_at}
 use Rattle.fy_derive.specs.Judging.{under}
 use Rattle.pe_shapes.specs.declared.numbers.ShapeNumbers.{ShapeNumbers}
-use Rattle.pe_shapes.specs.declared.parts.Binds.{Binds}
-use Rattle.pe_shapes.specs.declared.parts.Binds.TheVariants as binds
-use Rattle.pe_shapes.specs.Contexts.{PlainBound, by_shapes, by_type, given_type, bounds_under, plain_binder}
+use Rattle.fy_phrase.specs.declared.premise.Binds.{Binds}
+use Rattle.fy_phrase.specs.declared.premise.Binds.TheVariants as binds
+use Rattle.fy_phrase.specs.Premises.{given_type, plain_binder}
+use Rattle.pe_shapes.specs.Contexts.{PlainBound, by_shapes, by_type, bounds_under}
 use Rattle.pe_shapes.specs.Counts.{StandOnce}
 use Rattle.pe_shapes.specs.Shown.{total, all_shown, shown, Extends, AreIn, AreAllIn}
 use Rattle.pe_shapes.specs.Standing.{AreJust, IsBound, AreBound, Fits, AreFit, AreShapesOfEach}

@@ -10,16 +10,17 @@ use Rattle.fy_phrase.specs.Tree.{Tree}
 use Rattle.fy_phrase.specs.Sizes.{nodes}
 use Rattle.fy_derive.specs.declared.derivation.Derivation as form
 use Rattle.fy_derive.specs.declared.derivation.Derivation.{Derivation, Derivation-F, fold-roll-Derivation}
-use Rattle.fy_derive.specs.declared.derivation.Derivation.TheVariants.{rolls-Ns, rolls-Sub, rolls-Meet, rolls-Alt, rolls-Left, rolls-Right, rolls-Rule}
+use Rattle.fy_derive.specs.declared.derivation.Derivation.TheVariants.{rolls-Ns, rolls-Sub, rolls-Meet, rolls-Left, rolls-Right, rolls-Rule}
 use Rattle.fy_derive.specs.declared.derivation.DerivationList.{DerivationList}
 use Rattle.fy_derive.specs.Derivations.{PlainDerivation, PlainDerivations, by_ns, sub, meets, alt, left, right, rule, no_derivations, and_derivation, count, nodes as derivation_nodes}
 use Rattle.fy_derive.specs.Reading.{plain_derivation, plain_derivations, derivations_from, derivation_step, derivations_step}
 use Rattle.fy_derive.specs.Rules.{nothing, Premise}
 use Rattle.fy_derive.specs.Judging.{concludes, all_conclude, judged, each_judged, under}
 use Rattle.fy_derive.specs.Shapes.{PlainShape, HasPair, OneHasPair, this_one, other_one, PremiseHasPair, this_premise, later_premise}
+use Rattle.fy_derive.proofs.StepLemmas.{Alt-derivation}
 use Rattle.pe_shapes.specs.declared.error.ShapeError.{ShapeError}
-use Rattle.pe_shapes.specs.declared.parts.Part.{Part}
-use Rattle.pe_shapes.specs.Contexts.{part_shown}
+use Rattle.fy_phrase.specs.declared.premise.Premise.{Premise as PremiseValue}
+use Rattle.fy_phrase.specs.Premises.{premise_shown}
 use Rattle.pe_shapes.specs.declared.found.Found.{Found}
 use Rattle.pe_shapes.specs.declared.numbers.ShapeNumbers.{ShapeNumbers}
 use Rattle.pe_shapes.specs.Finding.{IsFound, Adds, NoPair, IsWalkStop, IsRecording, IsWalk}
@@ -40,9 +41,6 @@ Sub-derivation d T b e = rw e (ap plain_derivation (sym (rolls-Sub T b)) ∙ fol
 
 pub Meet-derivation : (d : Derivation) (l : DerivationList) → d ≡ form.Meet l → plain_derivation d ≡ meets (plain_derivations l)
 Meet-derivation d l e = rw e (ap plain_derivation (sym (rolls-Meet l)) ∙ fold-roll-Derivation PlainDerivation PlainDerivations derivation_step derivations_step (Derivation-F.Meet l))
-
-pub Alt-derivation : (d : Derivation) (i : ℕ) (b : Box Derivation Global) → d ≡ form.Alt i b → plain_derivation d ≡ alt i (plain_derivation b.value)
-Alt-derivation d i b e = rw e (ap plain_derivation (sym (rolls-Alt i b)) ∙ fold-roll-Derivation PlainDerivation PlainDerivations derivation_step derivations_step (Derivation-F.Alt i b))
 
 pub Left-derivation : (d : Derivation) (b : Box Derivation Global) → d ≡ form.Left b → plain_derivation d ≡ left (plain_derivation b.value)
 Left-derivation d b e = rw e (ap plain_derivation (sym (rolls-Left b)) ∙ fold-roll-Derivation PlainDerivation PlainDerivations derivation_step derivations_step (Derivation-F.Left b))
@@ -168,13 +166,13 @@ premises-walked-init a ds m G Ps As n sets none e = record {
 }
 
 -- with the next derivation and the next part in front
-pub premises-at : (a b : Found) (items : List Derivation) (Qs : List Part) (i : ℕ) (x : Derivation) (P : Part) (m : ℕ) (G As : List PlainType)
+pub premises-at : (a b : Found) (items : List Derivation) (Qs : List PremiseValue) (i : ℕ) (x : Derivation) (P : PremiseValue) (m : ℕ) (G As : List PlainType)
     (whole : ℕ → PlainShape → Type 0) (sets : List (List ℕ)) → i < length items → x ≡ get_or items i x → i < length Qs → P ≡ get_or Qs i P →
-    ArePremisesWalkedSo a b (derivations_from (map plain_derivation (drop i items))) m G (map part_shown (drop i Qs)) As whole sets →
-    ArePremisesWalkedSo a b (and_derivation (plain_derivation x) (derivations_from (map plain_derivation (drop (i + 1) items)))) m G (part_shown P ∷ map part_shown (drop (i + 1) Qs)) As whole sets
+    ArePremisesWalkedSo a b (derivations_from (map plain_derivation (drop i items))) m G (map premise_shown (drop i Qs)) As whole sets →
+    ArePremisesWalkedSo a b (and_derivation (plain_derivation x) (derivations_from (map plain_derivation (drop (i + 1) items)))) m G (premise_shown P ∷ map premise_shown (drop (i + 1) Qs)) As whole sets
 premises-at a b items Qs i x P m G As whole sets h e k f w =
-    subst (λ Ps. ArePremisesWalkedSo a b (derivations_from (plain_derivation x ∷ map plain_derivation (drop (i + 1) items))) m G Ps As whole sets) (drop_item part_shown Qs i P k f)
-    (subst (λ ds. ArePremisesWalkedSo a b (derivations_from ds) m G (map part_shown (drop i Qs)) As whole sets) (drop_item plain_derivation items i x h e) w)
+    subst (λ Ps. ArePremisesWalkedSo a b (derivations_from (plain_derivation x ∷ map plain_derivation (drop (i + 1) items))) m G Ps As whole sets) (drop_item premise_shown Qs i P k f)
+    (subst (λ ds. ArePremisesWalkedSo a b (derivations_from ds) m G (map premise_shown (drop i Qs)) As whole sets) (drop_item plain_derivation items i x h e) w)
 
 pub record PremiseNext (d : PlainDerivation) (ds : PlainDerivations) (G : List PlainType) (P : Premise) (Ps : List Premise) (n : ℕ) (so_far As : List PlainType) : Type 0 where
   pub concluded : PlainType

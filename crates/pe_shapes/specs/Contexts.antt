@@ -1,28 +1,13 @@
 -- What is known of the variables in scope.
 use Rattle.std.specs.Prelude.{ℕ, List, [], ◌∷◌, Vec}
 use Rattle.std.specs.declared.alloc.Global.{Global}
-use Rattle.fy_types.specs.declared.types.Atom.TheVariants.{Compl}
-use Rattle.fy_types.specs.Types.{PlainType, atom}
-use Rattle.fy_types.specs.Reading.{plain_type}
-use Rattle.fy_phrase.specs.Reads.{reads}
-use Rattle.fy_derive.specs.Atoms.{data_atom, cell_type, sequence_type}
-use Rattle.fy_derive.specs.Rules.{Binder, nothing, first, given, Premise}
-use Rattle.pe_shapes.specs.declared.context.Given.{Given}
-use Rattle.pe_shapes.specs.declared.context.Given.TheVariants as by
+use Rattle.fy_types.specs.Types.{PlainType}
+use Rattle.fy_phrase.specs.declared.premise.Binds.{Binds}
+use Rattle.fy_phrase.specs.declared.premise.Binds.TheVariants as binds
+use Rattle.fy_phrase.specs.Premises.{given_type}
 use Rattle.pe_shapes.specs.declared.context.Bound.{Bound}
 use Rattle.pe_shapes.specs.declared.context.Bound.TheVariants as bound
 use Rattle.pe_shapes.specs.declared.context.Context.{Context, Context-F, fold-Context}
-use Rattle.pe_shapes.specs.declared.parts.Binds.{Binds}
-use Rattle.pe_shapes.specs.declared.parts.Binds.TheVariants as binds
-use Rattle.pe_shapes.specs.declared.parts.Part.{Part}
-
--- the type that a binder gives its variable
-abbrev pub given_type : Given → PlainType
-given_type (by.Type T) = plain_type T.now
-given_type (by.Cell D) = cell_type D
-given_type by.Sequence = sequence_type
-given_type (by.Value D) = atom (data_atom D)
-given_type by.Exit = atom Compl
 
 -- what is known of a variable: the numbers of its type's shapes, or the type
 pub data PlainBound : Type 0 where
@@ -51,12 +36,3 @@ bounds_under binds.Nothing sets G = G
 bounds_under binds.First [] G = G
 bounds_under binds.First (ks ∷ sets) G = by_shapes ks ∷ G
 bounds_under (binds.Given g) sets G = by_type (given_type g) ∷ G
-
--- the binder and the part of a premise
-abbrev pub plain_binder : Binds → Binder
-plain_binder binds.Nothing = nothing
-plain_binder binds.First = first
-plain_binder (binds.Given g) = given (given_type g)
-
-abbrev pub part_shown : Part → Premise
-part_shown P = (plain_binder P.binds, reads P.part.now)

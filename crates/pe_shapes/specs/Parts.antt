@@ -1,23 +1,18 @@
 -- The parts of a phrase, and how large they are.
-use Rattle.std.specs.Prelude.{ℕ, ◌+◌, ◌<◌, ◌≤◌, ◌≡◌, List, [], ◌∷◌, map, length, slice_get, Option, Some, None, unwrap_or}
-use Rattle.fy_phrase.specs.Tree.{Tree, merge}
+use Rattle.std.specs.Prelude.{ℕ, ◌+◌, ◌<◌, ◌≤◌, ◌≡◌, List, [], ◌∷◌, map, length, slice_get, Some, unwrap_or}
+use Rattle.fy_phrase.specs.Tree.{Tree}
 use Rattle.fy_phrase.specs.Reads.{reads}
 use Rattle.fy_phrase.specs.Sizes.{nodes}
 use Rattle.fy_derive.specs.Rules.{nothing, Premise, premises}
 use Rattle.fy_derive.specs.Shapes.{parts_of, IsNodeAmong}
-use Rattle.pe_shapes.specs.declared.parts.Part.{Part}
+use Rattle.fy_phrase.specs.declared.premise.Premise.{Premise as PremiseValue}
 
 -- the premises of a phrase's rule, or its parts alone where it has none
 abbrev pub bound_parts : Tree → List Premise
 bound_parts p = unwrap_or (premises p) (map (λ q. (nothing, q)) (parts_of p))
 
--- the operands of a merge
-abbrev pub merged : Tree → Option (Tree × Tree)
-merged (merge p q at) = Some (p, q)
-merged p = None
-
 -- the phrases of parts
-abbrev pub parts_in : List Part → List Tree
+abbrev pub parts_in : List PremiseValue → List Tree
 parts_in Ps = map (λ P. reads P.part.now) Ps
 
 -- the nodes of all phrases of a list

@@ -4,24 +4,7 @@ ghost use Rattle.std.specs.Prelude.{◌≡◌, slice_get, map};
 ghost use Rattle.std.specs.Option.{option_map};
 ghost use Rattle.pe_shapes.specs.Contexts.{bounds, plain_bound, bounds_under, numbers_of};
 
-use crate::parts::Binds;
-use fy_phrase::DataTy;
-use fy_types::Ty;
-
-/// The type of a variable, by its binder.
-#[derive(Clone, Copy, Drop)]
-pub enum Given<'a> {
-    /// The type that is written.
-    Type(&'a Ty),
-    /// The type of a cell.
-    Cell(DataTy),
-    /// The type of a sequence of cells.
-    Sequence,
-    /// A data type.
-    Value(DataTy),
-    /// The type of what leaves an escape.
-    Exit,
-}
+use fy_phrase::{Binds, Given};
 
 /// What is known of a variable's type: its shapes, or the type.
 #[derive(Clone, Copy, Drop)]

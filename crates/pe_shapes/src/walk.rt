@@ -9,20 +9,21 @@ ghost use Rattle.fy_derive.specs.Judging.{judged as judged_type, each_judged, co
 ghost use Rattle.fy_derive.specs.Reading.{plain_derivation, plain_derivations};
 ghost use Rattle.fy_derive.specs.Rules.{nothing};
 ghost use Rattle.fy_derive.specs.Shapes.{HasPair, OneHasPair, PremiseHasPair};
-ghost use Rattle.pe_shapes.specs.Contexts.{bounds, part_shown};
+ghost use Rattle.fy_phrase.specs.Premises.{premise_shown};
+ghost use Rattle.pe_shapes.specs.Contexts.{bounds};
 ghost use Rattle.pe_shapes.specs.Finding.{IsFound, IsWalk, AreWalks, Stays, AllStay};
 ghost use Rattle.pe_shapes.specs.Parts.{AreSizes, parts_in};
 ghost use Rattle.pe_shapes.specs.Standing.{AreBound, AreFit};
 
 use crate::conclusion::concluded;
-use crate::context::{Bound, Context, Given, under};
+use crate::context::{Bound, Context, under};
 use crate::error::ShapeError;
 use crate::found::Found;
-use crate::parts::{Part, alternative, operands, parts};
+use crate::parts::parts;
 use crate::sets::{add_all, fronted, listed};
 use crate::types::shapes_of_type;
-use fy_derive::{Derivation, DerivationList};
-use fy_phrase::{Phrase, ShapeElem};
+use fy_derive::{Derivation, DerivationList, alternative};
+use fy_phrase::{Given, Phrase, Premise, ShapeElem};
 use indexmap::IndexSet;
 use std::alloc::Global;
 
@@ -69,14 +70,14 @@ pub fn walk(
             found.recorded(node, set)
         }
         Derivation::Left(inner) => {
-            let Some((left, _)) = operands(p) else {
+            let Some((left, _)) = p.as_merge() else {
                 return Ok(Vec::new(alloc));
             };
             let set = walk(alloc, found, sizes, node + 1, inner, context, left)?;
             found.recorded(node, set)
         }
         Derivation::Right(inner) => {
-            let Some((_, right)) = operands(p) else {
+            let Some((_, right)) = p.as_merge() else {
                 return Ok(Vec::new(alloc));
             };
             let behind = node + 1 + sizes[node + 1];
@@ -135,7 +136,7 @@ fn walk_each(
     first: usize,
     list: &DerivationList,
     context: &Context<'_>,
-    premises: &[Part<'_>],
+    premises: &[Premise<'_>],
 ) -> Result<Vec<Vec<usize>>, ShapeError>
     requires sound { IsFound found.old }
     requires context { AreBound found.old.numbers (bounds context.now) }
@@ -143,8 +144,8 @@ fn walk_each(
     requires few { length sizes.now ≤ 65536 }
     requires all { length premises.now ≡ count_of (plain_derivations list.now) }
     ensures walked { (G As : List PlainType) (n : ℕ) → AreFit found.old.numbers (bounds context.now) G →
-        each_judged (plain_derivations list.now) n G (map part_shown premises.now) [] ≡ all_conclude As →
-        AreWalks result found.old found.new As (PremiseHasPair (plain_derivations list.now) first G (map part_shown premises.now) []) }
+        each_judged (plain_derivations list.now) n G (map premise_shown premises.now) [] ≡ all_conclude As →
+        AreWalks result found.old found.new As (PremiseHasPair (plain_derivations list.now) first G (map premise_shown premises.now) []) }
     ensures stays { IfOk result (λ v. AllStay found.old found.new v.items) }
 {
     let items = list.as_slice();

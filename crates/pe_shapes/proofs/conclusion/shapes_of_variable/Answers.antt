@@ -1,5 +1,6 @@
 use Rattle.std.proofs.Common.{◌≡◌, Some, slice_get, sym, ap, ◌∙◌, subst}
-use Rattle.pe_shapes.specs.Contexts.{by_shapes, by_type, plain_bound, given_type, bounds}
+use Rattle.fy_phrase.specs.Premises.{given_type}
+use Rattle.pe_shapes.specs.Contexts.{by_shapes, by_type, plain_bound, bounds}
 use Rattle.pe_shapes.specs.Shown.{all_shown, AreIn}
 use Rattle.pe_shapes.specs.Standing.{AreJust, AreMade}
 use Rattle.pe_shapes.proofs.Standings.{AreFit-at, AreFit-past, bound-at}

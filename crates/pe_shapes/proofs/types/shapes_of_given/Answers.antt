@@ -2,7 +2,7 @@ use Rattle.std.proofs.Common.{ap, refl, sym, subst}
 use Rattle.fy_phrase.specs.declared.shapes.ShapeEnd.TheVariants as ending
 use Rattle.fy_types.specs.declared.types.Atom.TheVariants.{Compl}
 use Rattle.fy_derive.specs.Atoms.{data_atom, cell_type, sequence_type}
-use Rattle.pe_shapes.specs.Contexts.{given_type}
+use Rattle.fy_phrase.specs.Premises.{given_type}
 use Rattle.pe_shapes.specs.Standing.{AreJust}
 use Rattle.pe_shapes.proofs.ShapeLemmas.{AreJust-end, AreJust-cell, AreJust-sequence, AreJust-as, data_end}
 use Rattle.pe_shapes.proofs.types.shapes_of_given.Goals as goal

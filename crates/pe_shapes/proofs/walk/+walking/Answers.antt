@@ -9,7 +9,8 @@ use Rattle.fy_derive.specs.Reading.{plain_derivation, plain_derivations, derivat
 use Rattle.fy_derive.proofs.DerivationSizes.{member_size}
 use Rattle.fy_derive.proofs.ReadLemmas.{count-in}
 use Rattle.fy_types.proofs.Steps.{drop_item}
-use Rattle.pe_shapes.specs.Contexts.{bounds, by_type, numbers_of, part_shown, plain_binder, bounds_under}
+use Rattle.fy_phrase.specs.Premises.{premise_shown, plain_binder}
+use Rattle.pe_shapes.specs.Contexts.{bounds, by_type, numbers_of, bounds_under}
 use Rattle.fy_types.specs.Types.{meet}
 use Rattle.fy_types.specs.Reading.{types_from}
 use Rattle.fy_derive.specs.Judging.{under}
@@ -186,23 +187,23 @@ walk-returns-in_ok-set-in-Alt-clause-stays t c =
 
 -- ---- the left operand
 
-pub walk-returns-in_default-operands-clause-walked : goal.walk-returns-in_default-operands-clause-walked
-walk-returns-in_default-operands-clause-walked t c = λ G A fit j.
+pub walk-returns-in_default-as_merge-clause-walked : goal.walk-returns-in_default-as_merge-clause-walked
+walk-returns-in_default-as_merge-clause-walked t c = λ G A fit j.
     absurd (left-none (plain_derivation c.args.d.now) (plain_derivation c.in-Left.inner.value) G (reads c.args.p.now) A
     (Left-read c.args.d.now c.in-Left.inner.value c.in-Left.inner c.in-Left.is refl)
-    (none-of _ c.operands.result _ c.in_default-operands.not-Some c.operands.ensures) j)
+    (none-of _ c.as_merge.result _ c.in_default-as_merge.not-Some c.as_merge.ensures) j)
 
-pub walk-returns-in_default-operands-clause-stays : goal.walk-returns-in_default-operands-clause-stays
-walk-returns-in_default-operands-clause-stays t c = record {
+pub walk-returns-in_default-as_merge-clause-stays : goal.walk-returns-in_default-as_merge-clause-stays
+walk-returns-in_default-as_merge-clause-stays t c = record {
   sound = c.requires.sound;
   extends = Extends-itself c.args.found.now.numbers;
-  within = subst (AreIn c.args.found.now.numbers) (sym c.new-in_default-operands.ensures.items) (AreIn-none c.args.found.now.numbers);
+  within = subst (AreIn c.args.found.now.numbers) (sym c.new-in_default-as_merge.ensures.items) (AreIn-none c.args.found.now.numbers);
 }
 
 pub walk-walk-requires-in-Left : goal.walk-walk-requires-in-Left
 walk-walk-requires-in-Left t c = (
   omega (arith, left-size c.args.d.now c.deref-in-Left.result.now c.in-Left.inner c.in-Left.is c.deref-in-Left.ensures, c.decreases),
-  (c.requires.sound, (c.requires.context, (sizes-first (sizes-left c.args.sizes.now c.args.node (reads c.args.p.now) (reads c.in-Some-operands.left.now, reads c.in-Some-operands.field-0-1.now) (sym c.in-Some-operands.ensures) c.requires.sizes), c.requires.few))),
+  (c.requires.sound, (c.requires.context, (sizes-first (sizes-left c.args.sizes.now c.args.node (reads c.args.p.now) (reads c.in-Some-as_merge.left.now, reads c.in-Some-as_merge.field-0-1.now) (sym c.in-Some-as_merge.ensures) c.requires.sizes), c.requires.few))),
 )
 
 pub walk-returns-in_err-set-in-Left-clause-walked : goal.walk-returns-in_err-set-in-Left-clause-walked
@@ -210,7 +211,7 @@ walk-returns-in_err-set-in-Left-clause-walked t c = λ G A fit j.
     let p = err_from_is_err_and c.from_residual-in_err-set-in-Left.result c.from_residual-in_err-set-in-Left.ensures.1 in
     rw (p.1, p.2)
     (left-stop c.args.found.now (plain_derivation c.args.d.now) (plain_derivation c.deref-in-Left.result.now) c.args.node G (reads c.args.p.now) A
-    (reads c.in-Some-operands.left.now, reads c.in-Some-operands.field-0-1.now) c.in_err-set-in-Left.field-0.0 (Left-read c.args.d.now c.deref-in-Left.result.now c.in-Left.inner c.in-Left.is c.deref-in-Left.ensures) (sym c.in-Some-operands.ensures)
+    (reads c.in-Some-as_merge.left.now, reads c.in-Some-as_merge.field-0-1.now) c.in_err-set-in-Left.field-0.0 (Left-read c.args.d.now c.deref-in-Left.result.now c.in-Left.inner c.in-Left.is c.deref-in-Left.ensures) (sym c.in-Some-as_merge.ensures)
     (λ C k. c.in_err-set-in-Left.ensures.walked G C fit k) j)
 
 pub walk-recorded-requires-in-Left-clause-sound : goal.walk-recorded-requires-in-Left-clause-sound
@@ -223,7 +224,7 @@ pub walk-returns-in_ok-set-in-Left-clause-walked : goal.walk-returns-in_ok-set-i
 walk-returns-in_ok-set-in-Left-clause-walked t c = λ G A fit j.
     left-arm c.recorded-in-Left.result c.args.found.now c.walk-in-Left.new.found c.recorded-in-Left.new.self
     (plain_derivation c.args.d.now) (plain_derivation c.deref-in-Left.result.now) c.args.node G (reads c.args.p.now) A
-    (reads c.in-Some-operands.left.now, reads c.in-Some-operands.field-0-1.now) c.in_ok-set-in-Left.set.items (Left-read c.args.d.now c.deref-in-Left.result.now c.in-Left.inner c.in-Left.is c.deref-in-Left.ensures) (sym c.in-Some-operands.ensures)
+    (reads c.in-Some-as_merge.left.now, reads c.in-Some-as_merge.field-0-1.now) c.in_ok-set-in-Left.set.items (Left-read c.args.d.now c.deref-in-Left.result.now c.in-Left.inner c.in-Left.is c.deref-in-Left.ensures) (sym c.in-Some-as_merge.ensures)
     (λ C k. c.in_ok-set-in-Left.ensures.walked G C fit k) j c.in_ok-set-in-Left.ensures.stays.sound
     c.recorded-in-Left.ensures.recorded c.recorded-in-Left.ensures.same c.recorded-in-Left.ensures.numbers
 
@@ -235,23 +236,23 @@ walk-returns-in_ok-set-in-Left-clause-stays t c =
 
 -- ---- the right operand
 
-pub walk-returns-in_default-operands-2-clause-walked : goal.walk-returns-in_default-operands-2-clause-walked
-walk-returns-in_default-operands-2-clause-walked t c = λ G A fit j.
+pub walk-returns-in_default-as_merge-2-clause-walked : goal.walk-returns-in_default-as_merge-2-clause-walked
+walk-returns-in_default-as_merge-2-clause-walked t c = λ G A fit j.
     absurd (right-none (plain_derivation c.args.d.now) (plain_derivation c.in-Right.inner.value) G (reads c.args.p.now) A
     (Right-read c.args.d.now c.in-Right.inner.value c.in-Right.inner c.in-Right.is refl)
-    (none-of _ c.operands-in-Right.result _ c.in_default-operands-2.not-Some c.operands-in-Right.ensures) j)
+    (none-of _ c.as_merge-in-Right.result _ c.in_default-as_merge-2.not-Some c.as_merge-in-Right.ensures) j)
 
-pub walk-returns-in_default-operands-2-clause-stays : goal.walk-returns-in_default-operands-2-clause-stays
-walk-returns-in_default-operands-2-clause-stays t c = record {
+pub walk-returns-in_default-as_merge-2-clause-stays : goal.walk-returns-in_default-as_merge-2-clause-stays
+walk-returns-in_default-as_merge-2-clause-stays t c = record {
   sound = c.requires.sound;
   extends = Extends-itself c.args.found.now.numbers;
-  within = subst (AreIn c.args.found.now.numbers) (sym c.new-in_default-operands-2.ensures.items) (AreIn-none c.args.found.now.numbers);
+  within = subst (AreIn c.args.found.now.numbers) (sym c.new-in_default-as_merge-2.ensures.items) (AreIn-none c.args.found.now.numbers);
 }
 
 pub walk-walk-requires-in-Right : goal.walk-walk-requires-in-Right
 walk-walk-requires-in-Right t c = (
   omega (arith, right-size c.args.d.now c.deref-in-Right.result.now c.in-Right.inner c.in-Right.is c.deref-in-Right.ensures, c.decreases),
-  (c.requires.sound, (c.requires.context, (sizes-right c.args.sizes.now c.args.node _ (reads c.args.p.now) (reads c.in-Some-operands-2.field-0-0.now, reads c.in-Some-operands-2.right.now) (sym c.in-Some-operands-2.ensures) c.requires.sizes (ap (λ n. c.args.node + 1 + n) (sizes-at c.args.sizes.now (c.args.node + 1) (reads c.in-Some-operands-2.field-0-0.now) _ (sizes-left c.args.sizes.now c.args.node (reads c.args.p.now) (reads c.in-Some-operands-2.field-0-0.now, reads c.in-Some-operands-2.right.now) (sym c.in-Some-operands-2.ensures) c.requires.sizes))), c.requires.few))),
+  (c.requires.sound, (c.requires.context, (sizes-right c.args.sizes.now c.args.node _ (reads c.args.p.now) (reads c.in-Some-as_merge-2.field-0-0.now, reads c.in-Some-as_merge-2.right.now) (sym c.in-Some-as_merge-2.ensures) c.requires.sizes (ap (λ n. c.args.node + 1 + n) (sizes-at c.args.sizes.now (c.args.node + 1) (reads c.in-Some-as_merge-2.field-0-0.now) _ (sizes-left c.args.sizes.now c.args.node (reads c.args.p.now) (reads c.in-Some-as_merge-2.field-0-0.now, reads c.in-Some-as_merge-2.right.now) (sym c.in-Some-as_merge-2.ensures) c.requires.sizes))), c.requires.few))),
 )
 
 pub walk-returns-in_err-set-in-Right-clause-walked : goal.walk-returns-in_err-set-in-Right-clause-walked
@@ -259,7 +260,7 @@ walk-returns-in_err-set-in-Right-clause-walked t c = λ G A fit j.
     let p = err_from_is_err_and c.from_residual-in_err-set-in-Right.result c.from_residual-in_err-set-in-Right.ensures.1 in
     rw (p.1, p.2)
     (right-stop c.args.found.now (plain_derivation c.args.d.now) (plain_derivation c.deref-in-Right.result.now) c.args.node _ G (reads c.args.p.now) A
-    (reads c.in-Some-operands-2.field-0-0.now, reads c.in-Some-operands-2.right.now) c.in_err-set-in-Right.field-0.0 (Right-read c.args.d.now c.deref-in-Right.result.now c.in-Right.inner c.in-Right.is c.deref-in-Right.ensures) (sym c.in-Some-operands-2.ensures) (ap (λ n. c.args.node + 1 + n) (sizes-at c.args.sizes.now (c.args.node + 1) (reads c.in-Some-operands-2.field-0-0.now) _ (sizes-left c.args.sizes.now c.args.node (reads c.args.p.now) (reads c.in-Some-operands-2.field-0-0.now, reads c.in-Some-operands-2.right.now) (sym c.in-Some-operands-2.ensures) c.requires.sizes)))
+    (reads c.in-Some-as_merge-2.field-0-0.now, reads c.in-Some-as_merge-2.right.now) c.in_err-set-in-Right.field-0.0 (Right-read c.args.d.now c.deref-in-Right.result.now c.in-Right.inner c.in-Right.is c.deref-in-Right.ensures) (sym c.in-Some-as_merge-2.ensures) (ap (λ n. c.args.node + 1 + n) (sizes-at c.args.sizes.now (c.args.node + 1) (reads c.in-Some-as_merge-2.field-0-0.now) _ (sizes-left c.args.sizes.now c.args.node (reads c.args.p.now) (reads c.in-Some-as_merge-2.field-0-0.now, reads c.in-Some-as_merge-2.right.now) (sym c.in-Some-as_merge-2.ensures) c.requires.sizes)))
     (λ C k. c.in_err-set-in-Right.ensures.walked G C fit k) j)
 
 pub walk-recorded-requires-in-Right-clause-sound : goal.walk-recorded-requires-in-Right-clause-sound
@@ -272,7 +273,7 @@ pub walk-returns-in_ok-set-in-Right-clause-walked : goal.walk-returns-in_ok-set-
 walk-returns-in_ok-set-in-Right-clause-walked t c = λ G A fit j.
     right-arm c.recorded-in-Right.result c.args.found.now c.walk-in-Right.new.found c.recorded-in-Right.new.self
     (plain_derivation c.args.d.now) (plain_derivation c.deref-in-Right.result.now) c.args.node _ G (reads c.args.p.now) A
-    (reads c.in-Some-operands-2.field-0-0.now, reads c.in-Some-operands-2.right.now) c.in_ok-set-in-Right.set.items (Right-read c.args.d.now c.deref-in-Right.result.now c.in-Right.inner c.in-Right.is c.deref-in-Right.ensures) (sym c.in-Some-operands-2.ensures) (ap (λ n. c.args.node + 1 + n) (sizes-at c.args.sizes.now (c.args.node + 1) (reads c.in-Some-operands-2.field-0-0.now) _ (sizes-left c.args.sizes.now c.args.node (reads c.args.p.now) (reads c.in-Some-operands-2.field-0-0.now, reads c.in-Some-operands-2.right.now) (sym c.in-Some-operands-2.ensures) c.requires.sizes)))
+    (reads c.in-Some-as_merge-2.field-0-0.now, reads c.in-Some-as_merge-2.right.now) c.in_ok-set-in-Right.set.items (Right-read c.args.d.now c.deref-in-Right.result.now c.in-Right.inner c.in-Right.is c.deref-in-Right.ensures) (sym c.in-Some-as_merge-2.ensures) (ap (λ n. c.args.node + 1 + n) (sizes-at c.args.sizes.now (c.args.node + 1) (reads c.in-Some-as_merge-2.field-0-0.now) _ (sizes-left c.args.sizes.now c.args.node (reads c.args.p.now) (reads c.in-Some-as_merge-2.field-0-0.now, reads c.in-Some-as_merge-2.right.now) (sym c.in-Some-as_merge-2.ensures) c.requires.sizes)))
     (λ C k. c.in_ok-set-in-Right.ensures.walked G C fit k) j c.in_ok-set-in-Right.ensures.stays.sound
     c.recorded-in-Right.ensures.recorded c.recorded-in-Right.ensures.same c.recorded-in-Right.ensures.numbers
 
@@ -284,12 +285,12 @@ walk-returns-in_ok-set-in-Right-clause-stays t c =
 
 pub walk-bounds-sizes-node : goal.walk-bounds-sizes-node
 walk-bounds-sizes-node t c =
-    sizes-within (sizes-left c.args.sizes.now c.args.node (reads c.args.p.now) (reads c.in-Some-operands-2.field-0-0.now, reads c.in-Some-operands-2.right.now) (sym c.in-Some-operands-2.ensures) c.requires.sizes)
+    sizes-within (sizes-left c.args.sizes.now c.args.node (reads c.args.p.now) (reads c.in-Some-as_merge-2.field-0-0.now, reads c.in-Some-as_merge-2.right.now) (sym c.in-Some-as_merge-2.ensures) c.requires.sizes)
 
 pub walk-overflow_add-behind-in-Right-2 : goal.walk-overflow_add-behind-in-Right-2
 walk-overflow_add-behind-in-Right-2 t c =
-    let s = sizes-left c.args.sizes.now c.args.node (reads c.args.p.now) (reads c.in-Some-operands-2.field-0-0.now, reads c.in-Some-operands-2.right.now) (sym c.in-Some-operands-2.ensures) c.requires.sizes in
-    omega (arith, sizes-at c.args.sizes.now (c.args.node + 1) (reads c.in-Some-operands-2.field-0-0.now) _ s, s.fits, c.requires.few)
+    let s = sizes-left c.args.sizes.now c.args.node (reads c.args.p.now) (reads c.in-Some-as_merge-2.field-0-0.now, reads c.in-Some-as_merge-2.right.now) (sym c.in-Some-as_merge-2.ensures) c.requires.sizes in
+    omega (arith, sizes-at c.args.sizes.now (c.args.node + 1) (reads c.in-Some-as_merge-2.field-0-0.now) _ s, s.fits, c.requires.few)
 
 -- ---- rules
 
@@ -457,9 +458,9 @@ walk_each-loop-i-init t c =
       within = subst (AreAllIn c.args.found.now.numbers) (sym none) (AreAllIn-none c.args.found.now.numbers);
       so_far = ap length c.new-done.ensures.items;
       sizes = c.requires.sizes;
-      walked = λ G As n fit e. subst (λ ds. ArePremisesWalkedSo c.args.found.now c.args.found.now ds c.args.first G (map part_shown c.args.premises.now) As
-          (PremiseHasPair (plain_derivations c.args.list.now) c.args.first G (map part_shown c.args.premises.now) []) (map numbers_of c.new-done.result.items)) c.as_slice-items.ensures.reading
-          (premises-walked-init c.args.found.now (plain_derivations c.args.list.now) c.args.first G (map part_shown c.args.premises.now) As n (map numbers_of c.new-done.result.items) none e);
+      walked = λ G As n fit e. subst (λ ds. ArePremisesWalkedSo c.args.found.now c.args.found.now ds c.args.first G (map premise_shown c.args.premises.now) As
+          (PremiseHasPair (plain_derivations c.args.list.now) c.args.first G (map premise_shown c.args.premises.now) []) (map numbers_of c.new-done.result.items)) c.as_slice-items.ensures.reading
+          (premises-walked-init c.args.found.now (plain_derivations c.args.list.now) c.args.first G (map premise_shown c.args.premises.now) As n (map numbers_of c.new-done.result.items) none e);
     }
 
 pub walk_each-bounds-premises-i : goal.walk_each-bounds-premises-i
@@ -504,12 +505,12 @@ walk_each-returns-in_err-set-clause-walked t c = λ G As n fit e.
     let here : c.loop-i.i < length c.args.premises.now = omega (arith, c.requires.all, count-in c.args.list.now, ap length c.as_slice-items.ensures.members, c.loop-i-test.true) in
     let sets = map numbers_of c.loop-i.done.items in
     let inside = c.under-inside.ensures ∙ ap (λ vs. bounds_under P.binds (map numbers_of vs) (bounds c.args.context.now)) c.deref.ensures.value in
-    let whole = PremiseHasPair (plain_derivations c.args.list.now) c.args.first G (map part_shown c.args.premises.now) [] in
+    let whole = PremiseHasPair (plain_derivations c.args.list.now) c.args.first G (map premise_shown c.args.premises.now) [] in
     let w = premises-at c.args.found.now c.loop-i.found items c.args.premises.now c.loop-i.i c.index-items-i.result P c.loop-i.node G As whole sets
     c.loop-i-test.true c.index-items-i.is here c.index-premises-i.is (inv.walked G As n fit e) in
     rw (p.1, p.2)
     (premise-walked-stop c.args.found.now c.loop-i.found (plain_derivation c.index-items-i.result) (derivations_from (map plain_derivation (drop (c.loop-i.i + 1) items))) c.loop-i.node G
-    (part_shown P) (map part_shown (drop (c.loop-i.i + 1) c.args.premises.now)) As whole sets c.in_err-set.field-0.0 w
+    (premise_shown P) (map premise_shown (drop (c.loop-i.i + 1) c.args.premises.now)) As whole sets c.in_err-set.field-0.0 w
     (λ A k. c.in_err-set.ensures.walked (under (plain_binder P.binds) w.so_far G) A
     (subst (λ bs. AreFit c.loop-i.found.numbers bs (under (plain_binder P.binds) w.so_far G)) (sym inside)
     (AreFit-under c.loop-i.found.numbers P.binds sets (bounds c.args.context.now) w.so_far G w.shapes (AreFit-kept inv.extends c.requires.context fit))) k))
@@ -535,14 +536,14 @@ walk_each-loop-i-preserved t c =
       so_far = ap length c.in_ok-push.ensures.items ∙ omega (arith, length_push c.loop-i.done.items c.in_ok-set.set, inv.so_far);
       sizes = subst (λ n. AreSizes c.args.sizes.now n (parts_in (drop (c.loop-i.i + 1) c.args.premises.now))) moved (sizes-rest s);
       walked = λ G As n fit e.
-          let whole = PremiseHasPair (plain_derivations c.args.list.now) c.args.first G (map part_shown c.args.premises.now) [] in
+          let whole = PremiseHasPair (plain_derivations c.args.list.now) c.args.first G (map premise_shown c.args.premises.now) [] in
           let w = premises-at c.args.found.now c.loop-i.found items c.args.premises.now c.loop-i.i c.index-items-i.result P c.loop-i.node G As whole sets
           c.loop-i-test.true c.index-items-i.is here c.index-premises-i.is (inv.walked G As n fit e) in
           let ds = derivations_from (map plain_derivation (drop (c.loop-i.i + 1) items)) in
-          let Ps = map part_shown (drop (c.loop-i.i + 1) c.args.premises.now) in
+          let Ps = map premise_shown (drop (c.loop-i.i + 1) c.args.premises.now) in
           subst (λ n. ArePremisesWalkedSo c.args.found.now c.walk.new.found ds n G Ps As whole (map numbers_of c.push.new.self.items)) moved
           (subst (λ ss. ArePremisesWalkedSo c.args.found.now c.walk.new.found ds (c.loop-i.node + nodes (reads P.part.now)) G Ps As whole ss) (sym pushed)
-          (premise-walked-next c.args.found.now c.loop-i.found c.walk.new.found (plain_derivation c.index-items-i.result) ds c.loop-i.node G (part_shown P) Ps As whole sets c.in_ok-set.set.items w
+          (premise-walked-next c.args.found.now c.loop-i.found c.walk.new.found (plain_derivation c.index-items-i.result) ds c.loop-i.node G (premise_shown P) Ps As whole sets c.in_ok-set.set.items w
           (λ A k. c.in_ok-set.ensures.walked (under (plain_binder P.binds) w.so_far G) A
           (subst (λ bs. AreFit c.loop-i.found.numbers bs (under (plain_binder P.binds) w.so_far G)) (sym inside)
           (AreFit-under c.loop-i.found.numbers P.binds sets (bounds c.args.context.now) w.so_far G w.shapes (AreFit-kept inv.extends c.requires.context fit))) k)
@@ -552,8 +553,8 @@ walk_each-loop-i-preserved t c =
 pub walk_each-returns-clause-walked : goal.walk_each-returns-clause-walked
 walk_each-returns-clause-walked t c = λ G As n fit e.
     let items = c.as_slice-items.result.now in
-    let whole = PremiseHasPair (plain_derivations c.args.list.now) c.args.first G (map part_shown c.args.premises.now) [] in
-    let Ps = map part_shown (drop c.loop-i.i c.args.premises.now) in
+    let whole = PremiseHasPair (plain_derivations c.args.list.now) c.args.first G (map premise_shown c.args.premises.now) [] in
+    let Ps = map premise_shown (drop c.loop-i.i c.args.premises.now) in
     let w = subst (λ es. ArePremisesWalkedSo c.args.found.now c.loop-i.found (derivations_from (map plain_derivation es)) c.loop-i.node G Ps As whole (map numbers_of c.loop-i.done.items))
     (drop_all c.loop-i.i items c.loop-i-test.false) (c.loop-i.invariant.walked G As n fit e) in
     premises-walked-end c.args.found.now c.loop-i.found c.loop-i.node G Ps As whole (map numbers_of c.loop-i.done.items) w

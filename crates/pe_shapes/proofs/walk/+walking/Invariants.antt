@@ -6,7 +6,8 @@ use Rattle.fy_derive.specs.Judging.{each_judged, all_conclude}
 use Rattle.fy_derive.specs.Reading.{plain_derivation, plain_derivations, derivations_from}
 use Rattle.fy_derive.specs.Rules.{nothing}
 use Rattle.fy_derive.specs.Shapes.{OneHasPair, PremiseHasPair}
-use Rattle.pe_shapes.specs.Contexts.{bounds, numbers_of, part_shown}
+use Rattle.fy_phrase.specs.Premises.{premise_shown}
+use Rattle.pe_shapes.specs.Contexts.{bounds, numbers_of}
 use Rattle.pe_shapes.specs.Finding.{IsFound}
 use Rattle.pe_shapes.specs.Parts.{AreSizes, parts_in}
 use Rattle.pe_shapes.specs.Shown.{Extends, AreIn, AreAllIn}
@@ -33,9 +34,9 @@ invariant-walk_each-loop-i l = record {
   so_far : length l.done.items ≡ l.i;
   sizes : AreSizes l.sizes l.node (parts_in (drop l.i l.premises));
   walked : (G As : List PlainType) (n : ℕ) → AreFit l.fn.found.numbers (bounds l.context) G →
-      each_judged (plain_derivations l.list) n G (map part_shown l.premises) [] ≡ all_conclude As →
-      ArePremisesWalkedSo l.fn.found l.found (derivations_from (map plain_derivation (drop l.i l.items))) l.node G (map part_shown (drop l.i l.premises)) As
-      (PremiseHasPair (plain_derivations l.list) l.first G (map part_shown l.premises) []) (map numbers_of l.done.items);
+      each_judged (plain_derivations l.list) n G (map premise_shown l.premises) [] ≡ all_conclude As →
+      ArePremisesWalkedSo l.fn.found l.found (derivations_from (map plain_derivation (drop l.i l.items))) l.node G (map premise_shown (drop l.i l.premises)) As
+      (PremiseHasPair (plain_derivations l.list) l.first G (map premise_shown l.premises) []) (map numbers_of l.done.items);
 }
 
 abbrev pub decreases-walk : goal.decreases-walk
