@@ -42,7 +42,7 @@ parts-clean : (p : Token → Bool) (ts : List Token) → IsClean ts → AllClean
 parts-clean p [] h = (tt, tt)
 parts-clean p (t ∷ ts) h = split_step p t ts (p t) refl h.0 (parts-clean p ts h.1)
 
-abbrev type_or_none : Option PlainPiece → List Token
+abbrev pub type_or_none : Option PlainPiece → List Token
 type_or_none None = []
 type_or_none (Some x) = x.type
 

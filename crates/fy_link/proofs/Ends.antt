@@ -20,6 +20,7 @@ use Rattle.fy_link.specs.Read.{plain_piece}
 use Rattle.fy_link.proofs.Cuts.{header-cut}
 use Rattle.fy_link.specs.Sources.{AreInside, IsInside}
 use Rattle.fy_link.specs.Header.{PlainPiece, PlainHeader, is_sign, piece_from, piece_of, before_others, pieces_of, header_of, inside, pieces_in, abstraction_over, type_program, unit_program}
+use Rattle.fy_link.proofs.CleanPieces.{type_or_none}
 
 abbrev IsOther : Token → Type 0
 IsOther t = t.kind ≢ kind.End
@@ -48,10 +49,6 @@ split_step p t ts false e n h = subst AllOpen (sym (slice_split-cons_no p t ts e
 pub parts-open : (p : Token → Bool) (ts : List Token) → HaveNoEnd ts → AllOpen (slice_split p ts)
 parts-open p [] h = (tt, tt)
 parts-open p (t ∷ ts) h = split_step p t ts (p t) refl h.0 (parts-open p ts h.1)
-
-abbrev type_or_none : Option PlainPiece → List Token
-type_or_none None = []
-type_or_none (Some x) = x.type
 
 from-clear : (k : TokenKind) (b : Bool) (p q : Place) (type : List Token) (x : PlainPiece) → piece_from k b p q type ≡ Some x → HaveNoEnd type → HaveNoEnd x.type
 from-clear (kind.Ident n) true p q type x e h = subst HaveNoEnd (ap type_or_none e) h

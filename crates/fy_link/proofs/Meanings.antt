@@ -11,7 +11,7 @@ use Rattle.fy_types.specs.Nested.{type_nodes, type_nesting}
 use Rattle.fy_lexer.specs.declared.token.Token.{Token}
 use Rattle.fy_lexer.specs.declared.token.TokenKind.TheVariants as kind
 use Rattle.fy_lexer.specs.declared.token.Symbol.TheVariants as symbol
-use Rattle.fy_syntax.specs.Trees.{TypeTree, TypeTrees}
+use Rattle.fy_syntax.specs.Trees.{TypeTree}
 use Rattle.fy_syntax.specs.Trees as written
 use Rattle.fy_syntax.specs.Signs.{token, symbol_at, front as first_place_of, Level}
 use Rattle.fy_syntax.specs.Spells.{SpellsBefore, IsProgram}

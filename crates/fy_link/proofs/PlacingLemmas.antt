@@ -1,11 +1,12 @@
 -- Derivations placed one premise at a time, and the types that are wanted.
-use Rattle.std.proofs.Common.{ℕ, zero, suc, ◌+◌, ◌<◌, ◌≤◌, ◌≡◌, false, List, [], ◌∷◌, ◌++◌, length, map, take, replicate, get_or, slice_get, Option, Some, None, Bor, refl, sym, ap, ◌∙◌, arith}
+use Rattle.std.proofs.Common.{ℕ, zero, suc, ◌+◌, ◌<◌, ◌≤◌, ◌≡◌, List, [], ◌∷◌, ◌++◌, length, map, take, replicate, get_or, slice_get, Option, Some, None, Bor, refl, sym, ap, ◌∙◌, arith}
 use Rattle.std.proofs.lemmas.List.{take_more, map_push, length-map, length-take-le}
 use mathlib.Core.Path.{fun_ext}
 use Rattle.fy_types.specs.declared.types.Ty.{Ty}
-use Rattle.fy_phrase.specs.declared.phrase.Phrase.{Phrase}
+use Rattle.fy_phrase.specs.declared.premise.Premise.{Premise as PremiseValue}
+use Rattle.fy_phrase.specs.Premises.{plain_binder, premise_shown}
 use Rattle.fy_phrase.specs.Tree.{Tree}
-use Rattle.fy_phrase.specs.Reads.{reads, trees_from}
+use Rattle.fy_phrase.specs.Reads.{reads}
 use Rattle.std.specs.declared.alloc.Global.{Global}
 use Rattle.std.specs.declared.boxed.Box.{Box}
 use Rattle.fy_derive.specs.declared.derivation.Derivation as node
@@ -14,14 +15,13 @@ use Rattle.fy_derive.specs.declared.derivation.Derivation.TheVariants.{rolls-Alt
 use Rattle.fy_derive.specs.Derivations.{PlainDerivation, PlainDerivations, alt, count}
 use Rattle.fy_derive.specs.Placed.{Wanted, behind, behind_binder, body_of, placed, all_placed}
 use Rattle.fy_derive.specs.Reading.{plain_derivation, derivations_from, derivation_step, derivations_step}
-use Rattle.fy_derive.specs.Rules.{Binder, nothing, first, given, Premise, of_parts}
+use Rattle.fy_derive.specs.Rules.{nothing, Premise}
 use Rattle.fy_link.specs.declared.composed.Wanted as form
 use Rattle.fy_link.specs.declared.composed.Wanted.{Wanted as WantedValue, Wanted-F, fold-roll-Wanted}
 use Rattle.fy_link.specs.declared.composed.Wanted.TheVariants.{rolls-Imports}
-use Rattle.fy_link.specs.declared.composed.Premise.{Premise as PremiseValue}
 use Rattle.fy_link.specs.Sources.{Named}
 use Rattle.fy_link.specs.Composed.{wanted}
-use Rattle.fy_link.specs.Placing.{PlainPremise, is_bound, plain_premise, plain_premises, behind_part, wanted_for, wanted_in, plain_wanted_types, wanted_step, plain_wanted}
+use Rattle.fy_link.specs.Placing.{wanted_for, wanted_in, plain_wanted_types, wanted_step, plain_wanted}
 
 -- an item of a list of images
 pub map-at : {X Y : Type 0} (f : X → Y) (xs : List X) (i : ℕ) (x : X) → i < length xs → x ≡ get_or xs i x → slice_get (map f xs) i ≡ Some (f x)
@@ -46,49 +46,27 @@ wanted-each earlier (x ∷ imports) (suc k) = wanted-each earlier imports k
 pub wanted-of : (earlier imports : List Named) → wanted_in (map (wanted_for earlier) imports) ≡ wanted imports earlier
 wanted-of earlier imports = fun_ext (wanted-each earlier imports)
 
--- one part more
-of_parts-push : (xs : List Tree) (x : Tree) → of_parts (trees_from (xs ++ x ∷ [])) ≡ of_parts (trees_from xs) ++ (nothing, x) ∷ []
-of_parts-push [] x = refl
-of_parts-push (y ∷ xs) x = ap (λ Ps. (nothing, y) ∷ Ps) (of_parts-push xs x)
-
-pub parts-next : (items : List Phrase) (i : ℕ) (x : Phrase) → i < length items → x ≡ get_or items i x →
-    plain_premises (of_parts (trees_from (map reads (take (i + 1) items))))
-    ≡ plain_premises (of_parts (trees_from (map reads (take i items)))) ++ (false, reads x) ∷ []
-parts-next items i x h e =
-    ap (λ ys. plain_premises (of_parts (trees_from (map reads ys)))) (take_more items i x h ∙ ap (λ y. take i items ++ y ∷ []) (sym e))
-    ∙ (ap (λ ys. plain_premises (of_parts (trees_from ys))) (map_push reads (take i items) x)
-    ∙ (ap plain_premises (of_parts-push (map reads (take i items)) (reads x))
-    ∙ map_push (λ (P : Premise). (is_bound P.0, P.1)) (of_parts (trees_from (map reads (take i items)))) (nothing, reads x)))
-
 -- a derivation placed with its premise; past the premises it stays as it is
-abbrev pub placed_at : Wanted → Option PlainPremise → PlainDerivation → PlainDerivation
+abbrev pub placed_at : Wanted → Option Premise → PlainDerivation → PlainDerivation
 placed_at w None d = d
-placed_at w (Some P) d = placed (behind_part P.0 w) P.1 d
+placed_at w (Some P) d = placed (behind_binder P.0 w) P.1 d
 
-abbrev pub placed_items : Wanted → List PlainPremise → List PlainDerivation → List PlainDerivation
+abbrev pub placed_items : Wanted → List Premise → List PlainDerivation → List PlainDerivation
 placed_items w Ps [] = []
 placed_items w [] (d ∷ ds) = d ∷ ds
-placed_items w (P ∷ Ps) (d ∷ ds) = placed (behind_part P.0 w) P.1 d ∷ placed_items w Ps ds
+placed_items w (P ∷ Ps) (d ∷ ds) = placed (behind_binder P.0 w) P.1 d ∷ placed_items w Ps ds
 
-placed_items-push : (w : Wanted) (Ps : List PlainPremise) (ds : List PlainDerivation) (d : PlainDerivation) →
+placed_items-push : (w : Wanted) (Ps : List Premise) (ds : List PlainDerivation) (d : PlainDerivation) →
     placed_items w Ps (ds ++ d ∷ []) ≡ placed_items w Ps ds ++ placed_at w (slice_get Ps (length ds)) d ∷ []
 placed_items-push w [] [] d = refl
 placed_items-push w [] (e ∷ ds) d = refl
 placed_items-push w (P ∷ Ps) [] d = refl
-placed_items-push w (P ∷ Ps) (e ∷ ds) d = ap (λ es. placed (behind_part P.0 w) P.1 e ∷ es) (placed_items-push w Ps ds d)
+placed_items-push w (P ∷ Ps) (e ∷ ds) d = ap (λ es. placed (behind_binder P.0 w) P.1 e ∷ es) (placed_items-push w Ps ds d)
 
-binder-part : (b : Binder) (w : Wanted) → behind_part (is_bound b) w ≡ behind_binder b w
-binder-part nothing w = refl
-binder-part first w = refl
-binder-part (given T) w = refl
-
-pub placed-all : (w : Wanted) (Ps : List Premise) (ds : List PlainDerivation) →
-    derivations_from (placed_items w (plain_premises Ps) ds) ≡ all_placed w Ps (derivations_from ds)
+pub placed-all : (w : Wanted) (Ps : List Premise) (ds : List PlainDerivation) → derivations_from (placed_items w Ps ds) ≡ all_placed w Ps (derivations_from ds)
 placed-all w Ps [] = refl
 placed-all w [] (d ∷ ds) = refl
-placed-all w (P ∷ Ps) (d ∷ ds) =
-    ap (λ v. PlainDerivations.and_derivation (placed v P.1 d) (derivations_from (placed_items w (plain_premises Ps) ds))) (binder-part P.0 w)
-    ∙ ap (PlainDerivations.and_derivation (placed (behind_binder P.0 w) P.1 d)) (placed-all w Ps ds)
+placed-all w (P ∷ Ps) (d ∷ ds) = ap (PlainDerivations.and_derivation (placed (behind_binder P.0 w) P.1 d)) (placed-all w Ps ds)
 
 pub placed-repeated : (w : Wanted) (p : Tree) (ds : List PlainDerivation) →
     derivations_from (map (placed w p) ds) ≡ all_placed w (replicate (count (derivations_from ds)) (nothing, p)) (derivations_from ds)
@@ -106,7 +84,7 @@ items-next : (items : List Derivation) (i : ℕ) (x : Derivation) → i < length
 items-next items i x h e =
     ap (map plain_derivation) (take_more items i x h ∙ ap (λ y. take i items ++ y ∷ []) (sym e)) ∙ map_push plain_derivation (take i items) x
 
-pub placed-next : (w : Wanted) (Ps : List PlainPremise) (items old new : List Derivation) (i : ℕ) (x y : Derivation) →
+pub placed-next : (w : Wanted) (Ps : List Premise) (items old new : List Derivation) (i : ℕ) (x y : Derivation) →
     i < length items → x ≡ get_or items i x → new ≡ old ++ y ∷ [] → plain_derivation y ≡ placed_at w (slice_get Ps i) (plain_derivation x) →
     map plain_derivation old ≡ placed_items w Ps (map plain_derivation (take i items)) →
     map plain_derivation new ≡ placed_items w Ps (map plain_derivation (take (i + 1) items))
@@ -123,15 +101,15 @@ placed-next w Ps items old new i x y h e n one so =
     long : length before ≡ i
     long = length-map (take i items) plain_derivation ∙ length-take-le i items (omega (arith, h))
 
--- one premise's derivation, by the list of the parts
-pub part-at : (w v : Wanted) (parts : List PremiseValue) (i : ℕ) (P : PremiseValue) (x : PlainDerivation) → i < length parts → P ≡ get_or parts i P →
-    v ≡ behind_part P.is_bound w → placed v (reads P.phrase.now) x ≡ placed_at w (slice_get (map plain_premise parts) i) x
-part-at w v parts i P x h e f =
-    ap (λ u. placed u (reads P.phrase.now) x) f ∙ ap (λ o. placed_at w o x) (sym (map-at plain_premise parts i P h e))
+-- one premise's derivation, by the list of the premises
+pub premise-at : (w v : Wanted) (Ps : List PremiseValue) (i : ℕ) (P : PremiseValue) (x : PlainDerivation) → i < length Ps → P ≡ get_or Ps i P →
+    v ≡ behind_binder (plain_binder P.binds) w → placed v (reads P.part.now) x ≡ placed_at w (slice_get (map premise_shown Ps) i) x
+premise-at w v Ps i P x h e f =
+    ap (λ u. placed u (reads P.part.now) x) f ∙ ap (λ o. placed_at w o x) (sym (map-at premise_shown Ps i P h e))
 
-pub part-past : (w : Wanted) (parts : List PremiseValue) (i : ℕ) (x : PlainDerivation) → length parts ≤ i →
-    x ≡ placed_at w (slice_get (map plain_premise parts) i) x
-part-past w parts i x h = ap (λ o. placed_at w o x) (sym (map-past plain_premise parts i h))
+pub premise-past : (w : Wanted) (Ps : List PremiseValue) (i : ℕ) (x : PlainDerivation) → length Ps ≤ i →
+    x ≡ placed_at w (slice_get (map premise_shown Ps) i) x
+premise-past w Ps i x h = ap (λ o. placed_at w o x) (sym (map-past premise_shown Ps i h))
 
 -- an alternative's derivation
 alt-read : (d : Derivation) (i : ℕ) (b : Box Derivation Global) → d ≡ node.Alt i b → plain_derivation d ≡ alt i (plain_derivation b.value)

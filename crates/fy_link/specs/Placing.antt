@@ -1,41 +1,14 @@
--- The parts of phrases and the wanted types, as the code has them.
-use Rattle.std.specs.Prelude.{Bool, true, false, List, map, slice_get, Option, Some, None}
+-- The wanted types, as the code has them.
+use Rattle.std.specs.Prelude.{List, map, slice_get, Option, Some, None}
 use Rattle.std.specs.Option.{option_map}
 use Rattle.std.specs.Borrow.{Bor}
 use Rattle.fy_types.specs.declared.types.Ty.{Ty}
 use Rattle.fy_types.specs.Types.{PlainType}
 use Rattle.fy_types.specs.Reading.{plain_type}
-use Rattle.fy_phrase.specs.Reads.{reads}
-use Rattle.fy_phrase.specs.Tree.{Tree}
-use Rattle.fy_derive.specs.Placed.{Wanted, behind, those_of}
-use Rattle.fy_derive.specs.Rules.{Binder, nothing, first, given, Premise, premises}
+use Rattle.fy_derive.specs.Placed.{Wanted, behind}
 use Rattle.fy_link.specs.Sources.{Named}
 use Rattle.fy_link.specs.Composed.{type_named, wanted_at}
 use Rattle.fy_link.specs.declared.composed.Wanted.{Wanted as WantedValue, Wanted-F, fold-Wanted}
-use Rattle.fy_link.specs.declared.composed.Premise.{Premise as PremiseValue}
-
--- a premise's part, and whether it stands under the phrase's binder
-abbrev pub PlainPremise : Type 0
-PlainPremise = Bool × Tree
-
-abbrev pub is_bound : Binder → Bool
-is_bound nothing = false
-is_bound first = true
-is_bound (given T) = true
-
-abbrev pub plain_premises : List Premise → List PlainPremise
-plain_premises Ps = map (λ (P : Premise). (is_bound P.0, P.1)) Ps
-
--- the parts that the premises of the phrase's own rule are about
-abbrev pub premises_of : Tree → List PlainPremise
-premises_of p = plain_premises (those_of (premises p))
-
-abbrev pub behind_part : Bool → Wanted → Wanted
-behind_part false wanted = wanted
-behind_part true wanted = behind wanted
-
-abbrev pub plain_premise : PremiseValue → PlainPremise
-plain_premise P = (P.is_bound, reads P.phrase.now)
 
 abbrev pub plain_optional : Option (Bor Ty) → Option PlainType
 plain_optional o = option_map (λ (ty : Bor Ty). plain_type ty.now) o

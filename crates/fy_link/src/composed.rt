@@ -1,14 +1,15 @@
 //! The derivation of units put together.
 
-ghost use Rattle.std.specs.Prelude.{◌≡◌, [], ◌∷◌, true, false, IfOk, map, replicate, reverse};
-ghost use Rattle.fy_phrase.specs.Reads.{reads, reads_parts};
-ghost use Rattle.fy_derive.specs.Placed.{all_placed, body_of, left_of, placed, raised_use, right_of, those_of};
+ghost use Rattle.std.specs.Prelude.{◌≡◌, [], IfOk, map, replicate, reverse};
+ghost use Rattle.fy_phrase.specs.Premises.{plain_binder, premise_shown};
+ghost use Rattle.fy_phrase.specs.Reads.{reads};
+ghost use Rattle.fy_derive.specs.Placed.{all_placed, behind, behind_binder, body_of, left_of, placed, raised_use, right_of, those_of};
 ghost use Rattle.fy_derive.specs.Derivations.{and_derivation, count, no_derivations, rule};
-ghost use Rattle.fy_derive.specs.Rules.{nothing, of_parts, premises};
+ghost use Rattle.fy_derive.specs.Rules.{nothing, premises};
 ghost use Rattle.fy_derive.specs.Reading.{plain_derivation, plain_derivations};
 ghost use Rattle.fy_link.specs.Composed.{behind_maker, behind_provided, composed_derivation, maker_derivation, placed_unit, provided_derivation, units_derivation};
 ghost use Rattle.fy_link.specs.Read.{owns_before, plain_named};
-ghost use Rattle.fy_link.specs.Placing.{behind_part, plain_optional, plain_premise, plain_premises, plain_wanted, premises_of, wanted_for};
+ghost use Rattle.fy_link.specs.Placing.{plain_optional, plain_wanted, wanted_for};
 ghost use Rattle.fy_link.specs.Units.{plain_unit};
 
 use crate::causes::type_named;
@@ -16,7 +17,7 @@ use crate::source::Named;
 use crate::unit::Unit;
 use fy_base::OutOfMemory;
 use fy_derive::{Derivation, DerivationList};
-use fy_phrase::{Parts, Phrase};
+use fy_phrase::{Binds, Phrase, Premise, premises_of};
 use fy_types::{Ty, copy_ty, same_ty};
 use std::alloc::Global;
 
@@ -55,89 +56,31 @@ fn wanted_at<'a>(wanted: &Wanted<'a>, variable: u32) -> Option<&'a Ty>
     }
 }
 
-// What is wanted inside a phrase, below its binder or not.
-fn inside<'a>(wanted: &'a Wanted<'a>, is_bound: bool) -> Wanted<'a>
-    ensures { plain_wanted result ≡ behind_part is_bound (plain_wanted wanted.now) }
+// What is wanted below one more binder.
+fn behind<'a>(wanted: &'a Wanted<'a>) -> Wanted<'a>
+    ensures { plain_wanted result ≡ behind (plain_wanted wanted.now) }
 {
-    if is_bound {
-        Wanted::Behind(wanted)
-    } else {
-        *wanted
+    Wanted::Behind(wanted)
+}
+
+// What is wanted inside a premise's part.
+fn inside<'a>(wanted: &'a Wanted<'a>, binds: Binds<'_>) -> Wanted<'a>
+    ensures { plain_wanted result ≡ behind_binder (plain_binder binds.entry) (plain_wanted wanted.now) }
+{
+    match binds {
+        Binds::Nothing => *wanted,
+        Binds::First | Binds::Given(_) => behind(wanted),
     }
 }
 
-// What a premise is about, and whether that stands under the phrase's binder.
-#[derive(Clone, Copy)]
-struct Premise<'a> {
-    phrase: &'a Phrase,
-    is_bound: bool,
-}
-
-fn free(phrase: &Phrase) -> Premise<'_>
-    ensures { plain_premise result ≡ (false, reads phrase.now) }
+// The premises of the phrase's rule; none where it has no rule of its own.
+fn premises_in<'a>(alloc: Global, p: &'a Phrase) -> Result<Vec<Premise<'a>>, OutOfMemory>
+    ensures { IfOk result (λ all. map premise_shown all.items ≡ those_of (premises (reads p.now))) }
 {
-    Premise {
-        phrase,
-        is_bound: false,
+    match premises_of(alloc, p)? {
+        Some(all) => Ok(all),
+        None => Ok(Vec::new(alloc)),
     }
-}
-
-fn bound(phrase: &Phrase) -> Premise<'_>
-    ensures { plain_premise result ≡ (true, reads phrase.now) }
-{
-    Premise {
-        phrase,
-        is_bound: true,
-    }
-}
-
-// What the premises of the phrase's rule are about, in order; nothing where it has no rule of its own.
-fn parts_of<'a>(alloc: Global, p: &'a Phrase) -> Result<Vec<Premise<'a>>, OutOfMemory>
-    ensures { IfOk result (λ parts. map plain_premise parts.items ≡ premises_of (reads p.now)) }
-{
-    match p {
-        Phrase::Var(..)
-        | Phrase::Lit(..)
-        | Phrase::Skip(_)
-        | Phrase::Lam(..)
-        | Phrase::Merge(..)
-        | Phrase::Mark(..) => Ok(Vec::new(alloc)),
-        Phrase::Unary(_, p, _)
-        | Phrase::Field(_, p, _)
-        | Phrase::Sel(p, _, _)
-        | Phrase::Forever(p, _)
-        | Phrase::Put(_, p, _)
-        | Phrase::Read(p, _) => Ok(Vec::from_array(alloc, [free(p)])?),
-        Phrase::Binary(_, p, q, _)
-        | Phrase::App(p, q, _)
-        | Phrase::Seq(p, q, _)
-        | Phrase::Assign(p, q, _)
-        | Phrase::WhileDo(p, q, _) => Ok(Vec::from_array(alloc, [free(p), free(q)])?),
-        Phrase::Cond(b, p, q, _) => Ok(Vec::from_array(alloc, [free(b), free(p), free(q)])?),
-        Phrase::Case(e, parts, _) => case_parts(alloc, e, parts),
-        Phrase::LetIn(_, p, body, _)
-        | Phrase::New(_, _, p, body, _)
-        | Phrase::Cells(_, p, body, _) => { Ok(Vec::from_array(alloc, [free(p), bound(body)])?) }
-        Phrase::Rec(_, _, body, _) | Phrase::Escape(_, body, _) | Phrase::Accept(_, _, body, _) => {
-            Ok(Vec::from_array(alloc, [bound(body)])?)
-        }
-    }
-}
-
-// An index and the parts that it picks from.
-fn case_parts<'a>(
-    alloc: Global,
-    e: &'a Phrase,
-    parts: &'a Parts,
-) -> Result<Vec<Premise<'a>>, OutOfMemory>
-    ensures { IfOk result (λ all. map plain_premise all.items ≡ (false, reads e.now) ∷ plain_premises (of_parts (reads_parts parts.now))) }
-{
-    let mut all = Vec::new(alloc);
-    all.push(free(e))?;
-    for part in parts.as_slice() {
-        all.push(free(part))?;
-    }
-    Ok(all)
 }
 
 // The body of an abstraction, the left operand of a merge and the right one; other phrases stand for themselves.
@@ -190,7 +133,7 @@ fn placed(
             Ok(Derivation::Meet(list))
         }
         Derivation::Alt(index, inner) => {
-            let within = inside(&*wanted, true);
+            let within = behind(&*wanted);
             let inner = Box::new(alloc, placed(alloc, inner, &within, body_of(&*p))?)?;
             Ok(Derivation::Alt(*index, inner))
         }
@@ -238,15 +181,15 @@ fn premises_placed(
     ensures { IfOk result (λ made. plain_derivations made
         ≡ all_placed (plain_wanted wanted.now) (those_of (premises (reads p.now))) (plain_derivations list.now)) }
 {
-    let all = parts_of(alloc, &*p)?;
-    let parts = all.as_slice();
+    let all = premises_in(alloc, &*p)?;
+    let premises = all.as_slice();
     let items = list.as_slice();
     let mut made = DerivationList::new(alloc);
     for i in 0..items.len() {
-        let d = if i < parts.len() {
-            let part = &parts[i];
-            let within = inside(&*wanted, part.is_bound);
-            placed(alloc, &items[i], &within, part.phrase)?
+        let d = if i < premises.len() {
+            let premise = &premises[i];
+            let within = inside(&*wanted, premise.binds);
+            placed(alloc, &items[i], &within, premise.part)?
         } else {
             copied(alloc, &items[i])?
         };

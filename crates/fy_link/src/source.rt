@@ -13,7 +13,7 @@ ghost use Rattle.fy_lexer.specs.Tokens.{HasAdded};
 ghost use Rattle.fy_lexer.specs.Again.{HaveNoEnd};
 ghost use Rattle.fy_link.specs.Header.{type_program as type_program_of};
 ghost use Rattle.fy_link.specs.Read.{plain_header, plain_named, plain_piece, plain_said};
-ghost use Rattle.fy_link.specs.Sources.{AreInside, HasEquals, IsInside, IsSourceFault, IsSource, IsSaid, IsSaidFault, IsTypeFault, NameAll, Names as NamesOf, behind_definitions, below_abstractions, domain_of, without_prelude};
+ghost use Rattle.fy_link.specs.Sources.{AreInside, HasEquals, IsInside, IsSourceFault, IsSource, IsSaid, IsSaidFault, IsTypeFault, NameAll, Names as NamesOf, behind_definitions, below_abstractions, domain_of};
 
 use crate::header::{Header, Piece, header_in};
 use crate::written::{type_program, unit_program};
