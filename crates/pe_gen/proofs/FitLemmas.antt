@@ -1,14 +1,15 @@
 -- Each pair of an accepted derivation fits its node's form: an abstraction is asked for a call, a definition for its field, and no mark is asked for anything.
-use Rattle.std.proofs.Common.{ℕ, ◌+◌, ◌≡◌, List, [], ◌∷◌, Option, option_map, Some, None, IfSome, refl, sym, ap, subst}
+use Rattle.std.proofs.Common.{ℕ, ◌+◌, ◌≡◌, List, [], Some, refl, sym, ap, subst}
 use Rattle.fy_types.specs.Types.{PlainType, field as field_type}
 use Rattle.fy_types.specs.Paths.{PlainPath, paths}
-use Rattle.fy_phrase.specs.Tree.{Tree, Trees, no_trees, and_tree, case, lam, field, merge, mark}
-use Rattle.fy_derive.specs.Kinds.{Kind, kind_of}
+use Rattle.fy_phrase.specs.Tree.{Tree, lam, field, merge, mark}
+use Rattle.fy_derive.specs.Kinds.{Kind}
 use Rattle.fy_derive.specs.Tables.{type_at}
 use Rattle.fy_derive.specs.Derivations.{PlainDerivation, PlainDerivations, alt, rule}
-use Rattle.fy_derive.specs.Rules.{Premise, premises, of_parts as parts_premises, conclusion}
-use Rattle.fy_derive.specs.Judging.{concludes, member, alternative, operands, judged}
-use Rattle.fy_derive.specs.Shapes.{PlainShape, a_call, a_field, erase, HasPath, HasPair, own, in_sub, in_meet, in_alt, in_left, in_right, in_rule, OneHasPair, this_one, other_one, PremiseHasPair, this_premise, later_premise, of_trees, parts_of, IsNodeAt, itself, in_part, IsNodeAmong, in_first, in_later, shape_table}
+use Rattle.fy_derive.specs.Rules.{Premise, premises, conclusion}
+use Rattle.fy_derive.specs.Judging.{concludes, alternative, operands, judged}
+use Rattle.fy_derive.specs.Shapes.{PlainShape, a_call, a_field, erase, HasPath, HasPair, own, in_sub, in_meet, in_alt, in_left, in_right, in_rule, OneHasPair, this_one, other_one, PremiseHasPair, this_premise, later_premise, IsNodeAt, itself, in_part, IsNodeAmong, in_first, in_later, shape_table, subjects}
+use Rattle.fy_derive.proofs.PartLemmas.{alternative-parts, operands-parts, rule-parts}
 use Rattle.pe_shapes.proofs.NodeNumbers.{one-node}
 use Rattle.pe_shapes.proofs.JudgedLemmas.{some_same, rule-inner, alt-inner, left-inner, right-inner}
 use Rattle.pe_shapes.proofs.RuleBelow.{erase-below, path-called, path-picked, IsRuleBelow, this_alt, this_left, this_right, this_rule, below_sub, below_meet, IsRuleAmong, below_this, below_other, rule-below}
@@ -71,42 +72,6 @@ own-fits : (d : PlainDerivation) (G : List PlainType) (p : Tree) (A : PlainType)
 own-fits d G p A P e among =
     let r = rule-below d e among in
     subst (λ s. Fits p s) (erase-below r.low) (below-fits r.stands G p r.concluded r.path r.so r.among)
-
--- ---- the parts
-
-alternative-parts : (i : ℕ) (p : Tree) (x : PlainType × Tree) → alternative i p ≡ Some x → parts_of p ≡ x.1 ∷ []
-alternative-parts i (lam d As b at) x e = by (member As i) e
-  where
-    by : (o : Option PlainType) → option_map {U = PlainType × Tree} (λ A. (A, b)) o ≡ Some x → b ∷ [] ≡ x.1 ∷ []
-    by None f = absurd cc
-    by (Some A) f = ap (λ y. y.1 ∷ []) (some_same f)
-alternative-parts i p x e = absurd cc
-
-operands-parts : (p : Tree) (x : Tree × Tree × Kind) → operands p ≡ Some x → parts_of p ≡ x.0 ∷ x.1 ∷ []
-operands-parts (merge q r at) x e = by (kind_of r) e
-  where
-    by : (o : Option Kind) → option_map {U = Tree × Tree × Kind} (λ k. (q, r, k)) o ≡ Some x → q ∷ r ∷ [] ≡ x.0 ∷ x.1 ∷ []
-    by None f = absurd cc
-    by (Some k) f = ap (λ y. y.0 ∷ y.1 ∷ []) (some_same f)
-operands-parts p x e = absurd cc
-
-abbrev subjects : List Premise → List Tree
-subjects [] = []
-subjects (P ∷ Ps) = P.1 ∷ subjects Ps
-
-subjects-parts : (ps : Trees) → of_trees ps ≡ subjects (parts_premises ps)
-subjects-parts no_trees = refl
-subjects-parts (and_tree p ps) = ap (λ qs. p ∷ qs) (subjects-parts ps)
-
-premises-parts : (p : Tree) → IfSome (premises p) (λ Ps. parts_of p ≡ subjects Ps)
-premises-parts (case e parts at) = ap (λ qs. e ∷ qs) (subjects-parts parts)
-premises-parts (lam d As b at) = tt
-premises-parts (merge p q at) = tt
-premises-parts (mark m at) = tt
-premises-parts p = refl
-
-rule-parts : (p : Tree) (Ps : List Premise) → premises p ≡ Some Ps → parts_of p ≡ subjects Ps
-rule-parts p Ps e = subst (λ o. IfSome o (λ Qs. parts_of p ≡ subjects Qs)) e (premises-parts p)
 
 -- ---- each pair
 

@@ -1,9 +1,8 @@
 -- Members of lists by their places.
 use Rattle.std.proofs.Common.{ℕ, zero, suc, ◌+◌, ◌<◌, ◌≤◌, ◌≡◌, List, [], ◌∷◌, ◌++◌, length, Some, refl, ap, arith}
 use Rattle.std.specs.Prelude.{slice_get}
-
-pub some_same : {X : Type 0} {x y : X} → Some x ≡ Some y → x ≡ y
-some_same e = cc
+pub use Rattle.pe_right.proofs.NodeValues.{get-right}
+pub use Rattle.fy_derive.proofs.SoundLemmas.{some_same}
 
 pub pair_first : {X Y : Type 0} {a x : X} {b y : Y} → ◌≡◌ {A = X × Y} (a, b) (x, y) → a ≡ x
 pair_first e = ap (λ p. p.0) e
@@ -26,11 +25,6 @@ pub get-left : {X : Type 0} (xs ys : List X) (i : ℕ) → i < length xs → sli
 get-left [] ys i h = absurd (omega arith)
 get-left (x ∷ xs) ys zero h = refl
 get-left (x ∷ xs) ys (suc i) h = get-left xs ys i (omega arith)
-
-pub get-right : {X : Type 0} (xs ys : List X) (i n : ℕ) → n ≡ length xs + i → slice_get (xs ++ ys) n ≡ slice_get ys i
-get-right [] ys i n e = let f : n ≡ i = omega arith in ap (slice_get ys) f
-get-right (x ∷ xs) ys i zero e = absurd (omega arith)
-get-right (x ∷ xs) ys i (suc n) e = get-right xs ys i n (omega arith)
 
 -- a member of a list with one more at its end is one of the list or the last
 pub get-pushed : {X : Type 0} (xs : List X) (x y : X) (i : ℕ) → slice_get (xs ++ x ∷ []) i ≡ Some y → i ≤ length xs

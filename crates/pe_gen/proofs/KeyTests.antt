@@ -1,6 +1,5 @@
 -- The tests of pairs and of steps decide equality.
-use Rattle.std.proofs.Common.{Bool, true, ◌≡◌, eqb-true, refl, ap, ◌∙◌, rules}
-use denote.Enum.Bare.{same_true}
+use Rattle.std.proofs.Common.{Bool, true, ◌≡◌, eqb-true, refl, ap, ◌∙◌}
 use Rattle.fy_types.proofs.OnceLemmas.{both_true}
 use Rattle.fy_phrase.specs.declared.shapes.Pair.{Pair}
 use Rattle.fy_phrase.specs.declared.shapes.ShapeElem.{ShapeElem}
@@ -12,12 +11,12 @@ use Rattle.fy_phrase.specs.contracts.shapes.ShapeElemPartialEq.TheImpl as elem_t
 use Rattle.fy_phrase.specs.contracts.shapes.ShapeElemEq.TheImpl.Laws as elem_laws
 use Rattle.fy_phrase.specs.contracts.shapes.ShapeEndEq.TheImpl.Laws as end_laws
 use Rattle.fy_phrase.specs.contracts.shapes.ShapeEndPartialEq.TheImpl as end_test
-use Rattle.fy_phrase.specs.contracts.shapes.ShapeEnd.{the_type}
 use Rattle.pe_gen.specs.declared.steps.ShapeStep.{ShapeStep}
 use Rattle.pe_gen.specs.declared.steps.ShapeStep.TheVariants.{End, Before, Apart}
 use Rattle.pe_gen.specs.contracts.steps.ShapeStepPartialEq.TheImpl as step_test
 use Rattle.pe_gen.specs.contracts.steps.ShapeStepEq.TheImpl.Laws as step_laws
 use Rattle.pe_gen.proofs.EntryLists.{pair_same}
+pub use Rattle.pe_shapes.proofs.NodeTests.{same_end}
 
 abbrev pub same_pair : Pair → Pair → Bool
 same_pair = pair_test.ghosts.eq
@@ -27,9 +26,6 @@ same_pair-refl x = pair_laws.lawful.laws.refl x
 
 pub same_pair-true : (x y : Pair) → same_pair x y ≡ true → x ≡ y
 same_pair-true x y e = let h = both_true _ _ e in pair_same x y (eqb-true x.node y.node h.0) (eqb-true x.shape y.shape h.1)
-
-pub same_end : (a b : ShapeEnd) → (end_test.ghosts).eq a b ≡ true → a ≡ b
-same_end a b e = same_true the_type (search rules) _ _ e
 
 pub same_elem : (a b : ShapeElem) → (elem_test.ghosts).eq a b ≡ true → a ≡ b
 same_elem elem.Call elem.Call e = refl

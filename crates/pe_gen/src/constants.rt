@@ -28,28 +28,7 @@ fn value_of(p: &Phrase) -> Option<Datum>
         Phrase::Lit(v, _) => Some(*v),
         Phrase::Unary(op, q, _) => unary_value(*op, value_of(q)),
         Phrase::Binary(op, q, r, _) => binary_value(*op, value_of(q), value_of(r)),
-        Phrase::Var(..)
-        | Phrase::Cond(..)
-        | Phrase::Case(..)
-        | Phrase::Lam(..)
-        | Phrase::App(..)
-        | Phrase::Field(..)
-        | Phrase::Sel(..)
-        | Phrase::Merge(..)
-        | Phrase::LetIn(..)
-        | Phrase::Rec(..)
-        | Phrase::Skip(_)
-        | Phrase::Seq(..)
-        | Phrase::Assign(..)
-        | Phrase::WhileDo(..)
-        | Phrase::Forever(..)
-        | Phrase::New(..)
-        | Phrase::Cells(..)
-        | Phrase::Escape(..)
-        | Phrase::Accept(..)
-        | Phrase::Put(..)
-        | Phrase::Read(..)
-        | Phrase::Mark(..) => None,
+        _ => None,
     }
 }
 

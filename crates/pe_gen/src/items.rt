@@ -6,7 +6,7 @@ ghost use Rattle.fy_derive.specs.ShapeTables.{shape_at};
 ghost use Rattle.fy_phrase.specs.Reads.{reads, reads_parts};
 ghost use Rattle.fy_phrase.specs.declared.shapes.Pair.{Pair};
 ghost use Rattle.pe_code.specs.declared.code.PeItem.{PeItem};
-ghost use Rattle.pe_gen.specs.Plan.{nodes_in, IsAsked, AreDue, AsksParts, IsPlan, IsInsnIn, EachEntersIn, IsItemIn, IsSite};
+ghost use Rattle.pe_gen.specs.Plan.{nodes_in, AreDue, AsksParts, IsPlan, IsInsnIn, EachEntersIn, IsItemIn, IsSite};
 ghost use Rattle.pe_right.specs.Right.{is_variable};
 ghost use Rattle.pe_gen.specs.Sites.{is_merge, IsListed};
 
@@ -176,29 +176,6 @@ fn variable_of(p: &Phrase) -> Option<u32>
 {
     match p {
         Phrase::Var(k, _) => Some(*k),
-        Phrase::Lit(..)
-        | Phrase::Unary(..)
-        | Phrase::Binary(..)
-        | Phrase::Cond(..)
-        | Phrase::Case(..)
-        | Phrase::Lam(..)
-        | Phrase::App(..)
-        | Phrase::Field(..)
-        | Phrase::Sel(..)
-        | Phrase::Merge(..)
-        | Phrase::LetIn(..)
-        | Phrase::Rec(..)
-        | Phrase::Skip(_)
-        | Phrase::Seq(..)
-        | Phrase::Assign(..)
-        | Phrase::WhileDo(..)
-        | Phrase::Forever(..)
-        | Phrase::New(..)
-        | Phrase::Cells(..)
-        | Phrase::Escape(..)
-        | Phrase::Accept(..)
-        | Phrase::Put(..)
-        | Phrase::Read(..)
-        | Phrase::Mark(..) => None,
+        _ => None,
     }
 }

@@ -63,27 +63,6 @@ fn thunk_of(p: &Phrase) -> Option<ThunkOf>
         Phrase::App(..) => Some(ThunkOf::Argument),
         Phrase::LetIn(..) => Some(ThunkOf::Definition),
         Phrase::Rec(..) => Some(ThunkOf::Itself),
-        Phrase::Var(..)
-        | Phrase::Lit(..)
-        | Phrase::Unary(..)
-        | Phrase::Binary(..)
-        | Phrase::Cond(..)
-        | Phrase::Case(..)
-        | Phrase::Lam(..)
-        | Phrase::Field(..)
-        | Phrase::Sel(..)
-        | Phrase::Merge(..)
-        | Phrase::Skip(_)
-        | Phrase::Seq(..)
-        | Phrase::Assign(..)
-        | Phrase::WhileDo(..)
-        | Phrase::Forever(..)
-        | Phrase::New(..)
-        | Phrase::Cells(..)
-        | Phrase::Escape(..)
-        | Phrase::Accept(..)
-        | Phrase::Put(..)
-        | Phrase::Read(..)
-        | Phrase::Mark(..) => None,
+        _ => None,
     }
 }

@@ -4,9 +4,7 @@ use Rattle.fy_base.specs.declared.data.Place.{Place}
 use Rattle.fy_base.specs.declared.data.Datum.{Datum}
 use Rattle.fy_base.specs.declared.data.Datum.TheVariants as datum
 use Rattle.fy_base.specs.declared.data.UnOp.{UnOp}
-use Rattle.fy_base.specs.declared.data.UnOp.TheVariants.{Neg, Not, Ord, Chr}
-use Rattle.fy_base.specs.declared.data.BinOp.{BinOp}
-use Rattle.fy_base.specs.declared.data.BinOp.TheVariants.{Add, Sub, Mul, Div, Rem, Eq, Ne, Lt, Le, Gt, Ge, And, Or}
+use Rattle.fy_base.specs.declared.data.BinOp.TheVariants.{And, Or}
 use Rattle.fy_base.specs.declared.data.PutKind.{PutKind}
 use Rattle.fy_base.specs.declared.data.PutKind.TheVariants as put_kind
 use Rattle.fy_base.specs.Outside.{Bytes}
@@ -15,16 +13,19 @@ use Rattle.fy_types.specs.declared.types.Atom.{Atom}
 use Rattle.fy_types.specs.declared.types.Atom.TheVariants as atoms
 use Rattle.fy_types.specs.Paths.{PlainPath, PlainPaths, end, call, pick, no_paths, and_path, paths}
 use Rattle.fy_types.specs.PathOrder.{same_end, compl_below, IsPathBelow, ends, calls, picks, ArePathsBelow, and_above, HasBelow, here, there}
-use Rattle.fy_types.proofs.Order.{IsPathBelow-refl, HasBelow-trans, ArePathsBelow-refl}
+use Rattle.fy_types.proofs.Order.{IsPathBelow-refl, ArePathsBelow-refl}
 use Rattle.fy_phrase.specs.declared.phrase.DataTy.{DataTy}
 use Rattle.fy_phrase.specs.declared.phrase.DataTy.TheVariants as data_type
 use Rattle.fy_phrase.specs.Tree.{Tree, Trees, no_trees, and_tree, var, lit, unary, binary, cond as conditional, case, lam, app, field, sel, merge, let_in, rec, skip, seq, assign, while_do, forever, new, cells, escape, accept, put, read, mark}
 use Rattle.fy_phrase.specs.Sizes.{nodes}
 use Rattle.fy_phrase.specs.Copy.{part_at}
-use Rattle.fy_derive.specs.Atoms.{data_atom, acceptor_atom, cell_type, sequence_type, datum_atom, operand_atom, unary_atom, takes, binary_atom, put_atom, is_command, is_acceptor}
+use Rattle.fy_derive.specs.Atoms.{data_atom, acceptor_atom, cell_type, sequence_type, datum_atom, operand_atom, unary_atom, takes, binary_atom, put_atom, is_acceptor}
 use Rattle.fy_derive.specs.Kinds.{Kind, of_call, of_field, of_assignment, kind_of, begins}
 use Rattle.fy_derive.specs.Shapes.{a_value, an_assignment, a_run, PlainShape, at_end, a_call, a_field, end_shape, erase, shape_begins}
-use Rattle.fy_derive.proofs.PathTyping.{paths_at, EachPath, EachPath-map, HasBelow-up, begins-up, Covers, IsRun, only}
+use Rattle.fy_derive.proofs.PathTyping.{paths_at, EachPath, EachPath-map, HasBelow-up, begins-up, Covers, IsRun, only, fixed-up, data_atom-fixed, acceptor_atom-fixed, datum_atom-fixed, unary_atom-fixed, binary_atom-fixed, call-up, pick-up, covers-same, covers-under, under-same}
+pub use Rattle.fy_derive.proofs.PathTyping.{run-up}
+use Rattle.fy_derive.proofs.Asking.{data_atom-shape, acceptor_atom-shape, datum_atom-shape, operand_atom-shape, put_atom-shape, command-shape}
+pub use Rattle.fy_derive.proofs.ContextSafety.{acceptor_atom-same}
 use Rattle.pe_right.proofs.Demanding.{Answers, EachAnswers}
 
 -- ---- shapes
@@ -58,37 +59,6 @@ begins-shape of_assignment (end a) = assignment_begins-shape a
 begins-shape of_assignment (call D P) = refl
 begins-shape of_assignment (pick i P) = refl
 
-data_atom-shape : (D : DataTy) → end_shape (data_atom D) ≡ a_value
-data_atom-shape data_type.Int = refl
-data_atom-shape data_type.Bool = refl
-data_atom-shape data_type.Char = refl
-
-acceptor_atom-shape : (D : DataTy) → end_shape (acceptor_atom D) ≡ an_assignment
-acceptor_atom-shape data_type.Int = refl
-acceptor_atom-shape data_type.Bool = refl
-acceptor_atom-shape data_type.Char = refl
-
-datum_atom-shape : (v : Datum) → end_shape (datum_atom v) ≡ a_value
-datum_atom-shape (datum.Int n) = refl
-datum_atom-shape (datum.Bool b) = refl
-datum_atom-shape (datum.Char c) = refl
-
-operand_atom-shape : (op : UnOp) → end_shape (operand_atom op) ≡ a_value
-operand_atom-shape Neg = refl
-operand_atom-shape Not = refl
-operand_atom-shape Ord = refl
-operand_atom-shape Chr = refl
-
-put_atom-shape : (kind : PutKind) → end_shape (put_atom kind) ≡ a_value
-put_atom-shape put_kind.Int = refl
-put_atom-shape put_kind.Char = refl
-put_atom-shape put_kind.Bool = refl
-
-command-shape : (R : Atom) → is_command R ≡ true → end_shape R ≡ a_run
-command-shape atoms.Comm e = refl
-command-shape atoms.Compl e = refl
-command-shape R e = absurd cc
-
 -- the shapes of ends
 pub data-erase : (D : DataTy) → erase (end (data_atom D)) ≡ at_end a_value
 data-erase D = ap at_end (data_atom-shape D)
@@ -110,53 +80,6 @@ run-erase (R, is, e) = ap erase e ∙ ap at_end (command-shape R is)
 
 -- ---- what holds of a path above
 
--- an end that isn't `compl` has only itself above
-abbrev IsFixed : Atom → Type 0
-IsFixed atoms.Compl = ⊥
-IsFixed a = Unit {0}
-
-fixed-up : (a : Atom) {P Q : PlainPath} → IsFixed a → P ≡ end a → IsPathBelow P Q → Q ≡ end a
-fixed-up a fixed e (ends same_end) = e
-fixed-up a fixed e (ends compl_below) = let f : a ≡ atoms.Compl = cc in absurd (subst IsFixed f fixed)
-fixed-up a fixed e (calls wide low) = absurd cc
-fixed-up a fixed e (picks low) = absurd cc
-
-data_atom-fixed : (D : DataTy) → IsFixed (data_atom D)
-data_atom-fixed data_type.Int = tt
-data_atom-fixed data_type.Bool = tt
-data_atom-fixed data_type.Char = tt
-
-acceptor_atom-fixed : (D : DataTy) → IsFixed (acceptor_atom D)
-acceptor_atom-fixed data_type.Int = tt
-acceptor_atom-fixed data_type.Bool = tt
-acceptor_atom-fixed data_type.Char = tt
-
-datum_atom-fixed : (v : Datum) → IsFixed (datum_atom v)
-datum_atom-fixed (datum.Int n) = tt
-datum_atom-fixed (datum.Bool b) = tt
-datum_atom-fixed (datum.Char c) = tt
-
-unary_atom-fixed : (op : UnOp) → IsFixed (unary_atom op)
-unary_atom-fixed Neg = tt
-unary_atom-fixed Not = tt
-unary_atom-fixed Ord = tt
-unary_atom-fixed Chr = tt
-
-binary_atom-fixed : (op : BinOp) → IsFixed (binary_atom op)
-binary_atom-fixed Add = tt
-binary_atom-fixed Sub = tt
-binary_atom-fixed Mul = tt
-binary_atom-fixed Div = tt
-binary_atom-fixed Rem = tt
-binary_atom-fixed Eq = tt
-binary_atom-fixed Ne = tt
-binary_atom-fixed Lt = tt
-binary_atom-fixed Le = tt
-binary_atom-fixed Gt = tt
-binary_atom-fixed Ge = tt
-binary_atom-fixed And = tt
-binary_atom-fixed Or = tt
-
 -- of a data type, of its acceptors and of a datum's type only the end itself is above
 pub data-up : (D : DataTy) {Q : PlainPath} → IsPathBelow (end (data_atom D)) Q → Q ≡ end (data_atom D)
 data-up D low = fixed-up (data_atom D) (data_atom-fixed D) refl low
@@ -166,29 +89,6 @@ acceptor-up D low = fixed-up (acceptor_atom D) (acceptor_atom-fixed D) refl low
 
 pub datum-up : (v : Datum) {Q : PlainPath} → IsPathBelow (end (datum_atom v)) Q → Q ≡ end (datum_atom v)
 datum-up v low = fixed-up (datum_atom v) (datum_atom-fixed v) refl low
-
-pub run-up : {P Q : PlainPath} → IsRun P → IsPathBelow P Q → IsRun Q
-run-up (R, is, e) (ends same_end) = (R, is, e)
-run-up (R, is, e) (ends compl_below) = (atoms.Comm, refl, refl)
-run-up (R, is, e) (calls wide low) = absurd cc
-run-up (R, is, e) (picks low) = absurd cc
-
-pub call-up : {P Q : PlainPath} (D : PlainPaths) (R : PlainPath) → P ≡ call D R → IsPathBelow P Q →
-    (E : PlainPaths) × (S : PlainPath) × (Q ≡ call E S) × ArePathsBelow E D × IsPathBelow R S
-call-up D R e (ends low) = absurd cc
-call-up D R e (calls {D = A} {E = E} {p = p} {q = q} wide low) =
-    let f : A ≡ D = cc in
-    let g : p ≡ R = cc in
-    (E, q, refl, subst (ArePathsBelow E) f wide, subst (λ r. IsPathBelow r q) g low)
-call-up D R e (picks low) = absurd cc
-
-pub pick-up : {P Q : PlainPath} (i : ℕ) (R : PlainPath) → P ≡ pick i R → IsPathBelow P Q → (S : PlainPath) × (Q ≡ pick i S) × IsPathBelow R S
-pick-up i R e (ends low) = absurd cc
-pick-up i R e (calls wide low) = absurd cc
-pick-up i R e (picks {i = j} {p = p} {q = q} low) =
-    let f : j ≡ i = cc in
-    let g : p ≡ R = cc in
-    (q, ap (λ k. pick k q) f, subst (λ r. IsPathBelow r q) g low)
 
 -- a cell has the end of its data type, which is read, and that of its acceptors, which is written
 pub cell-paths : (D : DataTy) (Q : PlainPath) → HasBelow (paths (cell_type D)) Q → (Q ≡ end (data_atom D)) ⊎ (Q ≡ end (acceptor_atom D))
@@ -204,46 +104,13 @@ in_scope [] j P some = elim some [ ]
 in_scope (D ∷ G) zero P some = omega arith
 in_scope (D ∷ G) (suc j) P some = let l = in_scope G j P some in omega arith
 
-covers-same : (G : List PlainPaths) → Covers G G
-covers-same G k P some = some
-
-covers-under : (D E : PlainPaths) (H G : List PlainPaths) → ArePathsBelow E D → Covers H G → Covers (E ∷ H) (D ∷ G)
-covers-under D E H G low c zero P some = HasBelow-trans D low some
-covers-under D E H G low c (suc k) P some = c k P some
-
-under-same : (D : PlainPaths) (H G : List PlainPaths) → Covers H G → Covers (D ∷ H) (D ∷ G)
-under-same D H G c = covers-under D D H G (ArePathsBelow-refl D) c
-
 -- ---- answers
 
 module _ (T : ℕ → PlainShape → Type 0) where
   -- what answers a path has its shape in the table
   pub has-pair : (p : Tree) (G : List PlainPaths) (k : ℕ) (P : PlainPath) → Answers T G k p P → T k (erase P)
-  has-pair (var j at) G k P h = h.0
-  has-pair (lit v at) G k P h = h.0
-  has-pair (unary op p at) G k P h = h.0
-  has-pair (binary op p q at) G k P h = h.0
-  has-pair (conditional b p q at) G k P h = h.0
-  has-pair (case e parts at) G k P h = h.0
-  has-pair (lam d As b at) G k P h = h.0
-  has-pair (app p q at) G k P h = h.0
-  has-pair (field i p at) G k P h = h.0
-  has-pair (sel p i at) G k P h = h.0
-  has-pair (merge p q at) G k P h = h.0
-  has-pair (let_in d p b at) G k P h = h.0
-  has-pair (rec d A b at) G k P h = h.0
-  has-pair (skip at) G k P h = h.0
-  has-pair (seq p q at) G k P h = h.0
-  has-pair (assign p q at) G k P h = h.0
-  has-pair (while_do b c at) G k P h = h.0
-  has-pair (forever c at) G k P h = h.0
-  has-pair (new d D e b at) G k P h = h.0
-  has-pair (cells d e b at) G k P h = h.0
-  has-pair (escape d b at) G k P h = h.0
-  has-pair (accept d D b at) G k P h = h.0
-  has-pair (put kind p at) G k P h = h.0
-  has-pair (read p at) G k P h = h.0
   has-pair (mark m at) G k P h = absurd h
+  has-pair p G k P h = h.0
 
   pub pair-up : (k : ℕ) {P Q : PlainPath} → IsPathBelow P Q → T k (erase P) → T k (erase Q)
   pair-up k low t = subst (T k) (erase-below low) t
@@ -462,9 +329,3 @@ data_atom-same data_type.Int data_type.Int e = refl
 data_atom-same data_type.Bool data_type.Bool e = refl
 data_atom-same data_type.Char data_type.Char e = refl
 data_atom-same D E e = absurd cc
-
-pub acceptor_atom-same : (D E : DataTy) → acceptor_atom D ≡ acceptor_atom E → D ≡ E
-acceptor_atom-same data_type.Int data_type.Int e = refl
-acceptor_atom-same data_type.Bool data_type.Bool e = refl
-acceptor_atom-same data_type.Char data_type.Char e = refl
-acceptor_atom-same D E e = absurd cc

@@ -1,23 +1,22 @@
 -- Contexts: what they ask for first, and what holds of them as frames come, are cut off and are written.
-use Rattle.std.proofs.Common.{ℕ, ◌≤◌, ◌≡◌, ◌⊎◌, ◌==◌, Bool, true, false, cond, List, [], ◌∷◌, length, Some, refl, sym, ap, ◌∙◌, subst, inl, inr, arith, eq-eqb}
+use Rattle.std.proofs.Common.{ℕ, ◌≤◌, ◌≡◌, ◌⊎◌, Bool, true, false, cond, List, [], ◌∷◌, length, Some, refl, sym, ap, ◌∙◌, subst, inl, inr, arith, eq-eqb}
 use Rattle.fy_base.specs.declared.data.Datum.{Datum}
 use Rattle.fy_base.specs.declared.data.UnOp.{UnOp}
 use Rattle.fy_base.specs.declared.data.UnOp.TheVariants.{Neg, Not, Ord, Chr}
 use Rattle.fy_base.specs.declared.data.PutKind.{PutKind}
 use Rattle.fy_base.specs.declared.data.PutKind.TheVariants as put_kind
-use Rattle.fy_types.specs.declared.types.Atom.{Atom}
 use Rattle.fy_types.specs.declared.types.Atom.TheVariants as atoms
-use Rattle.fy_types.specs.Paths.{PlainPath, end, call, pick}
+use Rattle.fy_types.specs.Paths.{PlainPath, end}
 use Rattle.fy_phrase.specs.declared.phrase.DataTy.{DataTy}
 use Rattle.fy_phrase.specs.Tree.{Tree, lam, field, accept}
 use Rattle.fy_phrase.specs.Contexts.{CopyContext, arg_c, pick_c, store_c, Pushed}
 use Rattle.fy_phrase.specs.Copy.{Row, Which, demands, demanded, store_after}
 use Rattle.fy_phrase.specs.Copy as copy
-use Rattle.fy_derive.specs.Atoms.{data_atom, datum_atom, operand_atom, put_atom, is_acceptor}
+use Rattle.fy_derive.specs.Atoms.{data_atom, datum_atom, operand_atom, put_atom}
 use Rattle.fy_derive.specs.Kinds.{Kind, of_call, of_field, of_assignment, kind_of, begins}
-use Rattle.fy_derive.specs.Shapes.{a_value, an_assignment, a_run, end_shape}
+use Rattle.fy_derive.specs.Shapes.{a_value, an_assignment, a_run}
 use Rattle.fy_derive.proofs.PathTyping.{IsRun}
-use Rattle.fy_derive.proofs.Asking.{Asked, for_call, for_field, for_end, first_asked, asked_by, value_asked, assignment_asked, run_asked}
+use Rattle.fy_derive.proofs.Asking.{Asked, for_call, for_field, for_end, first_asked, asked_by, value_asked, assignment_asked, run_asked, is_of, begins-is_of}
 use Rattle.pe_machine.specs.States.{Frame, PeContext, Held, oldest, with_binding}
 use Rattle.pe_machine.specs.Step as machine
 use Rattle.pe_right.specs.ReadsBack.{cells_in}
@@ -37,36 +36,6 @@ put-asked : (kind : PutKind) → first_asked (end (put_atom kind)) ≡ for_end a
 put-asked put_kind.Int = refl
 put-asked put_kind.Char = refl
 put-asked put_kind.Bool = refl
-
--- whether what is asked for is of the kind
-abbrev is_of : Kind → Asked → Bool
-is_of of_call for_call = true
-is_of of_call a = false
-is_of (of_field i) (for_field j) = i == j
-is_of (of_field i) a = false
-is_of of_assignment (for_end an_assignment) = true
-is_of of_assignment a = false
-
-acceptor-is_of : (a : Atom) → is_acceptor a ≡ is_of of_assignment (for_end (end_shape a))
-acceptor-is_of atoms.Int = refl
-acceptor-is_of atoms.Bool = refl
-acceptor-is_of atoms.Char = refl
-acceptor-is_of atoms.Comm = refl
-acceptor-is_of atoms.Compl = refl
-acceptor-is_of atoms.IntAcc = refl
-acceptor-is_of atoms.BoolAcc = refl
-acceptor-is_of atoms.CharAcc = refl
-
-begins-is_of : (kind : Kind) (P : PlainPath) → begins kind P ≡ is_of kind (first_asked P)
-begins-is_of of_call (end a) = refl
-begins-is_of of_call (call D p) = refl
-begins-is_of of_call (pick i p) = refl
-begins-is_of (of_field i) (end a) = refl
-begins-is_of (of_field i) (call D p) = refl
-begins-is_of (of_field i) (pick j p) = refl
-begins-is_of of_assignment (end a) = acceptor-is_of a
-begins-is_of of_assignment (call D p) = refl
-begins-is_of of_assignment (pick i p) = refl
 
 -- a context demands the right operand of a merge where it asks for its kind
 demands-is_of : (x : CopyContext) (q : Tree) (kind : Kind) → kind_of q ≡ Some kind → demands x q ≡ is_of kind (asked_by x)

@@ -1,11 +1,11 @@
 -- From a derivation: what it concludes is answered path by path, where each of its pairs of node and shape is in the table.
-use Rattle.std.proofs.Common.{ℕ, zero, suc, ◌+◌, ◌≡◌, Bool, true, false, not, ◌&&◌, ◌||◌, nat_le, List, [], ◌∷◌, ◌++◌, length, replicate, cond, eqb, eqb-true, Option, Some, None, IfSome, slice_get, option_map, refl, sym, ap, ◌∙◌, subst, inl, inr, arith}
+use Rattle.std.proofs.Common.{ℕ, zero, suc, ◌+◌, ◌≡◌, Bool, true, false, not, ◌&&◌, ◌||◌, nat_le, List, [], ◌∷◌, ◌++◌, length, replicate, cond, eqb, eqb-true, Option, Some, None, IfSome, option_map, refl, sym, ap, ◌∙◌, subst, inl, inr, arith}
 use Rattle.fy_base.specs.declared.data.Place.{Place}
 use Rattle.fy_base.specs.declared.data.BinOp.{BinOp}
 use Rattle.fy_types.specs.declared.types.Atom.{Atom}
 use Rattle.fy_types.specs.declared.types.Atom.TheVariants.{Int, Bool as Truth, Comm, Compl, IntAcc}
 use Rattle.fy_types.specs.Types.{PlainType, PlainTypes, ns, atom, arrow, field as field_type, meet}
-use Rattle.fy_types.specs.Paths.{PlainPath, PlainPaths, end, call, pick, no_paths, and_path, append, called, picked, paths, all_paths}
+use Rattle.fy_types.specs.Paths.{PlainPath, PlainPaths, end, no_paths, and_path, append, called, picked, paths, all_paths}
 use Rattle.fy_types.specs.PathOrder.{HasBelow}
 use Rattle.fy_types.specs.Reading.{types_from}
 use Rattle.fy_types.proofs.Laws.{IsSubtype-paths}
@@ -20,102 +20,36 @@ use Rattle.fy_derive.specs.Kinds.{Kind, kind_of, begins, none_begins}
 use Rattle.fy_derive.specs.Derivations.{PlainDerivation, PlainDerivations, by_ns, sub, meets, alt, left, right, rule, no_derivations, and_derivation, count, nodes as derivation_nodes}
 use Rattle.fy_derive.specs.Subsumption.{is_below}
 use Rattle.fy_derive.specs.Rules.{nothing, Premise, premises, of_parts, provided, is_atom, same_type, are_operands, fits_operator, all_same, applied, selected, command_behind, is_assignment, fits_assignment, conclusion}
-use Rattle.fy_derive.specs.Judging.{Judged, concludes, stops, AllJudged, all_conclude, one_stops, then_judge, then_others, at_node, from_premises, if_form, if_count, member, alternative, operands, under, judged, each_judged, refusal}
+use Rattle.fy_derive.specs.Judging.{Judged, concludes, stops, AllJudged, all_conclude, then_judge, then_others, at_node, from_premises, if_form, if_count, member, alternative, operands, under, judged, each_judged, refusal}
 use Rattle.fy_derive.specs.Shapes.{PlainShape, erase, HasPath, first_path, later_path, HasPair, own, in_sub, in_meet, in_alt, in_left, in_right, in_rule, OneHasPair, this_one, other_one, PremiseHasPair, this_premise, later_premise}
 use Rattle.fy_derive.specs.ShapeTables.{HasPairOf}
 use Rattle.fy_derive.proofs.SubsumptionLemmas.{or_cases, is_below-iff}
 use Rattle.fy_derive.proofs.RuleLemmas.{same_type-true}
 use Rattle.fy_derive.proofs.JudgeLemmas.{rule_judged}
-use Rattle.fy_derive.proofs.SoundLemmas.{append-none, append-push}
+use Rattle.fy_derive.proofs.SoundLemmas.{append-none, append-push, some_same, provided-some, judge-inner, others-inner, node-inner, premises-inner, form-inner, all-same}
 use Rattle.fy_derive.proofs.PathTyping.{paths_at, EachPath}
-use Rattle.fy_derive.proofs.TypedAnswers.{variable_paths, EachPath-self}
+use Rattle.fy_derive.proofs.TypedAnswers.{variable_paths, EachPath-self, EachPath-append, EachPath-both, EachPath-called, called-EachPath, EachPath-picked, picked-EachPath, EachPath-unit, not_true, paths_at-get}
 use Rattle.pe_right.specs.Typed.{IsTableOf}
 use Rattle.pe_right.proofs.Demanding.{Answers, EachAnswers}
 use Rattle.pe_right.proofs.AnswerLemmas.{each-above}
 
 -- ---- each path of a list
 
-EachPath-append : (F : PlainPath → Type 0) (P Q : PlainPaths) → EachPath F P → EachPath F Q → EachPath F (append P Q)
-EachPath-append F no_paths Q each more = more
-EachPath-append F (and_path p P) Q each more = (each.0, EachPath-append F P Q each.1 more)
-
-EachPath-both : {F H K : PlainPath → Type 0} (P : PlainPaths) → ((p : PlainPath) → F p → H p → K p) → EachPath F P → EachPath H P → EachPath K P
-EachPath-both no_paths f each more = tt
-EachPath-both (and_path p P) f each more = (f p each.0 more.0, EachPath-both P f each.1 more.1)
-
 EachPath-three : {F H K L : PlainPath → Type 0} (P : PlainPaths) → ((p : PlainPath) → F p → H p → K p → L p) →
     EachPath F P → EachPath H P → EachPath K P → EachPath L P
 EachPath-three no_paths f each more most = tt
 EachPath-three (and_path p P) f each more most = (f p each.0 more.0 most.0, EachPath-three P f each.1 more.1 most.1)
 
-EachPath-called : (F : PlainPath → Type 0) (D P : PlainPaths) → EachPath (λ R. F (call D R)) P → EachPath F (called D P)
-EachPath-called F D no_paths each = tt
-EachPath-called F D (and_path p P) each = (each.0, EachPath-called F D P each.1)
-
-called-EachPath : (F : PlainPath → Type 0) (D P : PlainPaths) → EachPath F (called D P) → EachPath (λ R. F (call D R)) P
-called-EachPath F D no_paths each = tt
-called-EachPath F D (and_path p P) each = (each.0, called-EachPath F D P each.1)
-
-EachPath-picked : (F : PlainPath → Type 0) (i : ℕ) (P : PlainPaths) → EachPath (λ R. F (pick i R)) P → EachPath F (picked i P)
-EachPath-picked F i no_paths each = tt
-EachPath-picked F i (and_path p P) each = (each.0, EachPath-picked F i P each.1)
-
-picked-EachPath : (F : PlainPath → Type 0) (i : ℕ) (P : PlainPaths) → EachPath F (picked i P) → EachPath (λ R. F (pick i R)) P
-picked-EachPath F i no_paths each = tt
-picked-EachPath F i (and_path p P) each = (each.0, picked-EachPath F i P each.1)
-
-EachPath-unit : (P : PlainPaths) → EachPath (λ R. Unit {0}) P
-EachPath-unit no_paths = tt
-EachPath-unit (and_path p P) = (tt, EachPath-unit P)
-
 EachPath-among : (F : PlainPath → Type 0) (P : PlainPaths) → ((p : PlainPath) → HasPath P p → F p) → EachPath F P
 EachPath-among F no_paths f = tt
 EachPath-among F (and_path p P) f = (f p first_path, EachPath-among F P (λ q among. f q (later_path among)))
-
-not_true : (b : Bool) → not b ≡ true → b ≡ false
-not_true false e = refl
-not_true true e = absurd cc
 
 EachPath-clear : (kind : Kind) (P : PlainPaths) → none_begins kind P ≡ true → EachPath (λ R. begins kind R ≡ false) P
 EachPath-clear kind no_paths e = tt
 EachPath-clear kind (and_path p P) e =
     let both = both_true (not (begins kind p)) (none_begins kind P) e in (not_true (begins kind p) both.0, EachPath-clear kind P both.1)
 
-paths_at-get : (G : List PlainType) (k : ℕ) (A : PlainType) → slice_get G k ≡ Some A → paths_at (variable_paths G) k ≡ paths A
-paths_at-get [] k A e = absurd cc
-paths_at-get (B ∷ G) zero A e = let f : B ≡ A = cc in subst (λ C. paths B ≡ paths C) f refl
-paths_at-get (B ∷ G) (suc k) A e = paths_at-get G k A e
-
 -- ---- what judging went on with
-
-some_same : {X : Type 0} {x y : X} → Some x ≡ Some y → x ≡ y
-some_same e = cc
-
-provided-some : (b : Bool) (A C : PlainType) → provided b A ≡ Some C → (b ≡ true) × (A ≡ C)
-provided-some true A C e = (refl, some_same e)
-provided-some false A C e = absurd cc
-
-judge-inner : (j : Judged) (f : PlainType → Judged) (A : PlainType) → then_judge j f ≡ concludes A → (B : PlainType) × (j ≡ concludes B) × (f B ≡ concludes A)
-judge-inner (concludes B) f A e = (B, refl, e)
-judge-inner (stops k) f A e = absurd cc
-
-others-inner : (j : Judged) (f : PlainType → AllJudged) (As : List PlainType) → then_others j f ≡ all_conclude As →
-    (B : PlainType) × (j ≡ concludes B) × (f B ≡ all_conclude As)
-others-inner (concludes B) f As e = (B, refl, e)
-others-inner (stops k) f As e = absurd cc
-
-node-inner : (n : ℕ) (o : Option PlainType) (A : PlainType) → at_node n o ≡ concludes A → o ≡ Some A
-node-inner n None A e = absurd cc
-node-inner n (Some B) A e = cc
-
-premises-inner : (n : ℕ) (j : AllJudged) (f : List PlainType → Option PlainType) (A : PlainType) → from_premises n j f ≡ concludes A →
-    (Bs : List PlainType) × (j ≡ all_conclude Bs) × (f Bs ≡ Some A)
-premises-inner n (all_conclude Bs) f A e = (Bs, refl, node-inner n (f Bs) A e)
-premises-inner n (one_stops k) f A e = absurd cc
-
-form-inner : {X : Type 0} (n : ℕ) (o : Option X) (f : X → Judged) (A : PlainType) → if_form n o f ≡ concludes A → (x : X) × (o ≡ Some x) × (f x ≡ concludes A)
-form-inner n None f A e = absurd cc
-form-inner n (Some x) f A e = (x, refl, e)
 
 test-inner : (b : Bool) (j : Judged) (n : ℕ) (A : PlainType) → cond b j (stops n) ≡ concludes A → (b ≡ true) × (j ≡ concludes A)
 test-inner true j n A e = (refl, e)
@@ -123,9 +57,6 @@ test-inner false j n A e = absurd cc
 
 count-inner : (n k : ℕ) (Ps : List Premise) (j : Judged) (A : PlainType) → if_count n k Ps j ≡ concludes A → (k ≡ length Ps) × (j ≡ concludes A)
 count-inner n k Ps j A e = let x = test-inner (eqb k (length Ps)) j n A e in (eqb-true k (length Ps) x.0, x.1)
-
-all-same : (As Cs : List PlainType) → all_conclude As ≡ all_conclude Cs → Cs ≡ As
-all-same As Cs e = cc
 
 -- ---- a conclusion has nothing to do with the number of the node
 

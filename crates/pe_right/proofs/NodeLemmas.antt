@@ -1,6 +1,6 @@
 -- Nodes of a phrase: a part of a node is one, it is no larger, and each has its number in preorder.
 use Rattle.std.proofs.Common.{ℕ, suc, ◌+◌, ◌≤◌, ◌≡◌, List, [], ◌∷◌, refl, ap, subst, arith}
-use Rattle.fy_phrase.specs.Tree.{Tree, Trees, no_trees, and_tree, var, lit, unary, binary, cond as conditional, case, lam, app, field, sel, merge, let_in, rec, skip, seq, assign, while_do, forever, new, cells, escape, accept, put, read, mark}
+use Rattle.fy_phrase.specs.Tree.{Tree, Trees, no_trees, and_tree, case}
 use Rattle.fy_phrase.specs.Sizes.{nodes, all_nodes}
 use Rattle.fy_phrase.specs.WellMade.{IsClosedUnder, HasDepthsUnder}
 use Rattle.fy_derive.specs.Shapes.{of_trees, parts_of, IsNodeAt, IsNodeAmong, itself as itself_at, in_part as in_part_at, in_first as in_first_at, in_later as in_later_at}
@@ -31,31 +31,8 @@ with_depth-trees d no_trees = refl
 with_depth-trees d (and_tree p ps) = ap (λ (qs : List Tree). p ∷ qs) (with_depth-trees d ps)
 
 parts-trees : (d : ℕ) (p : Tree) → trees_in (parts_under d p) ≡ parts_of p
-parts-trees d (var k at) = refl
-parts-trees d (lit v at) = refl
-parts-trees d (unary op p at) = refl
-parts-trees d (binary op p q at) = refl
-parts-trees d (conditional b p q at) = refl
 parts-trees d (case e parts at) = ap (λ (qs : List Tree). e ∷ qs) (with_depth-trees d parts)
-parts-trees d (lam n As b at) = refl
-parts-trees d (app p q at) = refl
-parts-trees d (field i p at) = refl
-parts-trees d (sel p i at) = refl
-parts-trees d (merge p q at) = refl
-parts-trees d (let_in n p b at) = refl
-parts-trees d (rec n T b at) = refl
-parts-trees d (skip at) = refl
-parts-trees d (seq p q at) = refl
-parts-trees d (assign p q at) = refl
-parts-trees d (while_do b c at) = refl
-parts-trees d (forever c at) = refl
-parts-trees d (new n D e b at) = refl
-parts-trees d (cells n e b at) = refl
-parts-trees d (escape n b at) = refl
-parts-trees d (accept n D b at) = refl
-parts-trees d (put kind p at) = refl
-parts-trees d (read p at) = refl
-parts-trees d (mark m at) = refl
+parts-trees d p = refl
 
 mutual
   pub under-at : {d m e k : ℕ} {p q : Tree} → IsNodeUnder d m p e k q → IsNodeAt m p k q
@@ -78,31 +55,8 @@ with_depth-sizes d no_trees = refl
 with_depth-sizes d (and_tree p ps) = let e = with_depth-sizes d ps in omega arith
 
 parts-sizes : (d : ℕ) (p : Tree) → sizes (parts_under d p) + 1 ≡ nodes p
-parts-sizes d (var k at) = omega arith
-parts-sizes d (lit v at) = omega arith
-parts-sizes d (unary op p at) = omega arith
-parts-sizes d (binary op p q at) = omega arith
-parts-sizes d (conditional b p q at) = omega arith
 parts-sizes d (case e parts at) = let h = with_depth-sizes d parts in omega arith
-parts-sizes d (lam n As b at) = omega arith
-parts-sizes d (app p q at) = omega arith
-parts-sizes d (field i p at) = omega arith
-parts-sizes d (sel p i at) = omega arith
-parts-sizes d (merge p q at) = omega arith
-parts-sizes d (let_in n p b at) = omega arith
-parts-sizes d (rec n T b at) = omega arith
-parts-sizes d (skip at) = omega arith
-parts-sizes d (seq p q at) = omega arith
-parts-sizes d (assign p q at) = omega arith
-parts-sizes d (while_do b c at) = omega arith
-parts-sizes d (forever c at) = omega arith
-parts-sizes d (new n D e b at) = omega arith
-parts-sizes d (cells n e b at) = omega arith
-parts-sizes d (escape n b at) = omega arith
-parts-sizes d (accept n D b at) = omega arith
-parts-sizes d (put kind p at) = omega arith
-parts-sizes d (read p at) = omega arith
-parts-sizes d (mark m at) = omega arith
+parts-sizes d p = omega arith
 
 mutual
   under-size : {d m e k : ℕ} {p q : Tree} → IsNodeUnder d m p e k q → nodes q ≤ nodes p
@@ -128,31 +82,8 @@ with_depth-merges d no_trees = refl
 with_depth-merges d (and_tree p ps) = let e = with_depth-merges d ps in omega arith
 
 parts-merges : (d : ℕ) (p : Tree) → (merges_in (parts_under d p) ≤ merges p) × (merges p ≤ merges_in (parts_under d p) + 1)
-parts-merges d (var k at) = (omega arith, omega arith)
-parts-merges d (lit v at) = (omega arith, omega arith)
-parts-merges d (unary op p at) = (omega arith, omega arith)
-parts-merges d (binary op p q at) = (omega arith, omega arith)
-parts-merges d (conditional b p q at) = (omega arith, omega arith)
 parts-merges d (case e parts at) = let h = with_depth-merges d parts in (omega arith, omega arith)
-parts-merges d (lam n As b at) = (omega arith, omega arith)
-parts-merges d (app p q at) = (omega arith, omega arith)
-parts-merges d (field i p at) = (omega arith, omega arith)
-parts-merges d (sel p i at) = (omega arith, omega arith)
-parts-merges d (merge p q at) = (omega arith, omega arith)
-parts-merges d (let_in n p b at) = (omega arith, omega arith)
-parts-merges d (rec n T b at) = (omega arith, omega arith)
-parts-merges d (skip at) = (omega arith, omega arith)
-parts-merges d (seq p q at) = (omega arith, omega arith)
-parts-merges d (assign p q at) = (omega arith, omega arith)
-parts-merges d (while_do b c at) = (omega arith, omega arith)
-parts-merges d (forever c at) = (omega arith, omega arith)
-parts-merges d (new n D e b at) = (omega arith, omega arith)
-parts-merges d (cells n e b at) = (omega arith, omega arith)
-parts-merges d (escape n b at) = (omega arith, omega arith)
-parts-merges d (accept n D b at) = (omega arith, omega arith)
-parts-merges d (put kind p at) = (omega arith, omega arith)
-parts-merges d (read p at) = (omega arith, omega arith)
-parts-merges d (mark m at) = (omega arith, omega arith)
+parts-merges d p = (omega arith, omega arith)
 
 mutual
   pub under-merges : {d m e k : ℕ} {p q : Tree} → IsNodeUnder d m p e k q → merges q ≤ merges p

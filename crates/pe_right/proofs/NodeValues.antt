@@ -104,7 +104,7 @@ get-left [] ys i x e = absurd cc
 get-left (z ∷ xs) ys zero x e = e
 get-left (z ∷ xs) ys (suc i) x e = get-left xs ys i x e
 
-get-right : {X : Type 0} (xs ys : List X) (i n : ℕ) → n ≡ length xs + i → slice_get (xs ++ ys) n ≡ slice_get ys i
+pub get-right : {X : Type 0} (xs ys : List X) (i n : ℕ) → n ≡ length xs + i → slice_get (xs ++ ys) n ≡ slice_get ys i
 get-right [] ys i n e = let f : n ≡ i = omega arith in ap (slice_get ys) f
 get-right (x ∷ xs) ys i zero e = absurd (omega arith)
 get-right (x ∷ xs) ys i (suc n) e = get-right xs ys i n (omega arith)

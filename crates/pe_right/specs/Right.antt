@@ -1,5 +1,5 @@
 -- Which code is that of a phrase and a table of demand shapes.
-use Rattle.std.specs.Prelude.{ℕ, ◌+◌, ◌≡◌, ◌⊎◌, ◌↔◌, true, false, List, [], ◌∷◌, ◌++◌, length, slice_get, Option, Some, None}
+use Rattle.std.specs.Prelude.{ℕ, ◌+◌, ◌≡◌, ◌⊎◌, ◌↔◌, true, false, List, [], ◌∷◌, ◌++◌, length, map, slice_get, Option, Some, None, unwrap_or}
 use Rattle.fy_base.specs.declared.data.Place.{Place}
 use Rattle.fy_base.specs.declared.data.Datum.{Datum}
 use Rattle.fy_base.specs.declared.data.UnOp.{UnOp}
@@ -11,6 +11,7 @@ use Rattle.fy_phrase.specs.declared.shapes.ShapeTable.{ShapeTable}
 use Rattle.fy_phrase.specs.Tree.{Tree, Trees, place_of, var, lit, unary, binary, cond, case, lam, app, field, sel, merge, let_in, rec, skip, seq, assign, while_do, forever, new, cells, escape, accept, put, read, mark, no_trees, and_tree}
 use Rattle.fy_phrase.specs.Sizes.{nodes}
 use Rattle.fy_derive.specs.Kinds.{Kind, kind_of}
+use Rattle.fy_derive.specs.Rules.{Binder, nothing, first, given, Premise, of_parts, premises}
 use Rattle.fy_derive.specs.Shapes.{PlainShape, at_end, a_call, a_field, a_value, an_assignment, a_run, shape_begins}
 use Rattle.fy_derive.specs.ShapeTables.{shape_at}
 use Rattle.pe_code.specs.declared.code.PeInsn.{PeInsn}
@@ -22,37 +23,23 @@ use Rattle.pe_code.specs.Code.{item_at, entry_of}
 
 -- ---- nodes of a phrase, with the number of binders around them
 
+-- the number of binders around a premise's part, where d are around the phrase
+abbrev pub depth_under : ℕ → Binder → ℕ
+depth_under d nothing = d
+depth_under d first = d + 1
+depth_under d (given T) = d + 1
+
+abbrev pub subjects_under : ℕ → List Premise → List (ℕ × Tree)
+subjects_under d Ps = map (λ (P : Premise). (depth_under d P.0, P.1)) Ps
+
 abbrev pub with_depth : ℕ → Trees → List (ℕ × Tree)
-with_depth d no_trees = []
-with_depth d (and_tree p ps) = (d, p) ∷ with_depth d ps
+with_depth d ps = subjects_under d (of_parts ps)
 
 -- the direct parts of a phrase under d binders, in order, each with the number of binders around it
 abbrev pub parts_under : ℕ → Tree → List (ℕ × Tree)
-parts_under d (var k at) = []
-parts_under d (lit v at) = []
-parts_under d (unary op p at) = (d, p) ∷ []
-parts_under d (binary op p q at) = (d, p) ∷ (d, q) ∷ []
-parts_under d (cond b p q at) = (d, b) ∷ (d, p) ∷ (d, q) ∷ []
-parts_under d (case e parts at) = (d, e) ∷ with_depth d parts
 parts_under d (lam n As b at) = (d + 1, b) ∷ []
-parts_under d (app p q at) = (d, p) ∷ (d, q) ∷ []
-parts_under d (field i p at) = (d, p) ∷ []
-parts_under d (sel p i at) = (d, p) ∷ []
 parts_under d (merge p q at) = (d, p) ∷ (d, q) ∷ []
-parts_under d (let_in n p b at) = (d, p) ∷ (d + 1, b) ∷ []
-parts_under d (rec n T b at) = (d + 1, b) ∷ []
-parts_under d (skip at) = []
-parts_under d (seq p q at) = (d, p) ∷ (d, q) ∷ []
-parts_under d (assign p q at) = (d, p) ∷ (d, q) ∷ []
-parts_under d (while_do b c at) = (d, b) ∷ (d, c) ∷ []
-parts_under d (forever c at) = (d, c) ∷ []
-parts_under d (new n D e b at) = (d, e) ∷ (d + 1, b) ∷ []
-parts_under d (cells n e b at) = (d, e) ∷ (d + 1, b) ∷ []
-parts_under d (escape n b at) = (d + 1, b) ∷ []
-parts_under d (accept n D b at) = (d + 1, b) ∷ []
-parts_under d (put kind p at) = (d, p) ∷ []
-parts_under d (read p at) = (d, p) ∷ []
-parts_under d (mark m at) = []
+parts_under d p = subjects_under d (unwrap_or (premises p) [])
 
 mutual
   -- q has the preorder number k and e binders around it, in p with the number m and d binders around it
