@@ -1,5 +1,5 @@
 -- Which form begins, and what stands in front: the tests of the parser, and what the reader does there.
-use Rattle.std.proofs.Common.{◌≡◌, ◌≤◌, ◌<◌, ℕ, Bool, true, false, List, [], ◌∷◌, length, refl, ap, arith}
+use Rattle.std.proofs.Common.{◌≡◌, ◌<◌, ℕ, Bool, true, false, List, [], ◌∷◌, length, refl, ap, arith}
 use Rattle.std.specs.Prelude.{Option, Some, None}
 use Rattle.fy_lexer.specs.declared.token.Token.{Token}
 use Rattle.fy_lexer.specs.declared.token.TokenKind.{TokenKind}
@@ -12,6 +12,7 @@ use Rattle.fy_syntax.specs.Signs.{front}
 use Rattle.fy_syntax.specs.Reader.{Read, Inner, behind, kind_at, begins_with, begins_with_word, is_symbol_kind, is_word_kind, nested, term_at, term_by_kind, assign_at, primary_at, primary_by_kind, group_at, seq_at, type_primary, type_by_kind, type_group, fields_at, fields_step, prefixes_at, prefix_kind}
 use Rattle.fy_grammar.specs.Forms.{form_kind, form_at, forcing, read_form, name_before, field_name_at}
 use Rattle.fy_grammar.specs.declared.form.Form.{Form}
+use Rattle.fy_grammar.proofs.Advance.{behind_less}
 
 -- a term that no form begins
 operand_kind : (k : TokenKind) (i : Option Inner) (ts : List Token) (b : Bool) → begins_with symbol.EqualsEquals (behind ts) ≡ b → form_kind k b ≡ None → term_by_kind k i ts ≡ assign_at i ts
@@ -117,10 +118,6 @@ pub fields_end : (ts : List Token) → field_name_at ts ≡ None → fields_at t
 fields_end [] e = refl
 fields_end (t ∷ []) e = refl
 fields_end (t ∷ u ∷ ts) e = name_ends t.kind (is_symbol_kind symbol.Colon u.kind) (fields_at ts) (t ∷ u ∷ ts) e
-
-behind_less : (ts : List Token) → length (behind ts) ≤ length ts
-behind_less [] = omega arith
-behind_less (t ∷ ts) = omega arith
 
 pub fields_smaller : (ts : List Token) (n : ℕ) → field_name_at ts ≡ Some n → length (behind (behind ts)) < length ts
 fields_smaller [] n e = absurd cc

@@ -1,17 +1,13 @@
 -- Operands behind operators, one at a time, and lists of which no member was read yet.
-use Rattle.std.proofs.Common.{◌≡◌, List, [], ◌++◌, length, refl, sym, ap, ◌∙◌}
-use Rattle.std.specs.Prelude.{Some, None, Ok, Err}
+use Rattle.std.proofs.Common.{◌≡◌, List, [], length, refl, sym, ap, ◌∙◌}
+use Rattle.std.specs.Prelude.{Some, None, Ok}
 use Rattle.fy_base.specs.declared.data.BinOp.{BinOp}
 use Rattle.fy_lexer.specs.declared.token.Token.{Token}
 use Rattle.fy_syntax.specs.Trees.{Tree}
 use Rattle.fy_syntax.specs.Reading.{LinkTree}
 use Rattle.fy_syntax.specs.Signs.{front, Level}
 use Rattle.fy_syntax.specs.Reader.{Read, mapped, behind, operator_at}
-use Rattle.fy_grammar.proofs.Many.{Turn, many, ReadsOn, link}
-
-mapped_same : {A : Type 0} (r : Read (List A)) → mapped (λ more. [] ++ more) r ≡ r
-mapped_same (Ok x) = refl
-mapped_same (Err e) = refl
+use Rattle.fy_grammar.proofs.Many.{Turn, many, ReadsOn, link, mapped_same}
 
 pub reads_on_no : {A : Type 0} (turn : Turn A) (members : List A) (ts : List Token) → members ≡ [] → ReadsOn turn (many (length ts) turn ts) members ts
 reads_on_no turn members ts e = rw e (record { gives = mapped_same (many (length ts) turn ts) })

@@ -78,7 +78,7 @@ mapped_next done a (Err e) = refl
 abbrev pub behind_first : {A : Type 0} → Turn A → A → List Token → Read (List A)
 behind_first turn a ts = mapped (λ more. a ∷ more) (many (length ts) turn ts)
 
-mapped_same : {A : Type 0} (r : Read (List A)) → mapped (λ more. [] ++ more) r ≡ r
+pub mapped_same : {A : Type 0} (r : Read (List A)) → mapped (λ more. [] ++ more) r ≡ r
 mapped_same (Ok x) = refl
 mapped_same (Err e) = refl
 

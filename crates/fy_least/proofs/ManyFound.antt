@@ -1,7 +1,6 @@
 -- What is found of cases.
 use Rattle.std.proofs.Common.{ℕ, ◌+◌, ◌*◌, ◌≤◌, ◌≡◌, max, Bool, true, false, List, [], ◌∷◌, ◌++◌, length, inl, inr, refl, sym, ap, ◌∙◌, subst, arith, if◌then◌else◌}
 use Rattle.std.proofs.lemmas.List.{length-append}
-use Rattle.std.proofs.lemmas.Bool.{and_from}
 use Rattle.fy_base.specs.declared.data.Place.{Place}
 use Rattle.fy_base.specs.Outside.{Bytes}
 use Rattle.fy_types.specs.declared.types.Atom.TheVariants.{Int}
@@ -22,9 +21,8 @@ use Rattle.fy_derive.specs.Derivations as derivations
 use Rattle.fy_derive.specs.Rules.{nothing, of_parts, all_same}
 use Rattle.fy_derive.specs.Judging.{each_judged, all_conclude, then_others, at_node}
 use Rattle.fy_derive.specs.Least.{forms_of, if_passed, has, least_type, join_of_all, join_behind, visits, visits_of_all}
-use Rattle.fy_derive.proofs.CompleteLemmas.{when}
+use Rattle.fy_derive.proofs.CompleteLemmas.{when, copies, all_same-copies}
 use Rattle.fy_derive.proofs.JudgeLemmas.{rule_judged}
-use Rattle.fy_derive.proofs.RuleLemmas.{same_type-refl}
 use Rattle.fy_derive.proofs.SoundLemmas.{append-none, append-push}
 use Rattle.fy_least.specs.Layers.{subsumed, met, IsLayered, one_sub, no_meet, a_rule, AreLayered, no_layers, and_layers}
 use Rattle.fy_least.proofs.LayerLemmas.{ns-layered}
@@ -122,14 +120,6 @@ behind-above (and_tree p ps) G P =
 all-above : (ps : Trees) (G : List PlainPaths) → AreAbove G (join_of_all G ps) ps
 all-above no_trees G = none_above
 all-above (and_tree p ps) G = also_above (behind-low ps G (least_type G p)) (behind-above ps G (least_type G p))
-
-abbrev copies : Trees → PlainType → List PlainType
-copies no_trees A = []
-copies (and_tree p ps) A = A ∷ copies ps A
-
-all_same-copies : (ps : Trees) (A : PlainType) → all_same A (copies ps A) ≡ true
-all_same-copies no_trees A = refl
-all_same-copies (and_tree p ps) A = and_from _ _ (same_type-refl A) (all_same-copies ps A)
 
 parts-layered : {G : List PlainPaths} {ps : Trees} {fs : List Found} → AreFound G ps fs → (A : PlainType) → AreLayered subsumed (all_at A fs)
 parts-layered no_parts A = no_layers

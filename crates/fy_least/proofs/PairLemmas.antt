@@ -24,14 +24,11 @@ use Rattle.fy_derive.proofs.JudgeLemmas.{rule_judged}
 use Rattle.fy_derive.proofs.RuleLemmas.{same_type-true}
 use Rattle.fy_derive.proofs.SubsumptionLemmas.{or_cases}
 use Rattle.fy_derive.proofs.SoundLemmas.{some_same, judge-inner, others-inner, node-inner, premises-inner, form-inner, count-inner, meet-inner, append-none, append-push}
+pub use Rattle.fy_derive.proofs.SoundLemmas.{provided-some}
 use Rattle.fy_least.specs.Derived.{rule_of_both, derived_if, ConcludesBelow}
 use Rattle.fy_least.specs.Pairs.{AreContextsBelow, and_variable, HasPairsAbove, HasAllPairs}
 use Rattle.fy_least.proofs.BelowLemmas.{below-has}
 use Rattle.fy_least.proofs.ShapeLemmas.{path-below, below-path, concluded-above}
-
-pub provided-some : (b : Bool) (A C : PlainType) → provided b A ≡ Some C → (b ≡ true) × (A ≡ C)
-provided-some true A C e = (refl, some_same e)
-provided-some false A C e = absurd cc
 
 -- what a derivation concludes is the same from whatever number
 mutual

@@ -59,30 +59,7 @@ pair-under (and_type B As) (suc i) A f e pair = pair-right (f (paths B)) (pair-u
 -- a phrase's own visit
 pair-own : (p : Tree) (m : ℕ) (G : List PlainPaths) {q : PlainPath} → HasPath (least_type G p) q → HasLeastPair (visits m G p) m (erase q)
 pair-own (var k at) m G among = this_visit among
-pair-own (lit v at) m G among = this_visit among
-pair-own (unary op p at) m G among = this_visit among
-pair-own (binary op p q at) m G among = this_visit among
-pair-own (cond b p q at) m G among = this_visit among
-pair-own (case e parts at) m G among = this_visit among
-pair-own (lam d As b at) m G among = this_visit among
-pair-own (app p q at) m G among = this_visit among
-pair-own (field i p at) m G among = this_visit among
-pair-own (sel p i at) m G among = this_visit among
-pair-own (merge p q at) m G among = this_visit among
-pair-own (let_in d p b at) m G among = this_visit among
-pair-own (rec d T b at) m G among = this_visit among
-pair-own (skip at) m G among = this_visit among
-pair-own (seq p q at) m G among = this_visit among
-pair-own (assign p q at) m G among = this_visit among
-pair-own (while_do b c at) m G among = this_visit among
-pair-own (forever c at) m G among = this_visit among
-pair-own (new d D e b at) m G among = this_visit among
-pair-own (cells d e b at) m G among = this_visit among
-pair-own (escape d b at) m G among = this_visit among
-pair-own (accept d D b at) m G among = this_visit among
-pair-own (put kind p at) m G among = this_visit among
-pair-own (read p at) m G among = this_visit among
-pair-own (mark a at) m G among = this_visit among
+pair-own p m G among = this_visit among
 
 pair-alternative : (p : Tree) (i m : ℕ) (G : List PlainPaths) (x : PlainType × Tree) {k : ℕ} {s : PlainShape} → alternative i p ≡ Some x →
     HasLeastPair (visits (m + 1) (paths x.0 ∷ G) x.1) k s → HasLeastPair (visits m G p) k s

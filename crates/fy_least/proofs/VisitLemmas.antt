@@ -74,27 +74,4 @@ mutual
 -- each phrase is visited
 pub visits-some : (p : Tree) → 1 ≤ visits_of p
 visits-some (var k at) = omega arith
-visits-some (lit v at) = omega arith
-visits-some (unary op p at) = omega arith
-visits-some (binary op p q at) = omega arith
-visits-some (cond b p q at) = omega arith
-visits-some (case e parts at) = omega arith
-visits-some (lam d As b at) = omega arith
-visits-some (app p q at) = omega arith
-visits-some (field i p at) = omega arith
-visits-some (sel p i at) = omega arith
-visits-some (merge p q at) = omega arith
-visits-some (let_in d p b at) = omega arith
-visits-some (rec d T b at) = omega arith
-visits-some (skip at) = omega arith
-visits-some (seq p q at) = omega arith
-visits-some (assign p q at) = omega arith
-visits-some (while_do b c at) = omega arith
-visits-some (forever c at) = omega arith
-visits-some (new d D e b at) = omega arith
-visits-some (cells d e b at) = omega arith
-visits-some (escape d b at) = omega arith
-visits-some (accept d D b at) = omega arith
-visits-some (put kind p at) = omega arith
-visits-some (read p at) = omega arith
-visits-some (mark k at) = omega arith
+visits-some p = omega arith

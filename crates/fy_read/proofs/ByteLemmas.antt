@@ -203,7 +203,7 @@ counted_within n m c d true true low high h = (leb-true _ _ low, leb-true _ _ hi
 counted_within n m c d true false low high h = absurd cc
 counted_within n m c d false high' low high h = absurd cc
 
-greatest_small : (c : Counted) → greatest c < 2 ^ 64
+pub greatest_small : (c : Counted) → greatest c < 2 ^ 64
 greatest_small counted.Members = lit< tt
 greatest_small counted.Alternatives = lit< tt
 greatest_small counted.Premises = lit< tt

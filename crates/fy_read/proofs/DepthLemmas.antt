@@ -42,7 +42,7 @@ mutual
   length-all_depths k no_derivations = refl
   length-all_depths k (and_derivation d ds) = omega (arith, length-append (depths k d) (all_depths k ds), length-depths k d, length-all_depths k ds)
 
-greatest-append : (xs ys : List ℕ) → greatest (xs ++ ys) ≡ max (greatest xs) (greatest ys)
+pub greatest-append : (xs ys : List ℕ) → greatest (xs ++ ys) ≡ max (greatest xs) (greatest ys)
 greatest-append [] ys = omega arith
 greatest-append (x ∷ xs) ys = omega (arith, greatest-append xs ys)
 

@@ -14,11 +14,11 @@ use Rattle.fy_derive.specs.Limits.{deepest_type, most_type_nesting, KeepsLimits}
 use Rattle.fy_read.specs.Refusals.{node_words, open_parens, most_open_parens, BeginsPieces, EndsPiece, PassesSize, PassesDepth, of_nodes, of_parens, of_type, KeepsBefore, IsStopOf, IsBadText, IsTooLargeText, IsTooDeepText}
 use Rattle.fy_read.specs.Shape.{first_shape, outs, greatest}
 use Rattle.fy_read.specs.Spelling.{Piece, word, number, sign, open_bracket, close_bracket, open_paren, close_paren, colon, arrow, ampersand, AreSpelled, SpellsDerivation}
-use Rattle.fy_read.specs.Steps.{Reached, at, after, after_fit, after_all, after_known, after_node, node_word, is_type_word, least, greatest as most, wanted, begin, finish}
+use Rattle.fy_read.specs.Steps.{Reached, at, after, after_all, after_known, after_node, node_word, is_type_word, least, greatest as most, wanted, begin, finish}
 use Rattle.fy_read.proofs.CompletionLemmas.{IsClear, rest_of, all_clear}
 use Rattle.fy_read.proofs.DepthLemmas.{nesting-begun, nodes-words}
 use Rattle.fy_read.proofs.GrammarLemmas.{lost}
-use Rattle.fy_read.proofs.LowLemmas.{IsDeep, part_deep, whole_some, begins_pieces, begins_shallow, all_deep}
+use Rattle.fy_read.proofs.LowLemmas.{IsDeep, part_deep, whole_some, begins_pieces, begins_shallow, all_deep, after_all-append}
 use Rattle.fy_read.proofs.PieceLemmas.{after_whole}
 use Rattle.fy_read.proofs.TypeDepth.{deepest-typed}
 use Rattle.fy_read.proofs.UniqueLemmas.{unique, same_head, same_tail}
@@ -170,10 +170,6 @@ low-of n k (awaited.Count c) N O = refl
 low-of n k awaited.Part N O = refl
 low-of n k awaited.Colon N O = refl
 low-of n k awaited.Joint N O = refl
-
-after_all-append : (o : Option Reached) (ps qs : List Piece) → after_all o (ps ++ qs) ≡ after_all (after_all o ps) qs
-after_all-append o [] qs = refl
-after_all-append o (p ∷ ps) qs = after_all-append (after_fit o p) ps qs
 
 -- what begins a derivation leads somewhere
 begun_by : (o : Option Reached) (more : List Piece) → after_all o more ≡ Some finish → (c : Reached) × (o ≡ Some c)

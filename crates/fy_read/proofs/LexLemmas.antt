@@ -1,5 +1,5 @@
 -- Bytes that lead somewhere spell pieces that lead there, up to the piece that has begun.
-use Rattle.std.proofs.Common.{◌≡◌, ℕ, zero, suc, ◌+◌, ◌-◌, ◌*◌, ◌/◌, ◌%◌, ◌<◌, ◌≤◌, ◌^◌, Bool, true, false, not, ◌&&◌, ◌||◌, nat_le, IsTrue, List, [], ◌∷◌, ◌++◌, refl, ap, sym, ◌∙◌, subst, arith, append_assoc, eqb-true, lit<, lit≤}
+use Rattle.std.proofs.Common.{◌≡◌, ℕ, zero, suc, ◌+◌, ◌-◌, ◌*◌, ◌/◌, ◌%◌, ◌<◌, ◌≤◌, ◌^◌, Bool, true, false, not, ◌&&◌, ◌||◌, nat_le, IsTrue, List, [], ◌∷◌, ◌++◌, refl, ap, sym, ◌∙◌, subst, arith, append_assoc, eqb-true, lit≤}
 use Rattle.std.specs.Prelude.{Option, Some, None, if◌then◌else◌, decimal, ◌==◌, IfSome}
 use Rattle.std.specs.Option.{is_some}
 use Rattle.std.specs.List.{list_all}
@@ -17,6 +17,7 @@ use Rattle.fy_read.specs.declared.read.Awaited.TheVariants as awaited
 use Rattle.fy_read.specs.Spelling.{Piece, word, number, sign, Sign, open_bracket, close_bracket, open_paren, close_paren, colon, arrow, ampersand, is_blank, is_loose, spelling, AreSpelled, a_blank, a_piece}
 use Rattle.fy_read.specs.Steps.{Reached, at, after, after_fit, after_all, after_known, node_word, begins_node_word, least, greatest, begin, Spot, spot, nothing, letters, digits, dash, behind, lettered, first_digit, next_digit, dashed, sign_of, after_sign, begun_by, begun_behind, step, steps, start}
 use Rattle.fy_read.proofs.ByteLemmas.{steps-append, chosen_so, chosen_not}
+pub use Rattle.fy_read.proofs.ByteLemmas.{greatest_small}
 
 -- these bytes are whole pieces, which lead to c; the last is a word or a number, or isn't
 pub record Done (done : Bytes) (c : Reached) (loose : Bool) : Type 0 where
@@ -69,7 +70,7 @@ IsLexed part (spot (at n k a) (letters w)) = WithLetters part n k a w
 IsLexed part (spot (at n k a) (digits m)) = WithDigits part n k a m
 IsLexed part (spot (at n k a) dash) = WithDash part n k a
 
-after_all-snoc : (o : Option Reached) (ps : List Piece) (p : Piece) → after_all o (ps ++ p ∷ []) ≡ after_fit (after_all o ps) p
+pub after_all-snoc : (o : Option Reached) (ps : List Piece) (p : Piece) → after_all o (ps ++ p ∷ []) ≡ after_fit (after_all o ps) p
 after_all-snoc o [] p = refl
 after_all-snoc o (q ∷ ps) p = after_all-snoc (after_fit o q) ps p
 
@@ -181,11 +182,6 @@ first_digit_lexed part n k (awaited.Count c) b digit whole =
 
 pub digits_within : (m x g : ℕ) → ((m == 0) || not (nat_le x g)) ≡ false → (0 < m) × (x ≤ g)
 digits_within m x g h = (grind (arith, nat_tests), grind (arith, nat_tests))
-
-pub greatest_small : (c : Counted) → greatest c < 2 ^ 64
-greatest_small counted.Members = lit< tt
-greatest_small counted.Alternatives = lit< tt
-greatest_small counted.Premises = lit< tt
 
 pub decimal_longer : (m d b : ℕ) → 0 < m → d < 10 → 48 + d ≡ b → 10 * m + d < 2 ^ 64 → decimal (10 * m + d) ≡ decimal m ++ b ∷ []
 decimal_longer m d b some small e fits =

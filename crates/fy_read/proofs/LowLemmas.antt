@@ -17,6 +17,7 @@ use Rattle.fy_read.proofs.CompletionLemmas.{ns_rest, joint_rest, part_rest, rest
 use Rattle.fy_read.proofs.GrammarLemmas.{lost, some_derivation}
 use Rattle.fy_read.proofs.PieceLemmas.{after_whole}
 use Rattle.fy_read.proofs.TypeDepth.{deepest-typed, typeds-append}
+use Rattle.fy_read.proofs.DepthLemmas.{greatest-append}
 
 -- behind a part there is one
 abbrev pub IsDeep : Awaited → Deep → Type 0
@@ -171,11 +172,7 @@ rest_typed n k awaited.Part N O e = let t = part_typed n k N O e in omega (arith
 rest_typed n k awaited.Colon N O e = let t = part_typed n k N O e in omega (arith, t)
 rest_typed n k awaited.Joint N O e = let t = joint_typed n k N O e in omega (arith, t)
 
-greatest-append : (xs ys : List ℕ) → greatest (xs ++ ys) ≡ max (greatest xs) (greatest ys)
-greatest-append [] ys = omega arith
-greatest-append (x ∷ xs) ys = omega (arith, greatest-append xs ys)
-
-after_all-append : (o : Option Reached) (ps qs : List Piece) → after_all o (ps ++ qs) ≡ after_all (after_all o ps) qs
+pub after_all-append : (o : Option Reached) (ps qs : List Piece) → after_all o (ps ++ qs) ≡ after_all (after_all o ps) qs
 after_all-append o [] qs = refl
 after_all-append o (p ∷ ps) qs = after_all-append (after_fit o p) ps qs
 

@@ -1,6 +1,6 @@
 -- How far the limits are used up with one piece more.
 use Rattle.std.proofs.Common.{◌≡◌, ℕ, zero, suc, ◌+◌, ◌-◌, ◌<◌, ◌≤◌, Bool, true, false, max, List, [], ◌∷◌, ◌++◌, map, length, refl, ap, sym, ◌∙◌, arith, length-append}
-use Rattle.std.specs.Prelude.{Option, Some, nat_lt, if◌then◌else◌}
+use Rattle.std.specs.Prelude.{Some, nat_lt, if◌then◌else◌}
 use Rattle.std.proofs.lemmas.Bool.{ltb-true, ltb-false}
 use Rattle.std.proofs.lemmas.List.{append-nil}
 use Rattle.fy_types.specs.Types.{PlainType}
@@ -17,18 +17,16 @@ use Rattle.fy_read.specs.Refusals.{opened_from, open_parens, most_open_parens}
 use Rattle.fy_derive.specs.Limits.{most_type_nesting}
 use Rattle.fy_read.specs.Shape.{first_shape, less_one, give, push, shape_with, out, outs, greatest}
 use Rattle.fy_read.specs.Spelling.{Piece, word, number, sign, open_bracket, close_bracket, open_paren, close_paren, colon, arrow, ampersand}
-use Rattle.fy_read.specs.Steps.{Reached, after, after_fit, after_all, begin}
+use Rattle.fy_read.specs.Steps.{after, after_fit, after_all, begin}
 use Rattle.fy_read.proofs.DepthLemmas.{outs-append, shape-append, node_words-outs}
 use Rattle.fy_read.proofs.FineLemmas.{low_of, IsFine}
 use Rattle.fy_read.proofs.LevelLemmas.{greatest_nesting-push, arrows_nesting-push, nesting-in_fields, nesting-meet_all, nesting-whole}
 use Rattle.fy_read.proofs.OpenLemmas.{count-added}
 use Rattle.fy_read.proofs.TypeDepth.{typeds-append}
+use Rattle.fy_read.proofs.LexLemmas.{after_all-snoc}
+pub use Rattle.fy_read.proofs.DepthLemmas.{greatest-append}
 
 -- ---- one piece more
-after_all-snoc : (o : Option Reached) (ps : List Piece) (p : Piece) → after_all o (ps ++ p ∷ []) ≡ after_fit (after_all o ps) p
-after_all-snoc o [] p = refl
-after_all-snoc o (q ∷ ps) p = after_all-snoc (after_fit o q) ps p
-
 nest-snoc : (s : Nest) (ps : List Piece) (p : Piece) → nest_after s (ps ++ p ∷ []) ≡ nest_with (nest_after s ps) p
 nest-snoc s [] p = refl
 nest-snoc s (q ∷ ps) p = nest-snoc (nest_with s q) ps p
@@ -44,10 +42,6 @@ opened-snoc n (sign close_paren ∷ ps) p = opened-snoc (n - 1) ps p
 opened-snoc n (sign colon ∷ ps) p = opened-snoc n ps p
 opened-snoc n (sign arrow ∷ ps) p = opened-snoc n ps p
 opened-snoc n (sign ampersand ∷ ps) p = opened-snoc n ps p
-
-pub greatest-append : (xs ys : List ℕ) → greatest (xs ++ ys) ≡ max (greatest xs) (greatest ys)
-greatest-append [] ys = omega arith
-greatest-append (x ∷ xs) ys = omega (arith, greatest-append xs ys)
 
 -- a piece leads from where the reader is to where it is next, and passes no limit
 pub record Moves (q j : ℕ) (a : Awaited) (n : PlainNodes) (Ls : PlainLevels) (p : Piece) (b : Awaited) (m : PlainNodes)

@@ -115,7 +115,7 @@ node_refused {n = n} {Ls = Ls} x TooDeep none h s = (
   small_still (word (node_text x)) (after_node (extra n.waiting) x) refl (node_leads n (length Ls.outer) x none) (omega (arith, h.0)) s,
 )
 
-no_sign : (l : Bool) → (l && false) ≡ false
+pub no_sign : (l : Bool) → (l && false) ≡ false
 no_sign true = refl
 no_sign false = refl
 

@@ -27,13 +27,7 @@ named n k w h = chosen (is_name_like w) (is_word w) _ _ _ h
 atomic : (n k : ℕ) (a : Atom) → after_type_word n k (atom_text a) ≡ Some (at n k awaited.Joint)
 unfolding type_words
 atomic n k atoms.Int = refl
-atomic n k atoms.Bool = refl
-atomic n k atoms.Char = refl
-atomic n k atoms.Comm = refl
-atomic n k atoms.Compl = refl
-atomic n k atoms.IntAcc = refl
-atomic n k atoms.BoolAcc = refl
-atomic n k atoms.CharAcc = refl
+atomic n k a = refl
 
 pub greatest_word : (n k : ℕ) → after_type_word n k (codes "ns") ≡ Some (at n k awaited.Joint)
 unfolding type_words

@@ -1,5 +1,5 @@
 -- What the functions of a reader do, over what its parts stand for.
-use Rattle.std.proofs.Common.{◌≡◌, ◌⊎◌, inl, inr, ℕ, ◌<◌, Bool, true, false, not, List, [], ◌∷◌, ◌++◌, length, refl, ap, sym, ◌∙◌, subst, ◌&&◌, arith, append_assoc, ne_eqb}
+use Rattle.std.proofs.Common.{◌≡◌, ◌⊎◌, inl, inr, ℕ, ◌<◌, Bool, true, false, not, List, [], ◌∷◌, ◌++◌, length, refl, ap, sym, ◌∙◌, subst, arith, append_assoc, ne_eqb}
 use Rattle.std.specs.Prelude.{Some, None, decimal, ◌==◌}
 use Rattle.std.proofs.lemmas.Bool.Decides.{nat_tests}
 use Rattle.fy_base.specs.Outside.{Bytes}
@@ -26,6 +26,7 @@ use Rattle.fy_read.proofs.LevelLemmas.{ampersand_room, arrow_room}
 use Rattle.fy_read.proofs.MoveLemmas.{move_bracket, move_paren, move_colon, move_ampersand, move_arrow, move_close, move_end}
 use Rattle.fy_read.proofs.ReaderLemmas.{led_from, holds_from, led_part, lettered-known, led_beginning, lettered-none, may_node, no_bracket, no_paren, no_colon, no_joint, no_close, no_end, no_sign_node, no_sign_count, led_open_bracket, led_paren, led_colon, led_ampersand, led_dash, led_close, led_end}
 use Rattle.fy_read.proofs.ReadTypes.{next_behind_name, next_member, next_codomain, next_inside, last_group}
+use Rattle.fy_read.proofs.PassLemmas.{no_sign}
 
 -- ---- what has begun
 pub read_word : {names : List Bytes} {text : Bytes} {r : Reader} → r.begun ≡ variant.Word → IsRead names text r →
@@ -90,10 +91,6 @@ text_at {q = q} {names = names} {l = l} {a = a} {n = n} {Ls = Ls} text e h = sub
 at_awaited : {q : ℕ} {names : List Bytes} {text : Bytes} {l : Bool} {a : Awaited} {n : PlainNodes} {Ls : PlainLevels} (a' : Awaited) → a ≡ a' →
     Holds q names text l a n Ls → Holds q names text l a' n Ls
 at_awaited {q = q} {names = names} {text = text} {l = l} {n = n} {Ls = Ls} a' e h = subst (λ a. Holds q names text l a n Ls) e h
-
-no_sign : (l : Bool) → (l && false) ≡ false
-no_sign true = refl
-no_sign false = refl
 
 pub bracket_read : {q : ℕ} {names : List Bytes} {text : Bytes} {k l : Bool} {a : Awaited} {n : PlainNodes} {Ls Ks : PlainLevels} {x : ℕ} → l ≡ false →
     a ≡ awaited.Bracket → x ≡ 91 → Ks ≡ no_levels →

@@ -13,6 +13,7 @@ use Rattle.fy_types.specs.Nested.{type_nesting, types_nesting}
 use Rattle.fy_derive.specs.Limits.{deepest_type, deepest_of_all}
 use Rattle.fy_read.specs.Shape.{greatest}
 use Rattle.fy_read.specs.Spelling.{Piece, sign, colon, TypeLevel, type, inter, field, primary, meet_of, SpellsType, an_arrow, no_arrow, members, a_field, no_field, ns, atom, group, MoreTypes, no_more, one_more, SpellsDerivation, a_ns, a_sub, a_meet, an_alt, a_left, a_right, a_rule, SpellsDerivations, none, and_one}
+use Rattle.fy_read.proofs.DepthLemmas.{greatest-append}
 
 field_part : (N : Deep) (x : ℕ) → deep_part (deep_field N) x ≡ deep_part N (1 + x)
 field_part (deep d a m g f) x = ap (λ k. deep d a (suc m) (max g k) 0) (omega arith)
@@ -49,15 +50,9 @@ Turns primary A ts r = (N : Deep) (O : List Deep) → typeds (within N O) ts ≡
 
 atom_word : (a : Atom) → is_word (atom_text a) ≡ true
 atom_word atoms.Int = refl
-atom_word atoms.Bool = refl
-atom_word atoms.Char = refl
-atom_word atoms.Comm = refl
-atom_word atoms.Compl = refl
-atom_word atoms.IntAcc = refl
-atom_word atoms.BoolAcc = refl
-atom_word atoms.CharAcc = refl
+atom_word a = refl
 
-no_word : (a b : Bool) → (a && not b) ≡ true → b ≡ false
+pub no_word : (a b : Bool) → (a && not b) ≡ true → b ≡ false
 no_word true true h = absurd cc
 no_word true false h = refl
 no_word false b h = absurd cc
@@ -126,10 +121,6 @@ abbrev mutual
   pub all_types : PlainDerivations → List ℕ
   all_types no_derivations = []
   all_types (and_derivation d ds) = types_of d ++ all_types ds
-
-greatest-append : (xs ys : List ℕ) → greatest (xs ++ ys) ≡ max (greatest xs) (greatest ys)
-greatest-append [] ys = omega arith
-greatest-append (x ∷ xs) ys = omega (arith, greatest-append xs ys)
 
 mutual
   deepest-types : (d : PlainDerivation) → deepest_type d ≡ greatest (types_of d)

@@ -47,7 +47,7 @@ pub same_tail : {a b : ℕ} {s t : Bytes} → a ∷ s ≡ b ∷ t → s ≡ t
 unfolding tail_of
 same_tail e = ap tail_of e
 
-all_step : (a b : Bool) → (a && b) ≡ true → (a ≡ true) × (b ≡ true)
+pub all_step : (a b : Bool) → (a && b) ≡ true → (a ≡ true) × (b ≡ true)
 all_step true true h = (refl, refl)
 all_step true false h = absurd cc
 all_step false b h = absurd cc

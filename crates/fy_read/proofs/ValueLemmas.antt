@@ -1,5 +1,5 @@
 -- The pieces of a derivation give it back, where names are distinct.
-use Rattle.std.proofs.Common.{◌≡◌, ℕ, zero, suc, ◌+◌, ◌<◌, Bool, true, false, not, ◌&&◌, ◌||◌, if◌then◌else◌, IsTrue, List, [], ◌∷◌, ◌++◌, codes, refl, ap, sym, ◌∙◌, subst, append_assoc, arith, add-one, one-add}
+use Rattle.std.proofs.Common.{◌≡◌, ℕ, zero, suc, ◌+◌, ◌<◌, Bool, true, false, not, ◌||◌, if◌then◌else◌, IsTrue, List, [], ◌∷◌, ◌++◌, codes, refl, ap, sym, ◌∙◌, subst, append_assoc, arith, add-one, one-add}
 use Rattle.std.specs.Prelude.{Option, Some, None, slice_get, nat_lt}
 use Rattle.std.specs.Str.{bytes_eq}
 use Rattle.std.proofs.lemmas.List.{append-nil}
@@ -28,14 +28,11 @@ use Rattle.fy_read.specs.Steps.{node_word, type_word, part_type, node_words, typ
 use Rattle.fy_read.proofs.LevelLemmas.{in_fields-push, in_arrows-push}
 use Rattle.fy_read.proofs.OpenLemmas.{count-added, joined-added, joined-one}
 use Rattle.fy_read.proofs.PieceLemmas.{after_whole}
-use Rattle.fy_read.proofs.UniqueLemmas.{unique}
+use Rattle.fy_read.proofs.UniqueLemmas.{unique, all_step}
+use Rattle.fy_read.proofs.ReadNodes.{opened}
+use Rattle.fy_read.proofs.TypeDepth.{no_word}
 
 -- ---- a name's number
-all_step : (a b : Bool) → (a && b) ≡ true → (a ≡ true) × (b ≡ true)
-all_step true true h = (refl, refl)
-all_step true false h = absurd cc
-all_step false b h = absurd cc
-
 either_true : (a b : Bool) → b ≡ true → (a || b) ≡ true
 either_true true b h = refl
 either_true false b h = h
@@ -147,22 +144,11 @@ field_part L i A = ap (λ B. record { domains = L.domains; members = L.members +
 atom_known : (a : Atom) → (is_word (atom_text a) ≡ true) × (type_word (atom_text a) ≡ Some (part.Atom a))
 unfolding type_words
 atom_known atoms.Int = (refl, refl)
-atom_known atoms.Bool = (refl, refl)
-atom_known atoms.Char = (refl, refl)
-atom_known atoms.Comm = (refl, refl)
-atom_known atoms.Compl = (refl, refl)
-atom_known atoms.IntAcc = (refl, refl)
-atom_known atoms.BoolAcc = (refl, refl)
-atom_known atoms.CharAcc = (refl, refl)
+atom_known a = (refl, refl)
 
 ns_known : type_word (codes "ns") ≡ Some part.Ns
 unfolding type_words
 ns_known = refl
-
-no_word : (a b : Bool) → (a && not b) ≡ true → b ≡ false
-no_word true true h = absurd cc
-no_word true false h = refl
-no_word false b h = absurd cc
 
 word_value : (names : List Bytes) (n : PlainNodes) (L : PlainLevel) (O : List PlainLevel) (w : Bytes) (x : TypeWord) (r : List Piece) →
     is_word w ≡ true → type_word w ≡ Some x →
@@ -177,9 +163,6 @@ known : (node_word (codes "ns") ≡ Some node.Ns) × (node_word (codes "sub") �
     × (node_word (codes "left") ≡ Some node.Left) × (node_word (codes "right") ≡ Some node.Right) × (node_word (codes "rule") ≡ Some node.Rule)
 unfolding node_words
 known = (refl, refl, refl, refl, refl, refl, refl)
-
-abbrev opened : List PlainOpen → PlainNodes
-opened os = record { waiting = os; whole = None }
 
 behind : (names : List Bytes) (n : PlainNodes) (w : Bytes) (x : NodeWord) (ts : List Piece) → node_word w ≡ Some x →
     values names (at_node n) (word w ∷ ts) ≡ values names (behind_word n (Some x)) ts

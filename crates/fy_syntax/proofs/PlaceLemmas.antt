@@ -141,18 +141,7 @@ dots_moved g z (Dots.and_dot x) = Dots.and_dot (dots_moved g z x)
 
 operator-kept : (o : BinOp) (z m : List Token) → past_end (operator_sign o) z m ≡ m
 operator-kept op.Add z m = refl
-operator-kept op.Sub z m = refl
-operator-kept op.Mul z m = refl
-operator-kept op.Div z m = refl
-operator-kept op.Rem z m = refl
-operator-kept op.Eq z m = refl
-operator-kept op.Ne z m = refl
-operator-kept op.Lt z m = refl
-operator-kept op.Le z m = refl
-operator-kept op.Gt z m = refl
-operator-kept op.Ge z m = refl
-operator-kept op.And z m = refl
-operator-kept op.Or z m = refl
+operator-kept o z m = refl
 
 prefix-kept : (o : UnOp) (z m : List Token) → past_end (prefix_sign o) z m ≡ m
 prefix-kept unary.Neg z m = refl

@@ -81,13 +81,7 @@ types_front (MoreTypes.and_type x y) sep stop = sep
 
 atom_complete : (d : ℕ) (a : Atom) (p : Place) (r : List Token) → type_primary (type_inner d) (word_at (atom_word a) p ∷ r) ≡ Ok (TypeTree.atom a p, r)
 atom_complete d atom.Int p r = refl
-atom_complete d atom.Bool p r = refl
-atom_complete d atom.Char p r = refl
-atom_complete d atom.Comm p r = refl
-atom_complete d atom.Compl p r = refl
-atom_complete d atom.IntAcc p r = refl
-atom_complete d atom.BoolAcc p r = refl
-atom_complete d atom.CharAcc p r = refl
+atom_complete d a p r = refl
 
 mutual
   unfolding type_inner

@@ -25,18 +25,7 @@ tokens_text names (t ∷ ts) = kind_text names t.kind ++ (32 ∷ tokens_text nam
 
 operator_written : (names : List Bytes) (o : BinOp) (rest : Bytes) → kind_text names (operator_sign o) ++ (32 ∷ rest) ≡ operator_text o ++ rest
 operator_written names op.Add rest = refl
-operator_written names op.Sub rest = refl
-operator_written names op.Mul rest = refl
-operator_written names op.Div rest = refl
-operator_written names op.Rem rest = refl
-operator_written names op.Eq rest = refl
-operator_written names op.Ne rest = refl
-operator_written names op.Lt rest = refl
-operator_written names op.Le rest = refl
-operator_written names op.Gt rest = refl
-operator_written names op.Ge rest = refl
-operator_written names op.And rest = refl
-operator_written names op.Or rest = refl
+operator_written names o rest = refl
 
 prefix_written : (names : List Bytes) (o : UnOp) (rest : Bytes) → kind_text names (prefix_sign o) ++ (32 ∷ rest) ≡ prefix_text o ++ rest
 prefix_written names unary.Neg rest = refl
@@ -46,13 +35,7 @@ prefix_written names unary.Chr rest = refl
 
 atom_written : (names : List Bytes) (a : Atom) (rest : Bytes) → kind_text names (kind.Word (atom_word a)) ++ (32 ∷ rest) ≡ atom_text a ++ rest
 atom_written names atom.Int rest = refl
-atom_written names atom.Bool rest = refl
-atom_written names atom.Char rest = refl
-atom_written names atom.Comm rest = refl
-atom_written names atom.Compl rest = refl
-atom_written names atom.IntAcc rest = refl
-atom_written names atom.BoolAcc rest = refl
-atom_written names atom.CharAcc rest = refl
+atom_written names a rest = refl
 
 truth_written : (names : List Bytes) (b : Bool) (rest : Bytes) → kind_text names (kind.Word (truth_word b)) ++ (32 ∷ rest) ≡ truth_text b ++ rest
 truth_written names true rest = refl

@@ -49,7 +49,7 @@ steps_names : (a b : Reading) → Steps a b → AreNames a.names → AreNames b.
 steps_names a b (none here) are = are
 steps_names a b (more old next new step steps) are = steps_names next b steps (step_names a next step are)
 
-are_first : AreNames first_names
+pub are_first : AreNames first_names
 are_first = record { later = []; begins = sym (append-nil first_names); distinct = refl }
 
 are_texts : (text : Bytes) (names : List Bytes) → HasNames text names → AreNames names

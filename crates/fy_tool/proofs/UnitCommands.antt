@@ -1,6 +1,5 @@
 -- From the parts of the commands of units to what is due for the words.
 use Rattle.std.proofs.Common.{◌≡◌, ◌≢◌, ℕ, [], ◌∷◌, ◌++◌, ◌≤◌, List, length, sym, ap, ◌∙◌, refl, subst, inl, inr, Some, None, Err}
-use Rattle.std.proofs.lemmas.List.{append-nil}
 use Rattle.std.specs.declared.option.Option.{Option}
 use Rattle.std.specs.declared.result.Result.{Result}
 use Rattle.fy_base.specs.Outside.{Bytes, FileCalls, Folder, Tells}
@@ -42,15 +41,13 @@ use Rattle.fy_tool.specs.Working.{AreUnitBytes, Builds, IsBuildable, WasUnlisted
 use Rattle.fy_front.specs.declared.texts.Program.{Program}
 use Rattle.fy_tool.proofs.ImageCommands.{by_image}
 use Rattle.fy_tool.proofs.Serving.{After, called_fetched, done_quietly, none_done, only, serves_stopped}
+use Rattle.fy_tool.proofs.Named.{are_first}
 
 -- ---- `unit`
 
 -- a text that is the source of none
 pub not_unit : (names : List Bytes) (text : Bytes) (error : FrontError) → length text ≤ 1048576 → names ≡ first_names → IfRefused (IsUnitFault names text) error → IfRefused (IsNoUnit text) error
 not_unit names text error short e is = refused_more (IsUnitFault names text) (IsNoUnit text) error (λ why f. not_compiled why short (subst (λ n. IsUnitFault n text why) e f)) is
-
-are_first : AreNames first_names
-are_first = record { later = []; begins = sym (append-nil first_names); distinct = refl }
 
 pub unit_written : (first names : List Bytes) (text bytes : Bytes) (value : UnitValue) → first ≡ first_names → value.source ≡ text → IsUnit names value → HasAdded first names
     → KeepsTypeLimits (source_in value) → (AreNames first → AreIdentifiers first → IsReadBack first names value)

@@ -1,5 +1,5 @@
 -- The run of a phrase by the copy rule over the objects of a call.
-use Rattle.std.proofs.Common.{◌≡◌, ◌≢◌, ℕ, ◌≤◌, zero, suc, ◌+◌, ◌-◌, ◌<◌, Bool, true, false, [], sym, ap, ◌∙◌, refl, subst, arith, inl, inr, Some, None}
+use Rattle.std.proofs.Common.{◌≡◌, ◌≢◌, ℕ, ◌≤◌, zero, suc, ◌+◌, ◌-◌, Bool, true, false, [], sym, ap, ◌∙◌, refl, subst, arith, inl, inr, None}
 use Rattle.std.specs.Prelude.{◌⊎◌}
 use Rattle.std.specs.Option.{ForSome, option_map}
 use Rattle.std.specs.declared.option.Option.{Option}
