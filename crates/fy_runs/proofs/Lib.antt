@@ -1,0 +1,4 @@
+pub mod Outer
+pub mod Runs
+pub mod Reached
+pub mod Closes

@@ -1,0 +1,2 @@
+//! What runs of all machines have in common.
+#![tactic(auto)]
