@@ -1,5 +1,6 @@
 -- Two images of a phrase that run as the copy rule agree.
 use Rattle.std.proofs.Common.{◌≡◌, inl, inr, sym, ◌∙◌}
+use Rattle.fy_runs.proofs.Outer.{prefix_more}
 use Rattle.fy_phrase.specs.Bounds.{copy_bound}
 use Rattle.fy_phrase.specs.Copy.{Standing, ended, faulted, CopyRun, copy_after}
 use Rattle.rv_insn.specs.declared.events.Event.{Event}
@@ -7,7 +8,6 @@ use Rattle.rv_insn.specs.declared.events.Event.TheVariants.{Ended, Fault}
 use Rattle.rv_insn.specs.Run.{World}
 use Rattle.fy_build.specs.Headline.{IsSameEnd, both_ended, both_faulted, IsOverEvent, IsOverStanding, IsSameOver, Reaches}
 use Rattle.fy_build.specs.Agreement.{IsSameEnding, ImagesAgree}
-use Rattle.fy_build.proofs.Prefixes.{prefix_then}
 
 -- what stands as an end does is over
 over_with : (e : Event) (s : Standing) → IsSameEnd e s → IsOverStanding s
@@ -46,7 +46,7 @@ images_agree p one other a b input n bytes =
     elim (b.reaches_what_the_copy_rule_reaches input (copy_bound p n) bytes) [
       | inl exhausted ↦ inl exhausted
       | inr reached ↦ inr (record {
-        output = prefix_then _ _ _ (a.output_is_prefix input n bytes) reached.output;
+        output = prefix_more _ _ _ (a.output_is_prefix input n bytes) reached.output;
         over = through _ _ (copy_after p input (copy_bound p n)) (a.end_is_the_copy_rules input n bytes) reached;
       })
     ]

@@ -1,14 +1,15 @@
 -- The image of code that follows the copy rule runs as the copy rule.
-use Rattle.std.proofs.Common.{◌≡◌, ◌≢◌, ◌⊎◌, inl, inr, ℕ, zero, suc, ◌+◌, ◌*◌, ◌<◌, ◌≤◌, max, Option, refl, sym, ap, ◌∙◌, subst, arith}
+use Rattle.std.proofs.Common.{◌≡◌, ◌≢◌, ◌⊎◌, inl, inr, ℕ, zero, suc, ◌+◌, ◌*◌, ◌<◌, ◌≤◌, Option, sym, ap, ◌∙◌, subst, arith}
 use Rattle.std.proofs.Math.Nat.{mul-le-mul_left, mul-le-mul_right}
 use Rattle.fy_base.specs.Outside.{Bytes, IsPrefix}
 use Rattle.fy_base.specs.declared.data.Datum.{Datum}
+use Rattle.fy_runs.proofs.Outer.{prefix_more, prefix_of}
 use Rattle.fy_phrase.specs.Bounds.{instruction_bound, copy_bound}
 use Rattle.fy_phrase.specs.Copy as copy
 use Rattle.fy_phrase.specs.Copy.{CopyRun, start_run, copy_after, peak_load}
 use Rattle.fy_phrase.specs.Sizes.{nodes, depth}
 use Rattle.fy_phrase.specs.Tree.{Tree}
-use Rattle.fy_phrase.proofs.Runs.{over_later}
+use Rattle.fy_phrase.proofs.Runs.{over_later, outputs_grow, load_within}
 use Rattle.fy_image.specs.declared.image.Image.{Image}
 use Rattle.fy_image.specs.Machine.{machine_after}
 use Rattle.rv_insn.specs.declared.events.Event.{Event}
@@ -17,14 +18,13 @@ use Rattle.rv_insn.specs.Program.{Program}
 use Rattle.rv_insn.specs.Run.{World}
 use Rattle.pe_code.specs.declared.code.PeCode.{PeCode}
 use Rattle.pe_machine.specs.Run.{PeRun, Standing, going, ended, faulted, stuck, gone, pe_after, pe_peak_load}
+use Rattle.pe_machine.proofs.RunLemmas.{peak_zero, peak_suc}
 use Rattle.pe_right.specs.Follows.{StandAlike, StandNearlyAlike, FollowsCopyRule}
 use Rattle.rv_select.specs.Images.{step_bound, ImageDoesRun}
 use Rattle.rv_select.specs.Images as selected
 use Rattle.rv_select.specs.Laws.{deepest}
 use Rattle.fy_build.specs.Headline.{IsSameEnd, both_ended, both_faulted, IsOverEvent, IsOverStanding, IsSameOver, Reaches}
-use Rattle.fy_build.proofs.CopyRuns.{copy_grows, load_below_peak}
 use Rattle.fy_build.proofs.MachineRuns.{RunLaws, machine_grows, machine_stays}
-use Rattle.fy_build.proofs.Prefixes.{prefix_then, prefix_of}
 
 -- ---- ends
 
@@ -82,28 +82,20 @@ instructions_within p code m deep =
 
 -- ---- the greatest load
 
-peak_zero : (code : PeCode) (input : Bytes) → pe_peak_load code input 0 ≡ (pe_after code input 0).state.load
-unfolding pe_peak_load
-peak_zero code input = refl
-
-peak_suc : (code : PeCode) (input : Bytes) (n : ℕ) → pe_peak_load code input (suc n) ≡ max (pe_peak_load code input n) (pe_after code input (suc n)).state.load
-unfolding pe_peak_load
-peak_suc code input n = refl
-
 -- no load of n steps of the code is above the greatest of the copy rule within the bound
 peak_below : (handed : Tree → Option Datum) (p : Tree) (code : PeCode) (input : Bytes) (n m : ℕ) → FollowsCopyRule handed p code → n * (nodes p + 1) ≤ m → pe_peak_load code input n ≤ peak_load p input m
 peak_below handed p code input zero m follows le =
     let there = follows.reads_back input 0 in
     let load = there.same.load in
     let few = there.few in
-    let below = load_below_peak p input there.steps m (omega arith) in
+    let below = load_within p input there.steps m (omega arith) in
     let e = peak_zero code input in
     omega arith
 peak_below handed p code input (suc n) m follows le =
     let there = follows.reads_back input (suc n) in
     let load = there.same.load in
     let few = there.few in
-    let below = load_below_peak p input there.steps m (omega arith) in
+    let below = load_within p input there.steps m (omega arith) in
     let less : n * (nodes p + 1) ≤ suc n * (nodes p + 1) = mul-le-mul_right (nodes p + 1) (omega arith) in
     let before = peak_below handed p code input n m follows (omega arith) in
     let e = peak_suc code input n in
@@ -125,8 +117,8 @@ module _ (laws : RunLaws) (handed : Tree → Option Datum) (p : Tree) (code : Pe
   pub output_is_prefix : (n : ℕ) → IsPrefix (after n).output (copied (copy_bound p n)).output
   output_is_prefix n =
       let there = follows.reads_back input n in
-      let grown = copy_grows p input there.steps (copy_bound p n) (steps_within p there.steps n there.few) in
-      prefix_then (after n).output (run n).output (copied (copy_bound p n)).output
+      let grown = outputs_grow p input there.steps (copy_bound p n) (steps_within p there.steps n there.few) in
+      prefix_more (after n).output (run n).output (copied (copy_bound p n)).output
       (does.follows n).output (prefix_of (run n).output (copied there.steps).output (copied (copy_bound p n)).output there.same.output grown)
 
   pub end_is_the_copy_rules : (n : ℕ) → IsOverEvent (after n).ending → IsSameOver (after n) (copied (copy_bound p n))
@@ -150,9 +142,9 @@ module _ (laws : RunLaws) (handed : Tree → Option Datum) (p : Tree) (code : Pe
       let k : ℕ = step_bound code (3 * (m + 1)) in
       let kept = follows.keeps_up input m in
       let begun : IsPrefix (copied m).output (run (3 * (m + 1))).output = record { rest = kept.more; is = kept.output } in
-      let put = prefix_then (copied m).output (run (3 * (m + 1))).output (after k).output begun far.output in
+      let put = prefix_more (copied m).output (run (3 * (m + 1))).output (after k).output begun far.output in
       record {
-        output = prefix_then (copied m).output (after k).output (after n).output put (machine_grows laws program image input k n le);
+        output = prefix_more (copied m).output (after k).output (after n).output put (machine_grows laws program image input k n le);
         end = λ over.
             let alike = kept.over (over_not_going (copied m).standing over) in
             let same = far.over (over_alike (run (3 * (m + 1))).standing (copied m).standing alike.0 over) in

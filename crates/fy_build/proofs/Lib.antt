@@ -1,5 +1,3 @@
-pub mod Prefixes
-pub mod CopyRuns
 pub mod MachineRuns
 pub mod Headlines
 pub mod Words

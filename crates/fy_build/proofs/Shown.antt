@@ -3,6 +3,7 @@ use Rattle.std.proofs.Common.{◌≡◌, ◌≢◌, ◌⊎◌, inl, inr, ℕ, �
 use Rattle.fy_base.specs.Outside.{Bytes, IsPrefix}
 use Rattle.fy_base.specs.declared.data.Place.{Place}
 use Rattle.fy_base.specs.declared.data.FaultKind.{FaultKind}
+use Rattle.fy_runs.proofs.Outer.{prefix_more}
 use Rattle.fy_phrase.specs.Tree.{Tree}
 use Rattle.fy_phrase.specs.Copy.{Standing, going, ended, faulted, stuck, copy_after}
 use Rattle.fy_phrase.specs.Bounds.{instruction_bound}
@@ -16,7 +17,6 @@ use Rattle.fy_build.specs.Headline.{IsSameEnd, both_ended, both_faulted, IsOverE
 use Rattle.fy_build.specs.Shown as ends
 use Rattle.fy_build.specs.Shown.{RunsShowCopyRule}
 use Rattle.fy_build.proofs.MachineRuns.{RunLaws, machine_grows, machine_stays}
-use Rattle.fy_build.proofs.Prefixes.{prefix_then}
 
 ended_too : (event : Event) (standing : Standing) → IsSameEnd event standing → event ≡ Ended → standing ≡ ended
 ended_too event standing both_ended is = refl
@@ -56,7 +56,7 @@ module _ (laws : RunLaws) (p : Tree) (image : Image) (runs : RunsAsCopyRule p im
       by (inl exhausted) = absurd (here (λ e. let clash : Exhausted ≡ Going = sym exhausted ∙ e in cc))
       by (inr reached) = (
         λ over. here (not_going (after (instruction_bound p m)).ending (copy_after p input m).standing (reached.end over).end),
-        prefix_then (copy_after p input m).output (after (instruction_bound p m)).output (after n).output reached.output (machine_grows laws runs.program image input (instruction_bound p m) n le),
+        prefix_more (copy_after p input m).output (after (instruction_bound p m)).output (after n).output reached.output (machine_grows laws runs.program image input (instruction_bound p m) n le),
       )
 
 pub runs_show : RunLaws → RunsShowCopyRule

@@ -1,7 +1,7 @@
 pub mod Stacks
 pub mod SizeLemmas
 pub mod Keeping
-pub mod Reached
+pub mod Ending
 pub mod StoreLemmas
 pub mod FillLemmas
 pub mod Forms

@@ -5,5 +5,4 @@ pub mod Low
 pub mod Enters
 pub mod Kept
 pub mod Seen
-pub mod Exchange
 pub mod Ends

@@ -74,3 +74,8 @@ Stepped progress.TooBig old new = Refused old new
 -- and what a byte does then
 abbrev pub went_on_with : Option ℕ → Seen → Seen
 went_on_with byte old = record { state = given old.state byte; steps = old.steps + 1; phase = phase.Going }
+
+-- a step more was made, and the state goes on
+pub record IsFurther (old new : Seen) : Type 0 where
+  pub steps : new.steps ≡ old.steps + 1
+  pub phase : new.phase ≡ phase.Going

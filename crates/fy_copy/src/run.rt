@@ -1,12 +1,13 @@
 //! Runs of the copy rule over a source and a sink.
 
-ghost use Rattle.std.specs.Prelude.{◌≡◌, ◌≢◌, ◌≤◌, ◌<◌, ◌^◌, IsTrue, IfOk, IfSome, OnErr, Some, Ok};
+ghost use Rattle.std.specs.Prelude.{◌≡◌, ◌≢◌, ◌≤◌, ◌<◌, ◌^◌, IsTrue, IfOk, IfSome, OnErr, Some, None, Ok};
+ghost use Rattle.std.specs.Option.{option_map};
 ghost use Rattle.fy_base.specs.Outside.{IsAtEnd, Rose};
 ghost use Rattle.fy_phrase.specs.Reads.{reads};
 ghost use Rattle.fy_phrase.specs.Sizes.{depth};
-ghost use Rattle.fy_copy.specs.Exchange.{Exchange};
-ghost use Rattle.fy_copy.specs.Ends.{IsCopyEnd, DoesPart, RunsTo, run_at_end};
-ghost use Rattle.fy_copy.specs.Seen.{seen};
+ghost use Rattle.fy_runs.specs.Exchange.{Exchange};
+ghost use Rattle.fy_copy.specs.Ends.{IsCopyEnd, DoesPart, RunsTo, close_of, count_of, held_machine, run_at_end};
+ghost use Rattle.fy_copy.specs.Seen.{IsFurther, seen};
 
 use crate::copier::{give, is_over, load_of, start, step};
 use crate::progress::Progress;
@@ -35,8 +36,9 @@ fn turn<I: Source, O: Sink>(
     requires going { (seen state.old).phase ≡ Phase.Going }
     requires few { (seen state.old).steps < 2 ^ 48 }
     requires at_end { IsTrue over.old → IsAtEnd (I.left input.old) }
-    ensures did { IfOk result (λ end. Exchange (seen state.old) (seen state.new)
-        (record { left = I.left input.old; over = over.old; held = O.held output.old }) (record { left = I.left input.new; over = over.new; held = O.held output.new }) end) }
+    ensures did { IfOk result (λ end. Exchange held_machine (seen state.old).state (seen state.new).state
+        (record { left = I.left input.old; over = over.old; held = O.held output.old }) (record { left = I.left input.new; over = over.new; held = O.held output.new }) (count_of end) (option_map close_of end)) }
+    ensures further { IfOk result (λ end. end ≡ None → IsFurther (seen state.old) (seen state.new)) }
     ensures unread { OnErr result (I.left input.new ≡ I.left input.old) }
     ensures unwritten { OnErr result (O.held output.new ≡ O.held output.old) }
     ensures end { IfOk result (λ end. IfSome end IsCopyEnd) }

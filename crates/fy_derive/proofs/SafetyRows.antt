@@ -6,7 +6,8 @@ use Rattle.fy_base.specs.declared.data.Datum.TheVariants as datum
 use Rattle.fy_types.specs.declared.types.Atom.TheVariants as atoms
 use Rattle.fy_types.specs.Types.{atom, no_types, and_type}
 use Rattle.fy_phrase.specs.Tree.{Tree, lit, lam, app, merge, let_in, skip}
-use Rattle.fy_phrase.specs.Copy.{going, stuck, after_more, copy_after}
+use Rattle.fy_runs.specs.Runs.{after}
+use Rattle.fy_phrase.specs.Copy.{going, stuck, copy_after}
 
 here : Place
 here = first_place
@@ -16,11 +17,11 @@ abbrev called_number : Tree
 called_number = app (lit (datum.Int (pos 3)) here) (lit (datum.Int (pos 3)) here) here
 
 called_number-goes_on : (copy_after called_number [] 1).standing ≡ going
-unfolding after_more
+unfolding after
 called_number-goes_on = refl
 
 called_number-sticks : (copy_after called_number [] 2).standing ≡ stuck
-unfolding after_more
+unfolding after
 called_number-sticks = refl
 
 -- `(1, let x == skip in \ x : int. skip) 5`: the right operand would take the call, but it is no abstraction yet
@@ -30,5 +31,5 @@ hidden_procedure =
     (lit (datum.Int (pos 5)) here) here
 
 hidden_procedure-sticks : (copy_after hidden_procedure [] 3).standing ≡ stuck
-unfolding after_more
+unfolding after
 hidden_procedure-sticks = refl

@@ -1,42 +1,38 @@
 -- Runs of the copy rule, step by step.
-use Rattle.std.proofs.Common.{◌≡◌, ◌≢◌, ℕ, zero, suc, ◌+◌, ◌-◌, ◌≤◌, sym, ap, ◌∙◌, refl, arith}
-use Rattle.fy_phrase.specs.Copy.{Standing, going, ended, faulted, stuck, CopyRun, ticked, tick, after_more}
+use Rattle.std.proofs.Common.{◌≡◌, ◌≢◌, ℕ, zero, suc, ◌+◌, ◌≤◌, max}
+use Rattle.fy_base.specs.Outside.{Bytes, IsPrefix}
+use Rattle.fy_runs.proofs.Runs as laws
+use Rattle.fy_phrase.specs.Tree.{Tree}
+use Rattle.fy_phrase.specs.Copy.{going, copy_machine, CopyRun, tick, after_more, start_run, copy_after, load_of, peak_load}
 
 pub after_zero : (r : CopyRun) → after_more zero r ≡ r
-unfolding after_more
-after_zero r = refl
+after_zero r = laws.after_zero copy_machine r
 
 pub after_suc : (m : ℕ) (r : CopyRun) → after_more (suc m) r ≡ tick (after_more m r)
-unfolding after_more
-after_suc m r = refl
-
-pub after_one : (r : CopyRun) → after_more 1 r ≡ tick r
-unfolding after_more
-after_one r = refl
+after_suc m r = laws.after_suc copy_machine m r
 
 -- k steps and then m
 pub after_both : (k m : ℕ) (r : CopyRun) → after_more (k + m) r ≡ after_more m (after_more k r)
-after_both k zero r = let e : k + 0 ≡ k = omega arith in ap (λ n. after_more n r) e ∙ sym (after_zero (after_more k r))
-after_both k (suc m) r =
-    let e : k + suc m ≡ suc (k + m) = omega arith in
-    ap (λ n. after_more n r) e ∙ after_suc (k + m) r ∙ ap (λ x. tick x) (after_both k m r) ∙ sym (after_suc m (after_more k r))
+after_both k m r = laws.after_both copy_machine k m r
 
 -- a step and then m
 pub after_first : (m : ℕ) (r : CopyRun) → after_more (suc m) r ≡ after_more m (tick r)
-after_first m r = let e : suc m ≡ 1 + m = omega arith in ap (λ n. after_more n r) e ∙ after_both 1 m r ∙ ap (λ x. after_more m x) (after_one r)
-
-tick_stays : (s : Standing) (r : CopyRun) → s ≢ going → ticked s r ≡ r
-tick_stays going r over = absurd (over refl)
-tick_stays ended r over = refl
-tick_stays (faulted kind at) r over = refl
-tick_stays stuck r over = refl
-
--- a run that isn't going stays
-pub over_stays : (m : ℕ) (r : CopyRun) → r.standing ≢ going → after_more m r ≡ r
-over_stays zero r over = after_zero r
-over_stays (suc m) r over = after_suc m r ∙ ap (λ x. tick x) (over_stays m r over) ∙ tick_stays r.standing r over
+after_first m r = laws.after_first copy_machine m r
 
 pub over_later : (k m : ℕ) (r : CopyRun) → (after_more k r).standing ≢ going → k ≤ m → after_more m r ≡ after_more k r
-over_later k m r over le =
-    let e : m ≡ k + (m - k) = omega arith in
-    ap (λ n. after_more n r) e ∙ after_both k (m - k) r ∙ over_stays (m - k) (after_more k r) over
+over_later k m r over le = laws.over_later copy_machine k m r over le
+
+pub outputs_grow : (p : Tree) (input : Bytes) (k m : ℕ) → k ≤ m → IsPrefix (copy_after p input k).output (copy_after p input m).output
+outputs_grow p input k m le = laws.outputs_grow copy_machine (start_run p input) k m le
+
+-- ---- the greatest load
+
+pub peak_zero : (p : Tree) (input : Bytes) → peak_load p input 0 ≡ (copy_after p input 0).state.load
+peak_zero p input = laws.peak_zero load_of copy_machine (start_run p input)
+
+pub peak_suc : (p : Tree) (input : Bytes) (m : ℕ) → peak_load p input (suc m) ≡ max (peak_load p input m) (copy_after p input (suc m)).state.load
+peak_suc p input m = laws.peak_suc load_of copy_machine (start_run p input) m
+
+-- a state's load is at most the greatest of as many steps and more
+pub load_within : (p : Tree) (input : Bytes) (k m : ℕ) → k ≤ m → (copy_after p input k).state.load ≤ peak_load p input m
+load_within p input k m le = laws.measure_within load_of copy_machine (start_run p input) k m le

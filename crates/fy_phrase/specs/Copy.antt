@@ -1,6 +1,6 @@
 -- The copy rule: what a phrase does, step by step. After Reynolds, "Design of the Programming Language Forsythe" (1996), where call by
 -- name is explained by copying; the order of evaluation, the places of faults and the load are this project's.
-use Rattle.std.specs.Prelude.{ℕ, zero, suc, ◌+◌, max, Bool, true, false, nat_eq, nat_lt, if◌then◌else◌, List, [], ◌∷◌, ◌++◌, length, drop, set, slice_get, Some, None, pos, negsuc}
+use Rattle.std.specs.Prelude.{◌≡◌, ◌≢◌, ℕ, zero, suc, ◌+◌, Bool, true, false, nat_eq, nat_lt, if◌then◌else◌, List, [], ◌∷◌, ◌++◌, length, set, slice_get, Some, None, pos, negsuc}
 use Rattle.std.specs.declared.option.Option.{Option}
 use Rattle.fy_base.specs.declared.data.Place.{Place}
 use Rattle.fy_base.specs.declared.data.Datum.{Datum}
@@ -13,6 +13,9 @@ use Rattle.fy_base.specs.declared.arithmetic.Applied.{Applied}
 use Rattle.fy_base.specs.declared.arithmetic.Applied.TheVariants.{Gives, Faults, NoSense}
 use Rattle.fy_base.specs.Outside.{Bytes}
 use Rattle.fy_base.specs.Arithmetic.{unary_result, binary_result, written_text}
+use Rattle.std.proofs.Common.{refl}
+use Rattle.fy_runs.specs.Runs as runs
+use Rattle.fy_runs.specs.Runs.{Move, Machine, Run}
 use Rattle.fy_phrase.specs.declared.phrase.MarkKind.TheVariants as marks
 use Rattle.fy_phrase.specs.Tree.{Tree, Trees, var, lit, unary, binary, cond, case, lam, app, field, sel, merge, let_in, rec, skip, seq, assign, while_do, forever, new, cells, escape, accept, put, read, mark, no_trees, and_tree}
 use Rattle.fy_phrase.specs.Closing.{closed_with}
@@ -373,45 +376,57 @@ standing_at p cs = going
 abbrev pub standing_of : CopyState → Standing
 standing_of s = standing_at s.focus s.contexts
 
+-- the test of a run that goes on
+abbrev pub goes_on : Standing → Bool
+goes_on going = true
+goes_on _ = false
+
+pub off_going : (t : Standing) → t ≢ going → goes_on t ≡ false
+off_going going other = absurd (other refl)
+off_going _ other = refl
+
+-- a step in the words of all machines: one that faults or is stuck leaves the state
+abbrev pub move_of : CopyState → CopyMove → Move CopyState Standing
+move_of old (goes s) = runs.goes s
+move_of old (puts text s) = runs.puts text s
+move_of old (takes go) = runs.takes go
+move_of old (faults kind at) = runs.stops (faulted kind at) old
+move_of old sticks = runs.stops stuck old
+
+-- the copy rule among all machines
+abbrev pub copy_machine : Machine CopyState Standing
+copy_machine = record { step = λ s. move_of s (copy_step s); standing = standing_of; going = going; goes_on = goes_on; on = refl; off = off_going }
+
 -- a run: the state, the rest of the input, the output so far, and how it stands
-pub record CopyRun : Type 0 where
-  pub state : CopyState
-  pub input : Bytes
-  pub output : Bytes
-  pub standing : Standing
+abbrev pub CopyRun : Type 0
+CopyRun = Run CopyState Standing
 
 -- what a step leads to, on the input that is left
 abbrev pub settled : CopyMove → CopyRun → CopyRun
-settled (goes s) r = record r { state = s; standing = standing_of s }
-settled (puts text s) r = record r { state = s; output = r.output ++ text; standing = standing_of s }
-settled (takes go) r =
-    let s = go (slice_get r.input 0) in record { state = s; input = drop 1 r.input; output = r.output; standing = standing_of s }
-settled (faults kind at) r = record r { standing = faulted kind at }
-settled sticks r = record r { standing = stuck }
+settled m r = runs.settled standing_of (move_of r.state m) r
 
 -- one more step of a run that is going; another stays
 abbrev pub ticked : Standing → CopyRun → CopyRun
-ticked going r = settled (copy_step r.state) r
-ticked ended r = r
-ticked (faulted kind at) r = r
-ticked stuck r = r
+ticked t r = runs.ticked copy_machine t r
 
 abbrev pub tick : CopyRun → CopyRun
-tick r = ticked r.standing r
+tick r = runs.tick copy_machine r
 
 -- the run after m more steps
-unfoldable pub after_more : ℕ → CopyRun → CopyRun
-after_more zero r = r
-after_more (suc m) r = tick (after_more m r)
+abbrev pub after_more : ℕ → CopyRun → CopyRun
+after_more m r = runs.after copy_machine m r
 
 abbrev pub start_run : Tree → Bytes → CopyRun
-start_run p input = record { state = start p; input = input; output = []; standing = standing_of (start p) }
+start_run p input = runs.start_run standing_of (start p) input
 
 -- the run of a phrase on an input after m steps
 abbrev pub copy_after : Tree → Bytes → ℕ → CopyRun
 copy_after p input m = after_more m (start_run p input)
 
+-- the load of a state
+abbrev pub load_of : CopyState → ℕ
+load_of s = s.load
+
 -- the greatest load among the states 0 to m
-unfoldable pub peak_load : Tree → Bytes → ℕ → ℕ
-peak_load p input zero = (copy_after p input zero).state.load
-peak_load p input (suc m) = max (peak_load p input m) (copy_after p input (suc m)).state.load
+abbrev pub peak_load : Tree → Bytes → ℕ → ℕ
+peak_load p input m = runs.peak load_of copy_machine (start_run p input) m

@@ -1,12 +1,12 @@
 -- What is within the limits is taken, and a run whose bounds fit comes to its end.
-use Rattle.std.proofs.Common.{◌≡◌, ◌≢◌, ℕ, zero, suc, ◌+◌, ◌<◌, ◌≤◌, max, List, [], inl, inr, sym, ◌∙◌, refl, subst, arith, All, Some}
+use Rattle.std.proofs.Common.{◌≡◌, ◌≢◌, ℕ, zero, suc, ◌+◌, ◌<◌, ◌≤◌, List, [], inl, inr, sym, ◌∙◌, refl, subst, arith, All, Some}
 use Rattle.std.specs.Prelude.{◌⊎◌, Any, Ok, Err}
 use Rattle.std.proofs.lemmas.Bool.{cases_lt}
 use Rattle.fy_base.specs.Outside.{Bytes}
 use Rattle.fy_phrase.specs.Tree.{Tree}
 use Rattle.fy_phrase.specs.Copy.{Standing, going, ended, faulted, stuck, start_run, copy_after, peak_load}
 use Rattle.fy_phrase.specs.Bounds.{instruction_bound, copy_bound}
-use Rattle.fy_phrase.proofs.Runs.{over_later}
+use Rattle.fy_phrase.proofs.Runs.{over_later, peak_zero, peak_suc, load_within}
 use Rattle.fy_types.specs.Paths.{PlainPaths}
 use Rattle.fy_types.specs.Limits.{IsWithinLimits, IsTooLarge}
 use Rattle.fy_types.specs.Types.{atom}
@@ -151,27 +151,6 @@ pub accepted_where : AcceptedWhereLimitsHold
 accepted_where text p is fit written status why (by_text _ told refused) = fits_none p fit told (shapes_alone text p is told refused).least
 
 -- ---- runs
-
-peak_zero : (p : Tree) (input : Bytes) → peak_load p input 0 ≡ (copy_after p input 0).state.load
-unfolding peak_load
-peak_zero p input = refl
-
-peak_suc : (p : Tree) (input : Bytes) (n : ℕ) → peak_load p input (suc n) ≡ max (peak_load p input n) (copy_after p input (suc n)).state.load
-unfolding peak_load
-peak_suc p input n = refl
-
--- a state's load is at most the greatest of more states
-load_within : (p : Tree) (input : Bytes) (k m : ℕ) → k ≤ m → (copy_after p input k).state.load ≤ peak_load p input m
-load_within p input k zero le =
-    let same : 0 ≡ k = omega arith in
-    let e = peak_zero p input in
-    subst (λ j. (copy_after p input j).state.load ≤ peak_load p input 0) same (omega arith)
-load_within p input k (suc m) le =
-    let e = peak_suc p input m in
-    elim (cases_lt k (suc m)) [
-      | inl less ↦ let before = load_within p input k m (omega arith) in omega arith
-      | inr more ↦ let same : suc m ≡ k = omega arith in subst (λ j. (copy_after p input j).state.load ≤ peak_load p input (suc m)) same (omega arith)
-    ]
 
 -- where a run is over, no later load is greater
 peak_over : (p : Tree) (input : Bytes) (m : ℕ) → (copy_after p input m).standing ≢ going → (k : ℕ) → peak_load p input k ≤ peak_load p input m

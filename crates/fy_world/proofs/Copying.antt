@@ -7,15 +7,16 @@ use Rattle.std.specs.declared.result.Result.TheVariants.{Ok, Err}
 use Rattle.fy_base.specs.Outside.{Bytes, appended, Gained, GainedPart}
 use Rattle.fy_base.specs.declared.data.Ending.{Ending}
 use Rattle.fy_base.specs.declared.data.Ending.TheVariants as ends
+use Rattle.fy_runs.proofs.Outer.{part_longer}
+use Rattle.fy_runs.proofs.Reached.{below_next, inside_next}
+use Rattle.fy_runs.proofs.Closes.{ask_puts_none}
 use Rattle.fy_phrase.specs.Tree.{Tree}
 use Rattle.fy_phrase.specs.Sizes.{fits}
-use Rattle.fy_phrase.specs.Copy.{CopyMove, goes, puts, takes, faults, sticks, Standing, going, ended, faulted, stuck, copy_step, copy_after, peak_load, settled, ticked, start_run}
-use Rattle.fy_phrase.specs.Copy as rule
-use Rattle.fy_phrase.proofs.Runs.{after_suc}
+use Rattle.fy_phrase.specs.Copy.{CopyMove, goes, puts, takes, faults, sticks, Standing, going, ended, faulted, stuck, copy_step, copy_machine, start_run, copy_after, peak_load}
+use Rattle.fy_phrase.proofs.Runs.{outputs_grow}
 use Rattle.fy_copy.specs.Moves.{IsTooBig}
-use Rattle.fy_copy.specs.Ends.{IsGoingBelow, IsHeldBelow, AsksAt, EndsSo, HasPut, taken_after, RunsTo, DoesPart, IsCopyEnd}
+use Rattle.fy_copy.specs.Ends.{held_machine, close_of, IsGoingBelow, IsHeldBelow, EndsSo, HasPut, taken_after, RunsTo, DoesPart, IsCopyEnd}
 use Rattle.fy_copy.specs.declared.run.CopyRun.{CopyRun}
-use Rattle.fy_copy.proofs.Reached.{outputs_grow, below_next, small_next, part_longer}
 use Rattle.fy_derive.specs.Safety.{IsNeverStuck}
 use Rattle.fy_world.specs.World.{Contents}
 use Rattle.fy_world.specs.Note.{texts, ended_lines}
@@ -91,7 +92,7 @@ whole_from copying (suc k) n safe sum below held =
         more = omega arith;
         is_run = record { ends = record { fewer = omega arith; going = record { below = below; here = here }; big = big }; held = held; within = omega arith };
       }
-      | inr small ↦ further copying n (whole_from copying k (n + 1) safe (omega arith) (below_next p fed n below here) (small_next p fed n held small))
+      | inr small ↦ further copying n (whole_from copying k (n + 1) safe (omega arith) (below_next copy_machine (start_run p fed) n below here) (inside_next held_machine (start_run p fed) n held small))
     ])
 
 whole : (copying : Copying) (n : ℕ) → IsNeverStuck copying.phrase → n ≤ copying.limit → IsGoingBelow copying.phrase copying.input n → IsHeldBelow copying.phrase copying.input n → Whole copying n
@@ -151,16 +152,6 @@ copied_unfinished p limit h c stop safe memory part rest =
     (λ keep. let clash : Memory ≡ Keep = sym memory ∙ keep in cc) (λ input. absurd (let clash : Memory ≡ Input = sym memory ∙ input in cc))
     (λ output. absurd (let clash : Memory ≡ Output = sym memory ∙ output in cc))
 
--- a step that reads puts nothing
-read_puts_none : (p : Tree) (input : Bytes) (n : ℕ) → AsksAt p input n → (copy_after p input n).output ≡ (copy_after p input (n - 1)).output
-read_puts_none p input n at =
-    let some = at.some in
-    let before = copy_after p input (n - 1) in
-    let last : n ≡ suc (n - 1) = omega arith in
-    let going = at.below (n - 1) (omega arith) in
-    let more : copy_after p input n ≡ settled (copy_step before.state) before = ap (λ k. copy_after p input k) last ∙ after_suc (n - 1) (start_run p input) ∙ ap (λ s. ticked s before) going in
-    ap (λ (r : rule.CopyRun). r.output) more ∙ ap (λ m. (settled m before).output) at.asks
-
 -- a read failed
 pub copied_unread : (p : Tree) (limit : ℕ) (h c : Contents) (done : CopyRun) → IsNeverStuck p → done.end ≡ ends.InputFault → done.steps ≤ limit → Ran p limit done h c → c ≡ record h { input = c.input; output = c.output }
     → HasCopied p limit h c (Err Input)
@@ -175,7 +166,7 @@ copied_unread p limit h c done safe is le r rest =
       reads = (asks, r.held);
       files = ap (λ (x : Contents). x.files) rest;
       rest = r.rest ∙ ap (λ e. option_map (λ _. (copy_after p r.fed (taken_after e done.steps)).input) h.input) is;
-      output = output ∙ ap (λ bytes. appended h.output bytes) (read_puts_none p r.fed done.steps asks);
+      output = output ∙ ap (λ bytes. appended h.output bytes) (ask_puts_none copy_machine (start_run p r.fed) done.steps asks);
       notes = none_told h.notes c.notes (ap (λ (x : Contents). x.notes) rest);
     })
     (λ clash. absurd (let no : Input ≡ Output = clash in cc))
@@ -194,7 +185,7 @@ copied_unwritten p limit h c done safe is le r rest =
       puts = (put, r.held);
       files = ap (λ (x : Contents). x.files) rest;
       rest = r.rest ∙ ap (λ e. option_map (λ _. (copy_after p r.fed (taken_after e done.steps)).input) h.input) is;
-      output = let since = r.unput is in record { part = since.part; gained = since.gained; begins = since.begins; reads = λ k few reads. since.reads k few reads.0 };
+      output = let since = r.unput (ap close_of is) in record { part = since.part; gained = since.gained; begins = since.begins; reads = λ k few reads. since.reads k few reads.0 };
       notes = none_told h.notes c.notes (ap (λ (x : Contents). x.notes) rest);
     })
 
@@ -247,7 +238,7 @@ done_but p limit h c done safe is no_input no_output le r rest =
     record {
       own = own;
       is_run = record { ends = subst (λ e. EndsSo e p r.fed done.steps limit) own.is r.end; held = r.held; within = le };
-      notes_are = ap (λ k. copy_notes own.by done.steps k) (r.peak ∙ ap (λ k. peak_load p r.fed k) taken);
+      notes_are = ap (λ k. copy_notes own.by done.steps k) (r.also ∙ ap (λ k. peak_load p r.fed k) taken);
       all = rest ∙ (λ i. record { files = h.files; input = input i; output = output i; notes = h.notes });
     }
 

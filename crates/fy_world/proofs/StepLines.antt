@@ -13,22 +13,24 @@ use Rattle.fy_base.specs.declared.data.Ending.TheVariants as ends
 use Rattle.fy_base.specs.declared.data.FaultKind.{FaultKind}
 use Rattle.fy_base.specs.declared.data.Place.{Place}
 use Rattle.fy_base.specs.declared.data.PutKind.{PutKind}
+use Rattle.fy_runs.specs.Exchange.{Outer, went, wrote, took, stopped, was_over, refused_by}
 use Rattle.pe_code.specs.declared.code.PeCode.{PeCode}
 use Rattle.pe_machine.specs.States.{PeState}
 use Rattle.pe_machine.specs.Step.{PeMove, goes, puts, takes, faults, sticks, loses, pe_step}
+use Rattle.pe_machine.specs.Run as standing
 use Rattle.pe_machine.specs.Run.{going, standing_of, load_after}
-use Rattle.pe_machine.specs.Seen.{Seen, Stepped, WentOn, Wrote, Waits, Halts, Refused, WasOver, address_of, given, went_on_with}
+use Rattle.pe_machine.specs.Seen.{Seen, Stepped, WentOn, Wrote, Waits, Halts, Refused, WasOver, IsFurther, address_of, given, went_on_with}
+use Rattle.pe_machine.proofs.Ending.{went_by, put_by, waits_by, halts_by, went_further, took_further}
 use Rattle.pe_machine.specs.declared.events.PeEvent.{PeEvent}
 use Rattle.pe_machine.specs.declared.events.PeEvent.TheVariants as event
 use Rattle.fy_world.specs.World.{Contents}
 use Rattle.fy_world.specs.Steps.{step_text}
-use Rattle.fy_world.specs.Stepping.{Outer, Exchanged, went, wrote, took, was_over, faulted, stuck_at, lost, refused, StepPart, Turned, TurnStopped, noted, outer_of, step_line, text_of, text_put}
+use Rattle.fy_world.specs.Stepping.{Exchanged, StepPart, Turned, TurnStopped, noted, outer_of, step_line, text_of, text_put}
 use Rattle.fy_world.specs.declared.world.Stop.{Stop}
 use Rattle.fy_world.specs.declared.world.Stop.TheVariants.{Keep, Input, Output, Notes, Memory}
 use Rattle.fy_world.proofs.Contents.{nothing, all_gained}
 use Rattle.fy_world.proofs.Keeping.{none_gained}
 use Rattle.fy_world.proofs.Stopping.{none_told}
-use Rattle.fy_world.proofs.Stepwise.{load_went, load_waits, load_halts}
 
 -- ---- lines
 
@@ -147,13 +149,14 @@ line_is code names old address is = ap (λ a. step_text code names a ++ 10 ∷ [
 
 -- a step whose line alone was told, behind which the run goes on or ends so
 pub turned_told : (result : Result (Option Ending) Stop) (end : Option Ending) (code : PeCode) (names : List Bytes) (old new : Seen) (over : Bool) (b c : Contents) (address : Option ℕ) → address ≡ address_of old.state.focus
-    → ((o u : Outer) → u ≡ o → Exchanged code old new o u end) → ((notes : Option Bytes) (line : Bytes) → noted end notes line ≡ appended notes line) → IfOk result (λ given. given ≡ end)
+    → ((o u : Outer) → u ≡ o → Exchanged code old new o u end) → (end ≡ None → IsFurther old new) → ((notes : Option Bytes) (line : Bytes) → noted end notes line ≡ appended notes line) → IfOk result (λ given. given ≡ end)
     → OnOk result (c ≡ record b { notes = appended b.notes (step_text code names address ++ 10 ∷ []) }) → IfOk result (Turned code names old new over over b c)
-turned_told (Err stop) end code names old new over b c address is exchange lines given told = tt
-turned_told (Ok x) end code names old new over b c address is exchange lines given told =
+turned_told (Err stop) end code names old new over b c address is exchange further lines given told = tt
+turned_told (Ok x) end code names old new over b c address is exchange further lines given told =
     let P : Option Ending → Type 0 = λ e. Turned code names old new over over b c e in
     subst P (sym given) (record {
       exchange = exchange (outer_of over b) (outer_of over c) (ap (λ y. outer_of over y) told);
+      further = further;
       files = ap (λ (y : Contents). y.files) told;
       notes = ap (λ (y : Contents). y.notes) told ∙ ap (λ l. appended b.notes l) (line_is code names old address is) ∙ sym (lines b.notes (step_line code names old.state));
     })
@@ -167,7 +170,8 @@ turned_put (Ok x) code names old new over b c address kind v is wrote_it given t
     let P : Option Ending → Type 0 = λ e. Turned code names old new over over b c e in
     let output : c.output ≡ appended b.output wrote_it.text = ap (λ (y : Contents). y.output) told ∙ ap (λ t. appended b.output t) (text_is kind v wrote_it.text wrote_it.text_is) in
     subst P (sym given) (record {
-      exchange = wrote wrote_it.text wrote_it.went (ap (λ (y : Contents). y.input) told) refl output;
+      exchange = wrote wrote_it.text (put_by code old new wrote_it.text wrote_it.went) (ap (λ (y : Contents). y.input) told) refl output;
+      further = λ _. went_further _ _ old new wrote_it.went;
       files = ap (λ (y : Contents). y.files) told;
       notes = ap (λ (y : Contents). y.notes) told ∙ ap (λ l. appended b.notes l) (line_is code names old address is);
     })
@@ -177,7 +181,8 @@ pub turned_take : (byte : Option ℕ) (code : PeCode) (names : List Bytes) (old 
     → new ≡ went_on_with byte mid → Drew b.input c.input over over' (option_to_list byte) → over' ≡ is_none byte → c ≡ record b { input = c.input; notes = appended b.notes (step_text code names address ++ 10 ∷ []) }
     → Turned code names old new over over' b c None
 turned_take byte code names old mid new over over' b c address is waits next drew none told = record {
-  exchange = took byte mid waits next drew none (ap (λ (y : Contents). y.output) told);
+  exchange = took byte (given mid.state) (waits_by code old mid waits) (ap (λ (y : Seen). y.state) next) drew none (ap (λ (y : Contents). y.output) told);
+  further = λ _. took_further byte _ old mid new waits next;
   files = ap (λ (y : Contents). y.files) told;
   notes = ap (λ (y : Contents). y.notes) told ∙ ap (λ l. appended b.notes l) (line_is code names old address is);
 }
@@ -185,46 +190,46 @@ turned_take byte code names old mid new over over' b c address is waits next dre
 -- no step was made
 pub turned_none : (end : Ending) (code : PeCode) (names : List Bytes) (old new : Seen) (over : Bool) (b : Contents) → ((o u : Outer) → u ≡ o → Exchanged code old new o u (Some end)) → noted (Some end) b.notes (step_line code names old.state) ≡ b.notes
     → Turned code names old new over over b b (Some end)
-turned_none end code names old new over b exchange none = record { exchange = exchange (outer_of over b) (outer_of over b) refl; files = refl; notes = sym none }
+turned_none end code names old new over b exchange none = record { exchange = exchange (outer_of over b) (outer_of over b) refl; further = λ clash. cc; files = refl; notes = sym none }
 
 pub went_so : (code : PeCode) (old new : Seen) → WentOn (pe_step code old.state) (goes new.state) old new → (o u : Outer) → u ≡ o → Exchanged code old new o u None
-went_so code old new on o u same = went on same
+went_so code old new on o u same = went (went_by code old new on) same
 
 pub faulted_so : (code : PeCode) (old new : Seen) (kind : FaultKind) (at : Place) → Halts (pe_step code old.state) (faults kind at) old new → (o u : Outer) → u ≡ o → Exchanged code old new o u (Some (ends.Fault kind at))
-faulted_so code old new kind at halts o u same = faulted kind at halts same
+faulted_so code old new kind at halts o u same = stopped (standing.faulted kind at) old.state (halts_by code (faults kind at) old new refl halts) same
 
 pub stuck_so : (code : PeCode) (old new : Seen) → Halts (pe_step code old.state) sticks old new → (o u : Outer) → u ≡ o → Exchanged code old new o u (Some ends.Stuck)
-stuck_so code old new halts o u same = stuck_at halts same
+stuck_so code old new halts o u same = stopped standing.stuck old.state (halts_by code sticks old new refl halts) same
 
 pub lost_so : (code : PeCode) (old new : Seen) → Halts (pe_step code old.state) loses old new → (o u : Outer) → u ≡ o → Exchanged code old new o u (Some ends.Gone)
-lost_so code old new halts o u same = lost halts same
+lost_so code old new halts o u same = stopped standing.gone old.state (halts_by code loses old new refl halts) same
 
 pub over_so : (code : PeCode) (old new : Seen) → WasOver old new → (o u : Outer) → u ≡ o → Exchanged code old new o u (Some ends.Ended)
-over_so code old new over o u same = was_over over same
+over_so code old new over o u same = was_over standing.ended over.over same
 
 pub refused_so : (code : PeCode) (old new : Seen) → Refused (pe_step code old.state) old new → (o u : Outer) → u ≡ o → Exchanged code old new o u (Some ends.Exhausted)
-refused_so code old new big o u same = refused big same
+refused_so code old new big o u same = refused_by big.going big.passes same
 
 -- ---- steps that were stopped
 
 -- a step that is one of the run, whatever was put of it
-abbrev IsMade : PeCode → Seen → Type 0
-IsMade code old = (standing_of old.state ≡ going) × (load_after (pe_step code old.state) ≤ old.limit)
+abbrev IsBegun : PeCode → Seen → Type 0
+IsBegun code old = (standing_of old.state ≡ going) × (load_after (pe_step code old.state) ≤ old.limit)
 
-pub went_made : (code : PeCode) (old new : Seen) → WentOn (pe_step code old.state) (goes new.state) old new → IsMade code old
-went_made code old new on = (on.going, load_went code old (goes new.state) new.state on.move_is refl on.within)
+pub went_made : (code : PeCode) (old new : Seen) → WentOn (pe_step code old.state) (goes new.state) old new → IsBegun code old
+went_made code old new on = let made = went_by code old new on in (made.going, made.inside)
 
-pub wrote_made : (code : PeCode) (old new : Seen) (kind : PutKind) (v : Datum) → Wrote kind v (pe_step code old.state) old new → IsMade code old
-wrote_made code old new kind v w = (w.went.going, load_went code old (puts w.text new.state) new.state w.went.move_is refl w.went.within)
+pub wrote_made : (code : PeCode) (old new : Seen) (kind : PutKind) (v : Datum) → Wrote kind v (pe_step code old.state) old new → IsBegun code old
+wrote_made code old new kind v w = let made = put_by code old new w.text w.went in (made.going, made.inside)
 
-pub waits_made : (code : PeCode) (old new : Seen) → Waits (pe_step code old.state) old new → IsMade code old
-waits_made code old new waits = (waits.going, load_waits code old new waits)
+pub waits_made : (code : PeCode) (old new : Seen) → Waits (pe_step code old.state) old new → IsBegun code old
+waits_made code old new waits = let made = waits_by code old new waits in (made.going, made.inside)
 
-pub halts_made : (code : PeCode) (old new : Seen) (m : PeMove) → load_after m ≡ 0 → Halts (pe_step code old.state) m old new → IsMade code old
-halts_made code old new m none halts = (halts.going, load_halts code old m halts.move_is none)
+pub halts_made : (code : PeCode) (old new : Seen) (m : PeMove) → load_after m ≡ 0 → Halts (pe_step code old.state) m old new → IsBegun code old
+halts_made code old new m none halts = let made = halts_by code m old new none halts in (made.going, made.inside)
 
 -- the line was stopped, or the text behind it
-stopped_at : (code : PeCode) (names : List Bytes) (old : Seen) (b c : Contents) (stop : Stop) (address : Option ℕ) (text : Bytes) → address ≡ address_of old.state.focus → IsMade code old → text ≡ text_put (pe_step code old.state)
+stopped_at : (code : PeCode) (names : List Bytes) (old : Seen) (b c : Contents) (stop : Stop) (address : Option ℕ) (text : Bytes) → address ≡ address_of old.state.focus → IsBegun code old → text ≡ text_put (pe_step code old.state)
     → StepPart (step_text code names address ++ 10 ∷ []) text b c stop → (stop ≡ Input → (go : Option ℕ → PeState) × (pe_step code old.state ≡ takes go))
     → (stop ≡ Output → (put : Bytes) × (next : PeState) × (pe_step code old.state ≡ puts put next)) → TurnStopped code names old b c stop
 stopped_at code names old b c stop address text is made text_is part asks put =
@@ -232,7 +237,7 @@ stopped_at code names old b c stop address text is made text_is part asks put =
     let Q : Bytes → Type 0 = λ t. StepPart (step_text code names address ++ 10 ∷ []) t b c stop in
     record { going = made.0; inside = made.1; part = subst P (line_is code names old address is) (subst Q text_is part); asks = asks; puts = put }
 
-pub stopped_told : (result : Result (Option Ending) Stop) (code : PeCode) (names : List Bytes) (old : Seen) (b c : Contents) (address : Option ℕ) → address ≡ address_of old.state.focus → IsMade code old → IfErr result (StepPart (step_text code names address ++ 10 ∷ []) [] b c)
+pub stopped_told : (result : Result (Option Ending) Stop) (code : PeCode) (names : List Bytes) (old : Seen) (b c : Contents) (address : Option ℕ) → address ≡ address_of old.state.focus → IsBegun code old → IfErr result (StepPart (step_text code names address ++ 10 ∷ []) [] b c)
     → IfErr result (λ stop. stop ≢ Input) → IfErr result (λ stop. stop ≢ Output) → IfErr result (TurnStopped code names old b c)
 stopped_told (Ok x) code names old b c address is made part other unput = tt
 stopped_told (Err stop) code names old b c address is made part other unput =

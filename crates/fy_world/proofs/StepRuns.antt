@@ -10,12 +10,19 @@ use Rattle.std.specs.declared.result.Result.TheVariants.{Ok, Err}
 use Rattle.fy_base.specs.Outside.{Bytes, appended, Gained, GainedPart}
 use Rattle.fy_base.specs.declared.data.Ending.{Ending}
 use Rattle.fy_base.specs.declared.data.Ending.TheVariants as ends
+use Rattle.fy_runs.specs.Exchange.{Exchange}
+use Rattle.fy_runs.proofs.Outer.{part_longer}
+use Rattle.fy_runs.proofs.Runs.{outputs_grow}
+use Rattle.fy_runs.proofs.Reached.{below_next, inside_next}
+use Rattle.fy_runs.proofs.Closes as runs_close
+use Rattle.fy_runs.proofs.Closes.{begun_at}
 use Rattle.pe_code.specs.declared.code.PeCode.{PeCode}
 use Rattle.pe_machine.specs.States.{PeState}
 use Rattle.pe_machine.specs.Step.{takes, puts, pe_step}
-use Rattle.pe_machine.specs.Run.{Standing, going, ended, faulted, stuck, gone, pe_after, load_after}
+use Rattle.pe_machine.specs.Run.{Standing, going, ended, faulted, stuck, gone, pe_start, code_machine, start_run, pe_after, load_after}
 use Rattle.pe_machine.specs.Seen.{Seen, address_of}
-use Rattle.pe_machine.specs.Ends.{IsGoingBelow, IsWithin, EndsSo, PutsAt}
+use Rattle.pe_machine.specs.declared.events.Phase.TheVariants as phase
+use Rattle.pe_machine.specs.Ends.{word_machine, close_of, count_of, IsGoingBelow, IsWithin, EndsSo, PutsAt}
 use Rattle.fy_world.specs.World.{Contents}
 use Rattle.fy_world.specs.Note.{texts, ended_lines}
 use Rattle.fy_world.specs.Steps.{Stepping, StepEnd, ending_of_steps, step_status, step_note, IsSteppedRun, line_after, step_text, step_lines, step_words}
@@ -31,19 +38,36 @@ use Rattle.fy_world.proofs.Contents.{appended-appended, appended-nil, all_gained
 use Rattle.fy_world.proofs.Keeping.{none_gained}
 use Rattle.fy_world.proofs.Lines.{ended-append, some_before, some_behind, some_texts}
 use Rattle.fy_world.proofs.Tracing.{told_part_more}
-use Rattle.fy_world.proofs.Stepwise.{Reached, RunsOn, lines_with, lines_at, reached_start, reached_next, runs_end, runs_out, stops_in, begins_in, asks_in, puts_in, untaken_in, outputs_grow, lines_grow, lines_next, part_longer, below_next, inside_next}
+use Rattle.fy_world.proofs.Stepwise.{Reached, RunsOn, lines_with, lines_at, reached_start, reached_next, runs_end, runs_out, step_taken, step_put, lines_in, begins_in, asks_in, puts_in, untaken_in, lines_grow, lines_next}
 
 -- ---- the steps so far
 
 -- a run goes on after n steps, whose lines were told
 pub record Told (code : PeCode) (names : List Bytes) (n : ℕ) (s : Seen) (first : Contents) (over : Bool) (now : Contents) : Type 0 where
   pub lines : List Bytes
-  pub reached : Reached code names n s lines (outer_of false first) (outer_of over now)
+  pub steps_are : s.steps ≡ n
+  pub phase_is : s.phase ≡ phase.Going
+  pub limit_is : s.limit ≡ step_words
+  pub reached : Reached code names n s.state lines (outer_of false first) (outer_of over now)
   pub files : now.files ≡ first.files
   pub notes : now.notes ≡ appended first.notes (ended_lines lines)
 
 pub told_start : (code : PeCode) (names : List Bytes) (s : Seen) (first : Contents) → s ≡ begun → Told code names 0 s first false first
-told_start code names s first is = record { lines = []; reached = reached_start code names s (outer_of false first) is refl; files = refl; notes = sym (appended-nil first.notes) }
+told_start code names s first is = record {
+  lines = [];
+  steps_are = ap (λ x. x.steps) is;
+  phase_is = ap (λ x. x.phase) is;
+  limit_is = ap (λ x. x.limit) is;
+  reached = subst (λ t. Reached code names 0 t [] (outer_of false first) (outer_of false first)) (sym (ap (λ (x : Seen). x.state) is)) (reached_start code names (outer_of false first) refl);
+  files = refl;
+  notes = sym (appended-nil first.notes);
+}
+
+-- the step is one of the machine with the words of such runs
+in_words : (end : Option Ending) (code : PeCode) (names : List Bytes) (n : ℕ) (s t : Seen) (first : Contents) (over over' : Bool) (now next : Contents) → Told code names n s first over now → Turned code names s t over over' now next end
+    → Exchange (word_machine code step_words) s.state t.state (outer_of over now) (outer_of over' next) (count_of end) (option_map close_of end)
+in_words end code names n s t first over over' now next told turned =
+    subst (λ words. Exchange (word_machine code words) s.state t.state (outer_of over now) (outer_of over' next) (count_of end) (option_map close_of end)) told.limit_is turned.exchange
 
 pub few_steps : (made k : ℕ) → made ≡ k → k ≤ 1000000 → made < 2 ^ 48
 few_steps made k is le = omega arith
@@ -57,7 +81,10 @@ pub told_next : (code : PeCode) (names : List Bytes) (n : ℕ) (s t : Seen) (fir
     → Told code names (n + 1) t first over' next
 told_next code names n s t first over over' now next told turned = record {
   lines = lines_with code names s.state told.lines;
-  reached = reached_next code names n s t told.lines (outer_of false first) (outer_of over now) (outer_of over' next) told.reached turned.exchange;
+  steps_are = (turned.further refl).steps ∙ ap (λ k. k + 1) told.steps_are;
+  phase_is = (turned.further refl).phase told.phase_is;
+  limit_is = (turned.further refl).limit ∙ told.limit_is;
+  reached = reached_next code names n s.state t.state told.lines (outer_of false first) (outer_of over now) (outer_of over' next) told.reached (in_words None code names n s t first over over' now next told turned);
   files = turned.files ∙ told.files;
   notes = line_behind first.notes now.notes next.notes told.lines (step_text code names (address_of s.state.focus)) told.notes turned.notes;
 }
@@ -80,25 +107,27 @@ end_noted (ends.Trap kind) code names s lines first held now so_far is = line_be
 
 has_ended : (code : PeCode) (names : List Bytes) (limit : ℕ) (end : Ending) (lines : List Bytes) (first now : Contents) → IsStepEnd end → RunsOn code names limit end lines first.input now.input first.output now.output → now.files ≡ first.files
     → now.notes ≡ appended first.notes (ended_lines lines) → HasEnded code names limit first now end
-has_ended code names limit end lines first now kind on files notes = record {
-  input = on.fed;
-  fed = on.told;
-  n = on.made;
-  few = on.few;
-  ends = on.ends;
-  inside = on.inside;
-  kind = kind;
-  files = files;
-  rest = on.rest;
-  output = on.output;
-  notes = notes ∙ ap (λ ls. appended first.notes (ended_lines ls)) (sym on.lines_are);
-}
+has_ended code names limit end lines first now kind on files notes =
+    let run = on.run in
+    record {
+      input = run.fed;
+      fed = run.told;
+      n = on.made;
+      few = on.few;
+      ends = run.end;
+      inside = run.held;
+      kind = kind;
+      files = files;
+      rest = run.rest ∙ ap (λ k. option_map (λ _. (pe_after code run.fed k).input) first.input) (step_taken end on.made kind);
+      output = step_put end first.output now.output _ kind run.output;
+      notes = notes ∙ ap (λ ls. appended first.notes (ended_lines ls)) (sym run.also);
+    }
 
 pub told_end : (end : Ending) (code : PeCode) (names : List Bytes) (n limit : ℕ) (s t : Seen) (first : Contents) (over over' : Bool) (now next : Contents) → IsStepEnd end → n < limit → Told code names n s first over now
     → Turned code names s t over over' now next (Some end) → HasEnded code names limit first next end
 told_end end code names n limit s t first over over' now next kind lt told turned =
     has_ended code names limit end (lines_at end code names s.state told.lines) first next kind
-    (runs_end end code names n limit s t told.lines (outer_of false first) (outer_of over now) (outer_of over' next) kind lt told.reached turned.exchange) (turned.files ∙ told.files)
+    (runs_end end code names n limit s.state t.state told.lines (outer_of false first) (outer_of over now) (outer_of over' next) lt told.reached (in_words (Some end) code names n s t first over over' now next told turned)) (turned.files ∙ told.files)
     (end_noted end code names s.state told.lines first.notes now.notes next.notes told.notes turned.notes)
 
 last_kind : (end : Ending) (s : PeState) → IsLastEnd end s → IsStepEnd end
@@ -115,7 +144,7 @@ last_kind (ends.Trap kind) s is = is
 
 pub told_out : (end : Ending) (code : PeCode) (names : List Bytes) (n limit : ℕ) (s : Seen) (first : Contents) (over : Bool) (now : Contents) → n ≡ limit → Told code names n s first over now → IsLastEnd end s.state → HasEnded code names limit first now end
 told_out end code names n limit s first over now same told is =
-    has_ended code names limit end told.lines first now (last_kind end s.state is) (runs_out code names n limit end s told.lines (outer_of false first) (outer_of over now) same told.reached is) told.files told.notes
+    has_ended code names limit end told.lines first now (last_kind end s.state is) (runs_out code names n limit end s.state told.lines (outer_of false first) (outer_of over now) same told.reached is) told.files told.notes
 
 -- ---- a step was stopped
 
@@ -151,7 +180,10 @@ read_puts_none code s now next part go asks = none_gained now next (subst (λ m.
 pub told_stop : (stop : Stop) (code : PeCode) (names : List Bytes) (n limit : ℕ) (s : Seen) (first : Contents) (over : Bool) (now next : Contents) → n < limit → Told code names n s first over now → TurnStopped code names s now next stop
     → HasStopped code names limit first next stop
 told_stop stop code names n limit s first over now next lt told stopped =
-    let stops = stops_in code names n s told.lines (outer_of false first) (outer_of over now) told.reached stopped.going stopped.inside in
+    let lines = told.lines in
+    let inside = subst (λ words. load_after (pe_step code s.state) ≤ words) told.limit_is stopped.inside in
+    let stops = begun_at (word_machine code step_words) pe_start n (λ fed. step_lines code names fed n ≡ lines) s.state (outer_of false first) (outer_of over now) told.reached stopped.going inside in
+    let lines_are = lines_in code names s.state lines n first.input now.input first.output now.output stops in
     let p = stopped.part in
     record {
       input = stops.fed;
@@ -165,10 +197,10 @@ told_stop stop code names n limit s first over now next lt told stopped =
       part = p.output.part;
       output = gained_both first.output now.output next.output _ p.output.part stops.output p.output.gained;
       begins = begins_in code names s.state told.lines n first.input now.input first.output now.output next.output stops p.output;
-      told = told_part told.lines _ (step_text code names (address_of s.state.focus)) first.notes now.notes next.notes stop stops.lines_are told.notes p.notes p.whole;
+      told = told_part told.lines (step_lines code names stops.fed (n + 1)) (step_text code names (address_of s.state.focus)) first.notes now.notes next.notes stop lines_are told.notes p.notes p.whole;
       first = λ notes memory.
           line_behind first.notes now.notes next.notes told.lines (step_text code names (address_of s.state.focus)) told.notes (p.first notes memory)
-          ∙ ap (λ ls. appended first.notes (ended_lines ls)) (sym stops.lines_are);
+          ∙ ap (λ ls. appended first.notes (ended_lines ls)) (sym lines_are);
       asks = λ input. let a = stopped.asks input in asks_in code names s.state told.lines n first.input now.input first.output now.output stops a.0 a.1;
       unput = λ input. let a = stopped.asks input in read_puts_none code s.state now.output next.output p.output a.0 a.1 ∙ stops.output;
       puts = λ output. let a = stopped.puts output in puts_in code names s.state told.lines n first.input now.input first.output now.output stops a.0 a.1 a.2;
@@ -215,9 +247,9 @@ whole_from stepping (suc k) n safe sum below inside =
         m = n;
         end = step_ends.exhausted;
         more = omega arith;
-        is_run = record { ends = record { fewer = omega arith; going = record { below = below; here = here }; passes = passes }; inside = inside; within = omega arith };
+        is_run = record { ends = record { fewer = omega arith; going = record { below = below; here = here }; big = passes }; inside = inside; within = omega arith };
       }
-      | inr le ↦ further stepping n (whole_from stepping k (n + 1) safe (omega arith) (below_next code fed n below here) (inside_next code fed n inside le))
+      | inr le ↦ further stepping n (whole_from stepping k (n + 1) safe (omega arith) (below_next (code_machine code) (start_run fed) n below here) (inside_next (word_machine code step_words) (start_run fed) n inside le))
     ])
 
 whole : (stepping : Stepping) (n : ℕ) → IsNeverLost stepping.code → n ≤ stepping.limit → IsGoingBelow stepping.code stepping.input n → IsWithin stepping.code stepping.input step_words n → Whole stepping n
@@ -251,24 +283,11 @@ due_some stepping n m end le =
 -- all that was put before the step that was stopped, and so before each that reads
 since_read : (code : PeCode) (names : List Bytes) (limit : ℕ) (b c : Contents) (stop : Stop) (h : HasStopped code names limit b c stop) → PutsAt code h.input (h.n + 1)
     → GainedSinceRead (of_code (stepping_by code names limit h.input)) (h.n + 1) b.output c.output
-since_read code names limit b c stop h at = record {
-  part = (pe_after code h.input h.n).output ++ h.part;
-  gained = h.output;
-  begins = h.begins;
-  reads = λ k few reads. elim (cases_lt k (h.n + 1)) [
-    | inl less ↦ (
-        let grows = outputs_grow code h.input k h.n (omega arith) in
-        record {
-          rest = grows.rest ++ h.part;
-          is = ap (λ b. b ++ h.part) grows.is ∙ append_assoc (pe_after code h.input k).output grows.rest h.part;
-        }
-        )
-    | inr more ↦ (
-        let same : k - 1 ≡ (h.n + 1) - 1 = omega arith in
-        absurd (let clash : puts at.text at.then_state ≡ takes reads.0.go = sym at.puts ∙ ap (λ j. pe_step code (pe_after code h.input j).state) (sym same) ∙ reads.0.asks in cc)
-        )
-  ];
-}
+since_read code names limit b c stop h at =
+    let before : (h.n + 1) - 1 ≡ h.n = omega arith in
+    let step = ap (λ k. (code_machine code).step (pe_after code h.input k).state) (sym before) ∙ at.puts in
+    let since = runs_close.since_read (code_machine code) (start_run h.input) h.n at.text at.then_state h.part b.output c.output step h.output h.begins in
+    record { part = since.part; gained = since.gained; begins = since.begins; reads = λ k few reads. since.reads k few reads.0 }
 
 -- the run was stopped
 pub stepped_part : (code : PeCode) (names : List Bytes) (limit : ℕ) (b c : Contents) (stop : Stop) → IsNeverLost code → HasStopped code names limit b c stop → HasStepped code names limit b c (Err stop)
@@ -288,7 +307,7 @@ stepped_part code names limit b c stop safe h =
         files = h.files;
         input = record { steps = h.n; within = let lt = h.few in omega arith; rest = h.rest };
         output = part_longer b.output c.output (pe_after code h.input (h.n + 1)).output (pe_after code h.input w.m).output
-            (record { part = (pe_after code h.input h.n).output ++ h.part; gained = h.output; begins = h.begins }) (outputs_grow code h.input (h.n + 1) w.m w.more);
+            (record { part = (pe_after code h.input h.n).output ++ h.part; gained = h.output; begins = h.begins }) (outputs_grow (code_machine code) (start_run h.input) (h.n + 1) w.m w.more);
         notes = told.part;
         unchanged = λ _. h.files;
         whole = told.whole;

@@ -1,23 +1,22 @@
 -- What the parts of `trace` did.
-use Rattle.std.specs.Prelude.{◌≡◌, ◌≢◌, ◌⊎◌, ℕ, ◌+◌, ◌<◌, ◌≤◌, Bool, List, [], ◌∷◌, ◌++◌, Some, None, is_none, unwrap_or}
-use Rattle.std.specs.Option.{option_map, option_to_list, ForSome}
+use Rattle.std.specs.Prelude.{◌≡◌, ◌≢◌, ◌⊎◌, ℕ, ◌+◌, ◌<◌, ◌≤◌, Bool, List, [], ◌∷◌, ◌++◌, Some, None, unwrap_or}
+use Rattle.std.specs.Option.{option_map, ForSome}
 use Rattle.std.specs.declared.option.Option.{Option}
 use Rattle.std.specs.declared.result.Result.{Result}
 use Rattle.fy_base.specs.Arithmetic.{written_text}
-use Rattle.fy_base.specs.Outside.{Bytes, Drew, Gained, GainedPart, IsPrefix, appended}
+use Rattle.fy_base.specs.Outside.{Bytes, Gained, GainedPart, IsPrefix, appended}
 use Rattle.fy_base.specs.declared.data.Datum.{Datum}
-use Rattle.fy_base.specs.declared.data.FaultKind.{FaultKind}
-use Rattle.fy_base.specs.declared.data.Place.{Place}
 use Rattle.fy_base.specs.declared.data.PutKind.{PutKind}
 use Rattle.fy_base.specs.declared.data.Ending.{Ending}
 use Rattle.fy_base.specs.declared.data.Ending.TheVariants as ends
+use Rattle.fy_runs.specs.Exchange.{Outer, Exchange}
 use Rattle.pe_code.specs.declared.code.PeCode.{PeCode}
 use Rattle.pe_machine.specs.States.{PeState}
 use Rattle.pe_machine.specs.Step.{PeMove, goes, puts, takes, faults, sticks, loses, pe_step}
 use Rattle.pe_machine.specs.Run.{going, ended, stuck, gone, standing_of, load_after, pe_start, pe_after}
-use Rattle.pe_machine.specs.Seen.{Seen, WentOn, Waits, Halts, Refused, WasOver, address_of, went_on_with}
+use Rattle.pe_machine.specs.Seen.{Seen, IsFurther, address_of}
 use Rattle.pe_machine.specs.declared.events.Phase.TheVariants as phase
-use Rattle.pe_machine.specs.Ends.{IsGoingBelow, IsWithin, EndsSo, AsksAt, PutsAt}
+use Rattle.pe_machine.specs.Ends.{word_machine, close_of, count_of, IsGoingBelow, IsWithin, EndsSo, AsksAt, PutsAt}
 use Rattle.fy_world.specs.World.{Contents}
 use Rattle.fy_world.specs.Steps.{StepEnd, IsSteppedRun, step_text, step_lines, step_words}
 use Rattle.fy_world.specs.Note.{ended_lines}
@@ -64,23 +63,9 @@ IsLastEnd _ s = ⊥
 abbrev pub begun : Seen
 begun = record { state = pe_start; steps = 0; phase = phase.Going; limit = step_words }
 
--- what is left at the input, whether it was at its end once, and what the output holds
-pub record Outer : Type 0 where
-  pub left : Option Bytes
-  pub over : Bool
-  pub held : Option Bytes
-
 -- a step with its input and output: how the run ended by it, or `None` where it goes on
-pub data Exchanged (code : PeCode) (old new : Seen) (o u : Outer) : Option Ending → Type 0 where
-  went : WentOn (pe_step code old.state) (goes new.state) old new → u ≡ o → Exchanged code old new o u None
-  wrote : (text : Bytes) → WentOn (pe_step code old.state) (puts text new.state) old new → u.left ≡ o.left → u.over ≡ o.over → Gained o.held u.held text → Exchanged code old new o u None
-  took : (byte : Option ℕ) (mid : Seen) → Waits (pe_step code old.state) old mid → new ≡ went_on_with byte mid → Drew o.left u.left o.over u.over (option_to_list byte) → u.over ≡ is_none byte → u.held ≡ o.held
-      → Exchanged code old new o u None
-  was_over : WasOver old new → u ≡ o → Exchanged code old new o u (Some ends.Ended)
-  faulted : (kind : FaultKind) (at : Place) → Halts (pe_step code old.state) (faults kind at) old new → u ≡ o → Exchanged code old new o u (Some (ends.Fault kind at))
-  stuck_at : Halts (pe_step code old.state) sticks old new → u ≡ o → Exchanged code old new o u (Some ends.Stuck)
-  lost : Halts (pe_step code old.state) loses old new → u ≡ o → Exchanged code old new o u (Some ends.Gone)
-  refused : Refused (pe_step code old.state) old new → u ≡ o → Exchanged code old new o u (Some ends.Exhausted)
+abbrev pub Exchanged : PeCode → Seen → Seen → Outer → Outer → Option Ending → Type 0
+Exchanged code old new o u end = Exchange (word_machine code old.limit) old.state new.state o u (count_of end) (option_map close_of end)
 
 abbrev pub outer_of : Bool → Contents → Outer
 outer_of over c = record { left = c.input; over = over; held = c.output }
@@ -94,6 +79,7 @@ noted _ notes line = appended notes line
 -- a step was made, or the run was over
 pub record Turned (code : PeCode) (names : List Bytes) (old new : Seen) (over over' : Bool) (before now : Contents) (end : Option Ending) : Type 0 where
   pub exchange : Exchanged code old new (outer_of over before) (outer_of over' now) end
+  pub further : end ≡ None → IsFurther old new
   pub files : now.files ≡ before.files
   pub notes : now.notes ≡ noted end before.notes (step_line code names old.state)
 

@@ -1,21 +1,16 @@
 -- Runs of items alone: their states are linked, and none is gone.
-use Rattle.std.proofs.Common.{ℕ, zero, suc, ◌≢◌, slice_get, refl, sym, subst, inl, nat_eq}
+use Rattle.std.proofs.Common.{ℕ, ◌≢◌, slice_get, refl, inl, nat_eq}
 use Rattle.std.proofs.lemmas.Bool.{cond_both}
+use Rattle.fy_runs.proofs.Runs.{along}
 use Rattle.pe_code.specs.declared.code.PeCode.{PeCode}
 use Rattle.pe_machine.specs.States.{Focus, code_at, value, completed}
 use Rattle.pe_machine.specs.Run.{Standing, going, ended, faulted, stuck, gone}
 use Rattle.pe_items.specs.Items.{ItemState}
 use Rattle.pe_items.specs.Step.{ItemMove, goes, puts, takes, faults, sticks, item_step}
-use Rattle.pe_items.specs.Run.{standing_at, ItemRun, settled, ticked, tick, after_more, start_run}
+use Rattle.pe_items.specs.Run.{standing_at, ItemRun, item_machine, settled, ticked, start_run}
 use Rattle.pe_items.specs.Links.{IsLinked}
 use Rattle.pe_items.specs.Laws.{NoRunIsGone, ItemsStayLinked}
-use Rattle.pe_items.proofs.RunSteps.{items_zero, items_suc}
 use Rattle.pe_items.proofs.LinkSteps.{IsMoveLinked, step-linked}
-
--- what holds of a run at its start and stays at each step holds after any number of them
-along : (P : ItemRun → Type 0) (code : PeCode) → ((r : ItemRun) → P r → P (tick code r)) → (n : ℕ) (r : ItemRun) → P r → P (after_more code n r)
-along P code more zero r h = subst P (sym (items_zero code r)) h
-along P code more (suc n) r h = subst P (sym (items_suc code n r)) (more (after_more code n r) (along P code more n r h))
 
 -- ---- links
 
@@ -35,7 +30,7 @@ ticked-linked code gone r l = l
 
 pub stay_linked : ItemsStayLinked
 stay_linked code input n =
-    along (λ (r : ItemRun). IsLinked r.state) code (λ r l. ticked-linked code r.standing r l) n (start_run input) (record { focus = tt; newest = inl refl; items = tt })
+    along (λ (r : ItemRun). IsLinked r.state) (item_machine code) (λ r l. ticked-linked code r.standing r l) n (start_run input) (record { focus = tt; newest = inl refl; items = tt })
 
 -- ---- standings
 
@@ -59,4 +54,4 @@ ticked-present code stuck r h = h
 ticked-present code gone r h = h
 
 pub none_gone : NoRunIsGone
-none_gone code input n = along (λ (r : ItemRun). r.standing ≢ gone) code (λ r h. ticked-present code r.standing r h) n (start_run input) (λ e. cc)
+none_gone code input n = along (λ (r : ItemRun). r.standing ≢ gone) (item_machine code) (λ r h. ticked-present code r.standing r h) n (start_run input) (λ e. cc)

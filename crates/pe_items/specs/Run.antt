@@ -1,9 +1,12 @@
 -- Runs of the machine of items.
-use Rattle.std.specs.Prelude.{ℕ, zero, suc, nat_eq, if◌then◌else◌, [], ◌++◌, drop, slice_get, None}
+use Rattle.std.specs.Prelude.{ℕ, nat_eq, if◌then◌else◌, [], None}
+use Rattle.std.proofs.Common.{refl}
 use Rattle.fy_base.specs.Outside.{Bytes}
+use Rattle.fy_runs.specs.Runs as runs
+use Rattle.fy_runs.specs.Runs.{Move, Machine, Run}
 use Rattle.pe_code.specs.declared.code.PeCode.{PeCode}
 use Rattle.pe_machine.specs.States.{Focus, code_at, value, completed}
-use Rattle.pe_machine.specs.Run.{Standing, going, ended, faulted, stuck, gone}
+use Rattle.pe_machine.specs.Run.{Standing, going, ended, faulted, stuck, goes_on, off_going}
 use Rattle.pe_items.specs.Items.{ItemState}
 use Rattle.pe_items.specs.Step.{ItemMove, goes, puts, takes, faults, sticks, item_step}
 
@@ -20,37 +23,36 @@ standing_at (value v) newest = going
 abbrev pub standing_of : ItemState → Standing
 standing_of s = standing_at s.focus s.newest
 
-pub record ItemRun : Type 0 where
-  pub state : ItemState
-  pub input : Bytes
-  pub output : Bytes
-  pub standing : Standing
+-- a step in the words of all machines: one that ends the run leaves the state
+abbrev pub move_of : ItemState → ItemMove → Move ItemState Standing
+move_of old (goes s) = runs.goes s
+move_of old (puts text s) = runs.puts text s
+move_of old (takes go) = runs.takes go
+move_of old (faults kind at) = runs.stops (faulted kind at) old
+move_of old sticks = runs.stops stuck old
+
+-- a code's machine of items among all machines
+abbrev pub item_machine : PeCode → Machine ItemState Standing
+item_machine code = record { step = λ s. move_of s (item_step code s); standing = standing_of; going = going; goes_on = goes_on; on = refl; off = off_going }
+
+abbrev pub ItemRun : Type 0
+ItemRun = Run ItemState Standing
 
 abbrev pub settled : ItemMove → ItemRun → ItemRun
-settled (goes s) r = record r { state = s; standing = standing_of s }
-settled (puts text s) r = record r { state = s; output = r.output ++ text; standing = standing_of s }
-settled (takes go) r =
-    let s = go (slice_get r.input 0) in record { state = s; input = drop 1 r.input; output = r.output; standing = standing_of s }
-settled (faults kind at) r = record r { standing = faulted kind at }
-settled sticks r = record r { standing = stuck }
+settled m r = runs.settled standing_of (move_of r.state m) r
 
 abbrev pub ticked : PeCode → Standing → ItemRun → ItemRun
-ticked code going r = settled (item_step code r.state) r
-ticked code ended r = r
-ticked code (faulted kind at) r = r
-ticked code stuck r = r
-ticked code gone r = r
+ticked code t r = runs.ticked (item_machine code) t r
 
 abbrev pub tick : PeCode → ItemRun → ItemRun
-tick code r = ticked code r.standing r
+tick code r = runs.tick (item_machine code) r
 
 -- the run after n more steps
-unfoldable pub after_more : PeCode → ℕ → ItemRun → ItemRun
-after_more code zero r = r
-after_more code (suc n) r = tick code (after_more code n r)
+abbrev pub after_more : PeCode → ℕ → ItemRun → ItemRun
+after_more code n r = runs.after (item_machine code) n r
 
 abbrev pub start_run : Bytes → ItemRun
-start_run input = record { state = item_start; input = input; output = []; standing = standing_of item_start }
+start_run input = runs.start_run standing_of item_start input
 
 -- the run of the code on an input after n steps
 abbrev pub items_after : PeCode → Bytes → ℕ → ItemRun

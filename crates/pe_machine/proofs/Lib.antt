@@ -6,4 +6,4 @@ pub mod ContextLemmas
 pub mod PlanLemmas
 pub mod FillingLemmas
 pub mod RunLemmas
-pub mod Reached
+pub mod Ending

@@ -1,105 +1,72 @@
 -- How a run of the machine over a source and a sink ends.
-use Rattle.std.specs.Prelude.{◌≡◌, ℕ, ◌-◌, ◌<◌, ◌≤◌}
-use Rattle.std.specs.Option.{option_map, ForSome}
+use Rattle.std.specs.Prelude.{ℕ, ◌<◌, ◌≤◌, Some}
 use Rattle.std.specs.declared.option.Option.{Option}
-use Rattle.fy_base.specs.Outside.{Bytes, Gained, GainedPart}
+use Rattle.fy_base.specs.Outside.{Bytes}
 use Rattle.fy_base.specs.declared.data.Ending.{Ending}
 use Rattle.fy_base.specs.declared.data.Ending.TheVariants as ends
+use Rattle.fy_runs.specs.Ends as runs
+use Rattle.fy_runs.specs.Ends.{Limited, Close, stands, refused, spent, unread, unwritten, never, Occurs, ClosesSo}
 use Rattle.pe_code.specs.declared.code.PeCode.{PeCode}
 use Rattle.pe_machine.specs.States.{PeState}
-use Rattle.pe_machine.specs.Step.{takes, puts, pe_step}
-use Rattle.pe_machine.specs.Run.{Standing, going, ended, faulted, stuck, gone, pe_after, load_after}
+use Rattle.pe_machine.specs.Step.{pe_step}
+use Rattle.pe_machine.specs.Run.{Standing, ended, faulted, stuck, gone, pe_start, code_machine, start_run, load_after}
+
+-- a code's machine with so many words for its load
+abbrev pub word_machine : PeCode → ℕ → Limited PeState Standing
+word_machine code words = record { machine = code_machine code; IsInside = λ s. load_after (pe_step code s) ≤ words; IsPast = λ s. words < load_after (pe_step code s) }
 
 -- a run goes on after each count of steps below n
 abbrev pub IsGoingBelow : PeCode → Bytes → ℕ → Type 0
-IsGoingBelow code input n = (k : ℕ) → k < n → (pe_after code input k).standing ≡ going
+IsGoingBelow code input n = runs.IsGoingBelow (code_machine code) (start_run input) n
 
 -- none of the first n steps of a run leads to a load that passes the words
 abbrev pub IsWithin : PeCode → Bytes → ℕ → ℕ → Type 0
-IsWithin code input words n = (k : ℕ) → k < n → load_after (pe_step code (pe_after code input k).state) ≤ words
+IsWithin code input words n = runs.IsInsideBelow (word_machine code words) (start_run input) n
 
 -- a run goes on below n steps, and stands so after n
-pub record StandsAt (code : PeCode) (input : Bytes) (n : ℕ) (standing : Standing) : Type 0 where
-  pub below : IsGoingBelow code input n
-  pub here : (pe_after code input n).standing ≡ standing
-
--- a run still goes on after all the steps that were allowed
-pub record IsSpent (code : PeCode) (input : Bytes) (n limit : ℕ) : Type 0 where
-  pub all : n ≡ limit
-  pub going : StandsAt code input n going
-
--- a run goes on after n steps, fewer than were allowed, and its next load would pass the words
-pub record StopsBefore (code : PeCode) (input : Bytes) (words n limit : ℕ) : Type 0 where
-  pub fewer : n < limit
-  pub going : StandsAt code input n going
-  pub passes : words < load_after (pe_step code (pe_after code input n).state)
+abbrev pub StandsAt : PeCode → Bytes → ℕ → Standing → Type 0
+StandsAt code input n standing = runs.StandsAt (code_machine code) (start_run input) n standing
 
 -- a run comes to its step number n, which asks for a byte
-pub record AsksAt (code : PeCode) (input : Bytes) (n : ℕ) : Type 0 where
-  pub some : 0 < n
-  pub below : IsGoingBelow code input n
-  pub go : Option ℕ → PeState
-  pub asks : pe_step code (pe_after code input (n - 1)).state ≡ takes go
+abbrev pub AsksAt : PeCode → Bytes → ℕ → Type 0
+AsksAt code input n = runs.AsksAt (code_machine code) (start_run input) n
 
--- a run comes to its step number n, which puts a text
-pub record PutsAt (code : PeCode) (input : Bytes) (n : ℕ) : Type 0 where
-  pub some : 0 < n
-  pub below : IsGoingBelow code input n
-  pub text : Bytes
-  pub then_state : PeState
-  pub puts : pe_step code (pe_after code input (n - 1)).state ≡ puts text then_state
+-- or puts a text
+abbrev pub PutsAt : PeCode → Bytes → ℕ → Type 0
+PutsAt code input n = runs.PutsAt (code_machine code) (start_run input) n
+
+-- the ends of a run of the machine
+abbrev pub close_of : Ending → Close Standing
+close_of ends.Ended = stands ended
+close_of (ends.Fault kind at) = stands (faulted kind at)
+close_of ends.Stuck = stands stuck
+close_of ends.Gone = stands gone
+close_of ends.Exhausted = refused
+close_of ends.Spent = spent
+close_of ends.InputFault = unread
+close_of ends.OutputFault = unwritten
+close_of ends.TooBig = never
+close_of (ends.Trap kind) = never
+
+abbrev pub IsPeEnd : Ending → Type 0
+IsPeEnd end = Occurs (close_of end)
 
 -- what an end means of the run with so many words, of which n steps out of so many were made
 abbrev pub EndsSo : Ending → PeCode → Bytes → ℕ → ℕ → ℕ → Type 0
-EndsSo ends.Ended code input words n limit = StandsAt code input n ended
-EndsSo (ends.Fault kind at) code input words n limit = StandsAt code input n (faulted kind at)
-EndsSo ends.Stuck code input words n limit = StandsAt code input n stuck
-EndsSo ends.Gone code input words n limit = StandsAt code input n gone
-EndsSo ends.Exhausted code input words n limit = StopsBefore code input words n limit
-EndsSo ends.Spent code input words n limit = IsSpent code input n limit
-EndsSo ends.InputFault code input words n limit = AsksAt code input n
-EndsSo ends.OutputFault code input words n limit = PutsAt code input n
-EndsSo ends.TooBig code input words n limit = ⊥
-EndsSo (ends.Trap kind) code input words n limit = ⊥
+EndsSo end code input words n limit = ClosesSo (word_machine code words) (close_of end) (start_run input) n limit
 
--- of which count of steps the input was taken: a read that failed took none
-abbrev pub taken_after : Ending → ℕ → ℕ
-taken_after ends.InputFault n = n - 1
-taken_after _ n = n
-
--- a sink gained the output; where it failed, a beginning of it
-abbrev pub HasPut : Ending → Option Bytes → Option Bytes → Bytes → Type 0
-HasPut ends.OutputFault before now output = GainedPart before now output
-HasPut _ before now output = Gained before now output
-
--- what a run of at most so many steps with so many words came to, told by an input that explains it, which is what was left
--- at the source where that is told: the number of its steps, its end, before which no load passed the words, what is left
--- then, and what the sink gained, which is a beginning of all that the code puts within the limit
+-- what a run of at most so many steps with so many words came to: the number of its steps, and its end, before which no load passed the words
 pub record RunsTo (code : PeCode) (words limit : ℕ) (end : Ending) (left left_now before now : Option Bytes) : Type 0 where
-  pub fed : Bytes
-  pub told : ForSome left (λ bytes. fed ≡ bytes)
   pub made : ℕ
   pub few : made ≤ limit
-  pub end_is : EndsSo end code fed words made limit
-  pub within : IsWithin code fed words made
-  pub rest : left_now ≡ option_map (λ _. (pe_after code fed (taken_after end made)).input) left
-  pub output : HasPut end before now (pe_after code fed made).output
-  pub part : GainedPart before now (pe_after code fed limit).output
+  pub run : runs.RunsTo (word_machine code words) pe_start limit made (close_of end) (λ fed. Unit {0}) left left_now before now
 
--- what a run took and put that found no memory at some step within the limit: what the steps before that one took and put,
--- none of which led to a load that passes the words
-pub record DoesPart (code : PeCode) (words limit : ℕ) (left left_now before now : Option Bytes) : Type 0 where
-  pub fed : Bytes
-  pub told : ForSome left (λ bytes. fed ≡ bytes)
-  pub made : ℕ
-  pub few : made ≤ limit
-  pub going : IsGoingBelow code fed made
-  pub within : IsWithin code fed words made
-  pub rest : left_now ≡ option_map (λ _. (pe_after code fed made).input) left
-  pub output : Gained before now (pe_after code fed made).output
+-- what a run took and put that found no memory at some step within the limit
+abbrev pub DoesPart : PeCode → ℕ → ℕ → Option Bytes → Option Bytes → Option Bytes → Option Bytes → Type 0
+DoesPart code words limit left left_now before now = runs.DoesPart (word_machine code words) pe_start limit left left_now before now
 
--- the ends that a run of the machine has
-abbrev pub IsPeEnd : Ending → Type 0
-IsPeEnd ends.TooBig = ⊥
-IsPeEnd (ends.Trap kind) = ⊥
-IsPeEnd _ = Unit {0}
+-- by how many steps a run is longer that goes on or ends so
+abbrev pub count_of : Option Ending → ℕ
+count_of (Some ends.Ended) = 0
+count_of (Some ends.Exhausted) = 0
+count_of _ = 1

@@ -7,5 +7,4 @@ pub mod Places
 pub mod Names
 pub mod Turns
 pub mod Seen
-pub mod Exchange
 pub mod Ends

@@ -1,8 +1,11 @@
 -- Runs of the push-enter machine.
-use Rattle.std.specs.Prelude.{ℕ, zero, suc, max, List, [], ◌∷◌, ◌++◌, drop, slice_get, None}
+use Rattle.std.specs.Prelude.{◌≡◌, ◌≢◌, ℕ, Bool, true, false, List, [], ◌∷◌, None}
 use Rattle.fy_base.specs.declared.data.Place.{Place}
 use Rattle.fy_base.specs.declared.data.FaultKind.{FaultKind}
 use Rattle.fy_base.specs.Outside.{Bytes}
+use Rattle.std.proofs.Common.{refl}
+use Rattle.fy_runs.specs.Runs as runs
+use Rattle.fy_runs.specs.Runs.{Move, Machine, Run}
 use Rattle.pe_code.specs.declared.code.PeCode.{PeCode}
 use Rattle.pe_machine.specs.States.{Focus, code_at, value, completed, Held, PeState}
 use Rattle.pe_machine.specs.Step.{PeMove, goes, puts, takes, faults, sticks, loses, pe_step}
@@ -29,50 +32,61 @@ standing_at (value v) cs = going
 abbrev pub standing_of : PeState → Standing
 standing_of s = standing_at s.focus s.contexts
 
+-- the test of a run that goes on
+abbrev pub goes_on : Standing → Bool
+goes_on going = true
+goes_on _ = false
+
+pub off_going : (t : Standing) → t ≢ going → goes_on t ≡ false
+off_going going other = absurd (other refl)
+off_going _ other = refl
+
+-- a step in the words of all machines: one that ends the run leaves the state
+abbrev pub move_of : PeState → PeMove → Move PeState Standing
+move_of old (goes s) = runs.goes s
+move_of old (puts text s) = runs.puts text s
+move_of old (takes go) = runs.takes go
+move_of old (faults kind at) = runs.stops (faulted kind at) old
+move_of old sticks = runs.stops stuck old
+move_of old loses = runs.stops gone old
+
+-- a code's machine among all machines
+abbrev pub code_machine : PeCode → Machine PeState Standing
+code_machine code = record { step = λ s. move_of s (pe_step code s); standing = standing_of; going = going; goes_on = goes_on; on = refl; off = off_going }
+
 -- a run: the state, the rest of the input, the output so far, and how it stands
-pub record PeRun : Type 0 where
-  pub state : PeState
-  pub input : Bytes
-  pub output : Bytes
-  pub standing : Standing
+abbrev pub PeRun : Type 0
+PeRun = Run PeState Standing
 
 -- what a step leads to, on the input that is left
 abbrev pub settled : PeMove → PeRun → PeRun
-settled (goes s) r = record r { state = s; standing = standing_of s }
-settled (puts text s) r = record r { state = s; output = r.output ++ text; standing = standing_of s }
-settled (takes go) r =
-    let s = go (slice_get r.input 0) in record { state = s; input = drop 1 r.input; output = r.output; standing = standing_of s }
-settled (faults kind at) r = record r { standing = faulted kind at }
-settled sticks r = record r { standing = stuck }
-settled loses r = record r { standing = gone }
+settled m r = runs.settled standing_of (move_of r.state m) r
 
 -- one more step of a run that is going; another stays
 abbrev pub ticked : PeCode → Standing → PeRun → PeRun
-ticked code going r = settled (pe_step code r.state) r
-ticked code ended r = r
-ticked code (faulted kind at) r = r
-ticked code stuck r = r
-ticked code gone r = r
+ticked code t r = runs.ticked (code_machine code) t r
 
 abbrev pub tick : PeCode → PeRun → PeRun
-tick code r = ticked code r.standing r
+tick code r = runs.tick (code_machine code) r
 
 -- the run after n more steps
-unfoldable pub after_more : PeCode → ℕ → PeRun → PeRun
-after_more code zero r = r
-after_more code (suc n) r = tick code (after_more code n r)
+abbrev pub after_more : PeCode → ℕ → PeRun → PeRun
+after_more code n r = runs.after (code_machine code) n r
 
 abbrev pub start_run : Bytes → PeRun
-start_run input = record { state = pe_start; input = input; output = []; standing = standing_of pe_start }
+start_run input = runs.start_run standing_of pe_start input
 
 -- the run of the code on an input after n steps, however large its stack
 abbrev pub pe_after : PeCode → Bytes → ℕ → PeRun
 pe_after code input n = after_more code n (start_run input)
 
+-- the load of a state
+abbrev pub load_of : PeState → ℕ
+load_of s = s.load
+
 -- the greatest load among the states 0 to n
-unfoldable pub pe_peak_load : PeCode → Bytes → ℕ → ℕ
-pe_peak_load code input zero = (pe_after code input zero).state.load
-pe_peak_load code input (suc n) = max (pe_peak_load code input n) (pe_after code input (suc n)).state.load
+abbrev pub pe_peak_load : PeCode → Bytes → ℕ → ℕ
+pe_peak_load code input n = runs.peak load_of (code_machine code) (start_run input) n
 
 -- the load that a step leads to; where it leads to no state, none
 abbrev pub load_after : PeMove → ℕ

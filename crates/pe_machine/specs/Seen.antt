@@ -102,3 +102,9 @@ Stepped e code old new = StepOf e (pe_step code old.state) old new
 -- and what a byte does then
 abbrev pub went_on_with : Option ℕ → Seen → Seen
 went_on_with byte old = record old { state = given old.state byte; steps = old.steps + 1; phase = phase.Going }
+
+-- a step more was made, and the state goes on within its limit
+pub record IsFurther (old new : Seen) : Type 0 where
+  pub steps : new.steps ≡ old.steps + 1
+  pub phase : old.phase ≡ phase.Going → new.phase ≡ phase.Going
+  pub limit : new.limit ≡ old.limit

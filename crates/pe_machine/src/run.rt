@@ -1,10 +1,11 @@
 //! Runs of the machine over a source and a sink.
 
-ghost use Rattle.std.specs.Prelude.{◌≡◌, ◌≢◌, ◌≤◌, ◌<◌, ◌^◌, IsTrue, IfOk, IfSome, OnErr, Some, Ok};
+ghost use Rattle.std.specs.Prelude.{◌≡◌, ◌≢◌, ◌≤◌, ◌<◌, ◌^◌, IsTrue, IfOk, IfSome, OnErr, Some, None, Ok};
+ghost use Rattle.std.specs.Option.{option_map};
 ghost use Rattle.fy_base.specs.Outside.{IsAtEnd, Rose};
-ghost use Rattle.pe_machine.specs.Exchange.{Exchange};
-ghost use Rattle.pe_machine.specs.Ends.{IsPeEnd, DoesPart, RunsTo};
-ghost use Rattle.pe_machine.specs.Seen.{seen};
+ghost use Rattle.fy_runs.specs.Exchange.{Exchange};
+ghost use Rattle.pe_machine.specs.Ends.{IsPeEnd, DoesPart, RunsTo, close_of, count_of, word_machine};
+ghost use Rattle.pe_machine.specs.Seen.{IsFurther, seen};
 
 use crate::events::{PeEvent, Phase};
 use crate::machine::PeState;
@@ -24,8 +25,9 @@ fn turn<I: Source, O: Sink>(
     requires going { (seen state.old).phase ≡ Phase.Going }
     requires few { (seen state.old).steps < 2 ^ 48 }
     requires at_end { IsTrue over.old → IsAtEnd (I.left input.old) }
-    ensures did { IfOk result (λ end. Exchange code.now (seen state.old) (seen state.new)
-        (record { left = I.left input.old; over = over.old; held = O.held output.old }) (record { left = I.left input.new; over = over.new; held = O.held output.new }) end) }
+    ensures did { IfOk result (λ end. Exchange (word_machine code.now (seen state.old).limit) (seen state.old).state (seen state.new).state
+        (record { left = I.left input.old; over = over.old; held = O.held output.old }) (record { left = I.left input.new; over = over.new; held = O.held output.new }) (count_of end) (option_map close_of end)) }
+    ensures further { IfOk result (λ end. end ≡ None → IsFurther (seen state.old) (seen state.new)) }
     ensures unread { OnErr result (I.left input.new ≡ I.left input.old) }
     ensures unwritten { OnErr result (O.held output.new ≡ O.held output.old) }
     ensures end { IfOk result (λ end. IfSome end IsPeEnd) }

@@ -21,7 +21,8 @@ use Rattle.pe_code.specs.declared.code.PeCode.{PeCode}
 use Rattle.pe_code.specs.Code.{item_at}
 use Rattle.pe_machine.specs.States.{Pointer, Frame, Focus, code_at, value, completed, Held, PeState}
 use Rattle.pe_machine.specs.Step.{PeMove, goes, puts, takes, faults, sticks, loses, focus_on, executed, item_executed, step_at, pe_step}
-use Rattle.pe_machine.specs.Run.{Standing, going, ended, faulted, stuck, gone, standing_at, standing_of, PeRun, settled, ticked, tick, after_more, start_run, pe_start, pe_after}
+use Rattle.pe_machine.specs.Run.{Standing, going, ended, faulted, stuck, gone, standing_at, standing_of, PeRun, settled, ticked, start_run, pe_start, pe_after}
+use Rattle.pe_machine.proofs.RunLemmas.{after_zero as pe_zero, after_suc as pe_suc}
 use Rattle.pe_right.specs.Follows.{StandAlike, StandNearlyAlike, IsReached, IsAsFarAs, FollowsCopyRule}
 use Rattle.pe_right.proofs.ClosingLemmas.{closed_by-nothing}
 use Rattle.pe_right.proofs.DerivedLemmas.{table-answers}
@@ -32,16 +33,6 @@ use Rattle.pe_right.proofs.Moves.{Steps, no_step, and_step, at_datum, rank-two, 
 use Rattle.pe_right.proofs.MeetingLemmas.{value-followed, finished-followed, fills-followed}
 use Rattle.pe_right.proofs.InstructionLemmas.{executed-followed}
 use Rattle.pe_right.proofs.Reading.{state-reads}
-
--- ---- runs of the machine
-
-pe_zero : (code : PeCode) (r : PeRun) → after_more code zero r ≡ r
-unfolding after_more
-pe_zero code r = refl
-
-pe_suc : (code : PeCode) (n : ℕ) (r : PeRun) → after_more code (suc n) r ≡ tick code (after_more code n r)
-unfolding after_more
-pe_suc code n r = refl
 
 -- ---- runs of the copy rule
 

@@ -3,6 +3,7 @@ use Rattle.std.proofs.Common.{◌≡◌, ◌≢◌, ℕ, zero, suc, ◌+◌, ◌
 use Rattle.std.proofs.lemmas.Bool.{cases_lt, cases_Bool, cond-true, cond-false}
 use Rattle.std.specs.Prelude.{nat_eq}
 use Rattle.fy_base.specs.Outside.{Bytes, IsPrefix}
+use Rattle.fy_runs.proofs.Outer.{prefix_all, prefix_more}
 use Rattle.rv_insn.specs.declared.events.Event.TheVariants as event
 use Rattle.pe_code.specs.declared.code.PeCode.{PeCode}
 use Rattle.pe_machine.specs.States.{Focus, code_at, value, completed}
@@ -17,7 +18,7 @@ use Rattle.rv_select.proofs.Runs.{spent_on, spent_none, none_on, runs_split, spe
 use Rattle.rv_select.proofs.SelectedCode.{IsSelected}
 use Rattle.rv_select.proofs.Follows.{Helpers, step_cost}
 use Rattle.rv_select.proofs.Placed.{selected}
-use Rattle.rv_select.proofs.ItemRuns.{none_more, first_more, both_more, run_stays, prefix_itself, prefix_then, run_grows, stuck_later}
+use Rattle.rv_select.proofs.ItemRuns.{none_more, first_more, both_more, run_stays, run_grows, stuck_later}
 use Rattle.rv_select.proofs.Both.{Tracks, Lands, lands_on, runs_out, is_told, is_lost, HasEnded, ends_so, goes_so}
 
 -- a run that has a state is going or has ended
@@ -191,7 +192,7 @@ module _ (code : PeCode) (help : Helpers) (ok : IsSelectable code) (size : ℕ) 
       let e : k + (n - k) ≡ n = omega arith in
       subst (λ m. Behind r m led) e (record {
         output = subst (λ (q : ItemRun). IsPrefix (output_of led) q.output) (sym (both_more code k (n - k) r))
-            (prefix_then (output_of led) (after_more code k r).output (after_more code (n - k) (after_more code k r)).output h.output (run_grows code (n - k) (after_more code k r)));
+            (prefix_more (output_of led) (after_more code k r).output (after_more code (n - k) (after_more code k r)).output h.output (run_grows code (n - k) (after_more code k r)));
         end = end_more r k (n - k) led h.end;
       })
 
@@ -247,7 +248,7 @@ module _ (code : PeCode) (help : Helpers) (ok : IsSelectable code) (size : ℕ) 
       let is = there (tick code r) led free lands in
       record {
         output = subst (λ (q : ItemRun). IsPrefix (output_of now) q.output) (sym (first_more code n r))
-            (prefix_then (output_of now) (tick code r).output (after_more code n (tick code r)).output (subst (λ (o : Bytes). IsPrefix (output_of now) o) is.output prefix) (run_grows code n (tick code r)));
+            (prefix_more (output_of now) (tick code r).output (after_more code n (tick code r)).output (subst (λ (o : Bytes). IsPrefix (output_of now) o) is.output prefix) (run_grows code n (tick code r)));
         end = subst (IsEnd r (suc n)) (sym e) tt;
       }
 
@@ -284,7 +285,7 @@ module _ (code : PeCode) (help : Helpers) (ok : IsSelectable code) (size : ℕ) 
 
       stopped : Behind r k (stops event.Ended h.is.held)
       stopped = record {
-        output = subst (λ (q : ItemRun). IsPrefix h.is.held.output q.output) (sym stays) (subst (λ (o : Bytes). IsPrefix o r.output) (sym h.is.same.output) (prefix_itself r.output));
+        output = subst (λ (q : ItemRun). IsPrefix h.is.held.output q.output) (sym stays) (subst (λ (o : Bytes). IsPrefix o r.output) (sym h.is.same.output) (prefix_all r.output));
         end = subst (λ (q : ItemRun). (q.standing ≡ ended) × IsSameAs q h.is.held) (sym stays) (is, h.is.same);
       }
 

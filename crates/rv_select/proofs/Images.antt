@@ -1,6 +1,7 @@
 -- The image of selected code does what the push-enter code does: from the word machine's image, the runs of items and the lockstep.
-use Rattle.std.proofs.Common.{◌≡◌, ◌≢◌, ◌⊎◌, ℕ, zero, suc, ◌+◌, ◌-◌, ◌<◌, ◌≤◌, max, List, [], ◌∷◌, length, All, refl, sym, ap, ◌∙◌, subst, inl, inr, arith}
+use Rattle.std.proofs.Common.{◌≡◌, ◌≢◌, ◌⊎◌, ℕ, ◌+◌, ◌-◌, ◌<◌, ◌≤◌, List, [], ◌∷◌, length, All, refl, sym, ap, ◌∙◌, subst, inl, inr, arith}
 use Rattle.fy_base.specs.Outside.{Bytes, IsPrefix}
+use Rattle.fy_runs.proofs.Outer.{prefix_all, prefix_more}
 use Rattle.fy_image.specs.declared.image.Image.{Image}
 use Rattle.fy_image.specs.Machine.{IsProgramOf, start_of as image_start, going_world, machine_after}
 use Rattle.rv_insn.specs.declared.events.Event.{Event}
@@ -10,6 +11,7 @@ use Rattle.rv_insn.specs.Run.{World, run}
 use Rattle.rv_insn.proofs.Runs.{run_splits, output_grows, ended_stays}
 use Rattle.pe_code.specs.declared.code.PeCode.{PeCode}
 use Rattle.pe_machine.specs.Run.{PeRun, Standing, going, ended, faulted, stuck, gone, pe_after, pe_peak_load}
+use Rattle.pe_machine.proofs.RunLemmas.{load_within}
 use Rattle.pe_items.specs.Items.{Item, words}
 use Rattle.pe_items.specs.Run.{ItemRun, items_after}
 use Rattle.pe_items.specs.Laws.{IsInStep, InStepAs}
@@ -22,7 +24,6 @@ use Rattle.rv_flow.proofs.Guarded.{images_are_guarded}
 use Rattle.rv_select.specs.Program.{word_code}
 use Rattle.rv_select.specs.Laws.{IsOutside, start_of, IsSameAs, StandsAs, WordsPass, Reaches, RunsReach, IsEndOf, IsBehind, RunsFollow}
 use Rattle.rv_select.specs.Images.{IsSelectionImage, NeverFails, IsSameEnd, both_ended, both_faulted, IsOverEvent, IsOverStanding, IsSameOver, IsBehindRun, IsAsFarAs, step_bound, SelectionsFollow}
-use Rattle.rv_select.proofs.ItemRuns.{prefix_itself, prefix_then}
 
 -- ---- lockstep
 
@@ -33,51 +34,6 @@ in_step ended r i a b h = h
 in_step (faulted kind at) r i a b h = h
 in_step stuck r i a b h = absurd (a refl)
 in_step gone r i a b h = absurd (b refl)
-
--- ---- the greatest load
-
-left_below : (a b : ℕ) → a ≤ max a b
-left_below a b = omega arith
-
-right_below : (a b : ℕ) → b ≤ max a b
-right_below a b = omega arith
-
-peak_suc : (code : PeCode) (input : Bytes) (n : ℕ) → pe_peak_load code input (suc n) ≡ max (pe_peak_load code input n) (pe_after code input (suc n)).state.load
-unfolding pe_peak_load
-peak_suc code input n = refl
-
-peak_zero : (code : PeCode) (input : Bytes) → pe_peak_load code input 0 ≡ (pe_after code input 0).state.load
-unfolding pe_peak_load
-peak_zero code input = refl
-
-load_below : (code : PeCode) (input : Bytes) (n : ℕ) → (pe_after code input n).state.load ≤ pe_peak_load code input n
-load_below code input zero = let e = peak_zero code input in omega arith
-load_below code input (suc n) =
-    let e = peak_suc code input n in
-    let h = right_below (pe_peak_load code input n) (pe_after code input (suc n)).state.load in
-    omega arith
-
--- the load after some steps is at most the greatest of more
-peak_more : (code : PeCode) (input : Bytes) (n m k : ℕ) → k ≡ n + m → pe_peak_load code input n ≤ pe_peak_load code input k
-peak_more code input n zero k e =
-    let same : n ≡ k = omega arith in
-    let P : ℕ → Type 0 = λ j. pe_peak_load code input n ≤ pe_peak_load code input j in
-    let own : pe_peak_load code input n ≤ pe_peak_load code input n = omega arith in
-    subst P same own
-peak_more code input n (suc m) k e =
-    let last : suc (n + m) ≡ k = omega arith in
-    let P : ℕ → Type 0 = λ j. pe_peak_load code input n ≤ pe_peak_load code input j in
-    let s = peak_suc code input (n + m) in
-    let h = left_below (pe_peak_load code input (n + m)) (pe_after code input (suc (n + m))).state.load in
-    let g = peak_more code input n m (n + m) refl in
-    let up : pe_peak_load code input n ≤ pe_peak_load code input (suc (n + m)) = omega arith in
-    subst P last up
-
-peak_above : (code : PeCode) (input : Bytes) (k n : ℕ) → k ≤ n → (pe_after code input k).state.load ≤ pe_peak_load code input n
-peak_above code input k n le =
-    let g = peak_more code input k (n - k) n (omega arith) in
-    let h = load_below code input k in
-    omega arith
 
 -- ---- items
 
@@ -172,7 +128,7 @@ module _ (reach : RunsReach) (follow : RunsFollow) (code : PeCode) (image : Imag
   follows n =
       let P : Bytes → Type 0 = λ o. IsPrefix (output_of (led n)) o in
       record {
-        output = prefix_then (after program image input n).output (output_of (led n)) (pe_after code input n).output (behind n).output (subst P (same n).output (on_items n).output);
+        output = prefix_more (after program image input n).output (output_of (led n)) (pe_after code input n).output (behind n).output (subst P (same n).output (on_items n).output);
         over = over_by n (after program image input n).ending refl;
       }
 
@@ -187,7 +143,7 @@ module _ (reach : RunsReach) (follow : RunsFollow) (code : PeCode) (image : Imag
       let least = is.image_of.ranges.stack_least in
       let some = some_item (items_after code input passes.step).state.items (omega arith) in
       let load = (same passes.step).load in
-      let most = peak_above code input passes.step n passes.is_within in
+      let most = load_within code input passes.step n passes.is_within in
       omega arith
     where
       exhausted_going : event.Exhausted ≢ event.Going
@@ -214,7 +170,7 @@ module _ (reach : RunsReach) (follow : RunsFollow) (code : PeCode) (image : Imag
       let end : IsSameEnd (after program image input c).ending (pe_after code input k).standing = subst (λ x. IsSameEnd (after program image input c).ending x) (sym stands) (subst (λ x. IsSameEnd x s) (sym on) alike) in
       let P : World → Type 0 = λ w. IsAsFarAs w (pe_after code input k) in
       subst P (sym stays) (record {
-        output = subst (λ o. IsPrefix o (after program image input c).output) there (prefix_itself (after program image input c).output);
+        output = subst (λ o. IsPrefix o (after program image input c).output) there (prefix_all (after program image input c).output);
         over = λ o. record { end = end; output = there; rest = rest };
       })
 

@@ -3,6 +3,7 @@ use Rattle.std.proofs.Common.{◌≡◌, ◌≢◌, ℕ, suc, ◌+◌, ◌-◌, 
 use Rattle.std.proofs.lemmas.Bool.{cases_lt}
 use Rattle.std.proofs.lemmas.List.{length-replicate}
 use Rattle.fy_base.specs.Outside.{Bytes, IsPrefix}
+use Rattle.fy_runs.proofs.Outer.{prefix_more}
 use Rattle.rv_insn.specs.declared.events.Event.TheVariants as event
 use Rattle.rv_insn.specs.Program.{stack_start}
 use Rattle.pe_code.specs.declared.code.PeCode.{PeCode}
@@ -22,7 +23,7 @@ use Rattle.rv_select.proofs.Values.{moves, moves_on}
 use Rattle.rv_select.proofs.SelectedCode.{IsSelected}
 use Rattle.rv_select.proofs.Follows.{Helpers}
 use Rattle.rv_select.proofs.Placed.{selected}
-use Rattle.rv_select.proofs.ItemRuns.{both_more, prefix_then, run_grows, stuck_later}
+use Rattle.rv_select.proofs.ItemRuns.{both_more, run_grows, stuck_later}
 use Rattle.rv_select.proofs.Both.{Tracks}
 use Rattle.rv_select.proofs.Follow.{OnWay, still, already, on_way, forth, IsEnd, behind_more, back}
 
@@ -130,7 +131,7 @@ module _ (code : PeCode) (help : Helpers) (ok : IsSelectable code) (size : ℕ) 
       (record { output = subst (λ (o : Bytes). IsPrefix o (items_after code input n).output) (sym b.tracks.same.output) (run_grows code n (start_run input)); end = tt })
   silent n now led b (still u e prefix) =
       record {
-        output = prefix_then (output_of now) (start_run input).output (items_after code input n).output (subst (λ (o : Bytes). IsPrefix (output_of now) o) (ap output_of b.is ∙ b.tracks.same.output) prefix) (run_grows code n (start_run input));
+        output = prefix_more (output_of now) (start_run input).output (items_after code input n).output (subst (λ (o : Bytes). IsPrefix (output_of now) o) (ap output_of b.is ∙ b.tracks.same.output) prefix) (run_grows code n (start_run input));
         end = subst (IsEndOf code input n size) (sym e) tt;
       }
 

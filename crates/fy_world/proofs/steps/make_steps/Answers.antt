@@ -7,19 +7,19 @@ pub loop-k-init : goal.loop-k-init
 loop-k-init g c = record { told = told_start c.args.code.now c.args.names.now (seen c.args.state.now) (g.W.World.holds c.args.world.now) c.requires.begun; counts = refl; same = refl; calls = refl }
 
 pub turn-requires-clause-going : goal.turn-requires-clause-going
-turn-requires-clause-going g c = c.loop-k.invariant.told.reached.phase_is
+turn-requires-clause-going g c = c.loop-k.invariant.told.phase_is
 
 pub turn-requires-clause-few : goal.turn-requires-clause-few
-turn-requires-clause-few g c = few_steps _ c.loop-k.k c.loop-k.invariant.told.reached.steps_are (omega arith)
+turn-requires-clause-few g c = few_steps _ c.loop-k.k c.loop-k.invariant.told.steps_are (omega arith)
 
 pub turn-requires-clause-at_end : goal.turn-requires-clause-at_end
 turn-requires-clause-at_end g c = c.loop-k.invariant.told.reached.at_end
 
 pub end_of-requires-clause-going : goal.end_of-requires-clause-going
-end_of-requires-clause-going g c = c.loop-k.invariant.told.reached.phase_is
+end_of-requires-clause-going g c = c.loop-k.invariant.told.phase_is
 
 pub end_of-requires-clause-few : goal.end_of-requires-clause-few
-end_of-requires-clause-few g c = few_steps _ c.loop-k.k c.loop-k.invariant.told.reached.steps_are (omega arith)
+end_of-requires-clause-few g c = few_steps _ c.loop-k.k c.loop-k.invariant.told.steps_are (omega arith)
 
 pub loop-k-preserved : goal.loop-k-preserved
 loop-k-preserved g c = record {

@@ -2,13 +2,14 @@ use Rattle.std.proofs.Common.{refl, Some, None}
 use Rattle.fy_base.specs.declared.data.Ending.TheVariants as ends
 use Rattle.pe_machine.specs.Step.{faults, sticks, loses}
 use Rattle.pe_machine.specs.Seen.{seen}
+use Rattle.pe_machine.proofs.Ending.{went_further}
 use Rattle.fy_world.proofs.StepLines.{turned_told, turned_put, turned_take, turned_none, went_so, faulted_so, stuck_so, lost_so, over_so, refused_so, went_made, halts_made, stopped_told, stopped_put, stopped_take}
 use Rattle.fy_world.proofs.steps.turn.Goals as goal
 
 pub returns-in-Going-clause-turned : goal.returns-in-Going-clause-turned
 returns-in-Going-clause-turned g c =
     turned_told c.end_told.result None c.args.code.now c.args.names.now (seen c.args.state.now) (seen c.step.new.self) c.args.over.now _ (g.W.World.holds c.end_told.new.world) c.address-address.result c.address-address.ensures
-    (went_so c.args.code.now _ _ c.in-Going.ensures) (λ notes line. refl) c.end_told.ensures.end c.end_told.ensures.told
+    (went_so c.args.code.now _ _ c.in-Going.ensures) (λ _. went_further _ _ _ _ c.in-Going.ensures) (λ notes line. refl) c.end_told.ensures.end c.end_told.ensures.told
 
 pub returns-in-Going-clause-stopped : goal.returns-in-Going-clause-stopped
 returns-in-Going-clause-stopped g c =
@@ -43,7 +44,7 @@ returns-in-Exhausted-clause-turned g c = turned_none ends.Exhausted c.args.code.
 pub returns-in-Fault-clause-turned : goal.returns-in-Fault-clause-turned
 returns-in-Fault-clause-turned g c =
     turned_told c.end_told-in-Fault.result (Some (ends.Fault c.in-Fault.kind c.in-Fault.place)) c.args.code.now c.args.names.now (seen c.args.state.now) (seen c.step.new.self) c.args.over.now _ (g.W.World.holds c.end_told-in-Fault.new.world) c.address-address.result
-    c.address-address.ensures (faulted_so c.args.code.now _ _ c.in-Fault.kind c.in-Fault.place c.in-Fault.ensures) (λ notes line. refl) c.end_told-in-Fault.ensures.end c.end_told-in-Fault.ensures.told
+    c.address-address.ensures (faulted_so c.args.code.now _ _ c.in-Fault.kind c.in-Fault.place c.in-Fault.ensures) (λ clash. cc) (λ notes line. refl) c.end_told-in-Fault.ensures.end c.end_told-in-Fault.ensures.told
 
 pub returns-in-Fault-clause-stopped : goal.returns-in-Fault-clause-stopped
 returns-in-Fault-clause-stopped g c =
@@ -53,7 +54,7 @@ returns-in-Fault-clause-stopped g c =
 pub returns-in-Gone-clause-turned : goal.returns-in-Gone-clause-turned
 returns-in-Gone-clause-turned g c =
     turned_told c.end_told-in-Gone.result (Some ends.Gone) c.args.code.now c.args.names.now (seen c.args.state.now) (seen c.step.new.self) c.args.over.now _ (g.W.World.holds c.end_told-in-Gone.new.world) c.address-address.result c.address-address.ensures
-    (lost_so c.args.code.now _ _ c.in-Gone.ensures) (λ notes line. refl) c.end_told-in-Gone.ensures.end c.end_told-in-Gone.ensures.told
+    (lost_so c.args.code.now _ _ c.in-Gone.ensures) (λ clash. cc) (λ notes line. refl) c.end_told-in-Gone.ensures.end c.end_told-in-Gone.ensures.told
 
 pub returns-in-Gone-clause-stopped : goal.returns-in-Gone-clause-stopped
 returns-in-Gone-clause-stopped g c =
@@ -63,7 +64,7 @@ returns-in-Gone-clause-stopped g c =
 pub returns-in-Stuck-clause-turned : goal.returns-in-Stuck-clause-turned
 returns-in-Stuck-clause-turned g c =
     turned_told c.end_told-in-Stuck.result (Some ends.Stuck) c.args.code.now c.args.names.now (seen c.args.state.now) (seen c.step.new.self) c.args.over.now _ (g.W.World.holds c.end_told-in-Stuck.new.world) c.address-address.result c.address-address.ensures
-    (stuck_so c.args.code.now _ _ c.in-Stuck.ensures) (λ notes line. refl) c.end_told-in-Stuck.ensures.end c.end_told-in-Stuck.ensures.told
+    (stuck_so c.args.code.now _ _ c.in-Stuck.ensures) (λ clash. cc) (λ notes line. refl) c.end_told-in-Stuck.ensures.end c.end_told-in-Stuck.ensures.told
 
 pub returns-in-Stuck-clause-stopped : goal.returns-in-Stuck-clause-stopped
 returns-in-Stuck-clause-stopped g c =
