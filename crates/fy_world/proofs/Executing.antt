@@ -1,5 +1,5 @@
 -- The run of a machine over the objects of a call.
-use Rattle.std.proofs.Common.{◌≡◌, ◌≢◌, ℕ, ◌-◌, ◌+◌, ◌≤◌, List, [], ◌++◌, sym, ap, ◌∙◌, refl, subst, inl, inr, arith, Some, None}
+use Rattle.std.proofs.Common.{◌≡◌, ◌≢◌, ℕ, ◌-◌, ◌≤◌, List, [], ◌++◌, sym, ap, ◌∙◌, refl, subst, inl, inr, arith, Some, None}
 use Rattle.std.specs.Prelude.{◌⊎◌}
 use Rattle.std.specs.Option.{ForSome, option_map}
 use Rattle.std.specs.declared.option.Option.{Option}
@@ -11,12 +11,13 @@ use Rattle.fy_base.specs.declared.data.Ending.TheVariants as ends
 use Rattle.fy_build.specs.Shown as run_ends
 use Rattle.fy_build.specs.Shown.{RunEnd, ending_of_run}
 use Rattle.rv_insn.specs.Program.{Program}
-use Rattle.rv_insn.specs.Step.{Core, instruction_step}
-use Rattle.rv_insn.specs.Run.{settled, tick_from}
+use Rattle.rv_insn.specs.Step.{Core}
+use Rattle.fy_runs.proofs.Closes.{ask_puts_none}
+use Rattle.rv_insn.specs.Run.{run_of, insn_machine}
 use Rattle.rv_machine.specs.Run.{World, going_world, run}
 use Rattle.rv_machine.specs.Ends.{RunsTo, EndsSo, AsksAt, HasPut, IsMachineEnd, taken_after}
 use Rattle.rv_machine.specs.declared.run.MachineRun.{MachineRun}
-use Rattle.rv_machine.proofs.Runs.{run_none, run_more}
+use Rattle.rv_machine.proofs.Runs.{run_none}
 use Rattle.fy_world.specs.World.{Contents}
 use Rattle.fy_world.specs.Note.{texts, ended_lines}
 use Rattle.fy_world.specs.Runs.{Running, of_machine, IsRun, run_status, run_note, end_notes, traced, ran}
@@ -57,14 +58,7 @@ Ran program core limit done after h c = RunsTo program core limit done after h.i
 
 -- an instruction that reads puts nothing
 read_puts_none : (program : Program) (first : World) (n : ℕ) → AsksAt program first n → (run program n first).output ≡ (run program (n - 1) first).output
-read_puts_none program first n at =
-    let some = at.some in
-    let world = run program (n - 1) first in
-    let last : n ≡ (n - 1) + 1 = omega arith in
-    let going = at.below (n - 1) (omega arith) in
-    let more : run program n first ≡ settled (instruction_step program world.core).event (instruction_step program world.core).core world =
-    ap (λ k. run program k first) last ∙ run_more program (n - 1) first ∙ ap (λ e. tick_from e program world) going in
-    ap (λ (w : World). w.output) more ∙ ap (λ e. (settled e (instruction_step program world.core).core world).output) at.asks
+read_puts_none program first n at = ask_puts_none (insn_machine program) (run_of first) n at
 
 -- a run that a failed read stopped
 unread_by : (program : Program) (core : Core) (limit : ℕ) (done : MachineRun) (after : Core) (h c : Contents) → done.steps ≤ limit → (r : Ran program core limit done after h c) → c ≡ record h { input = c.input; output = c.output } → done.end ≡ ends.InputFault

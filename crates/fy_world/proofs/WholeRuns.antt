@@ -5,7 +5,8 @@ use Rattle.fy_build.specs.Shown as run_ends
 use Rattle.fy_build.specs.Shown.{RunEnd}
 use Rattle.rv_insn.specs.Program.{Program}
 use Rattle.rv_insn.specs.Step.{instruction_step}
-use Rattle.rv_insn.specs.Run.{settled, tick_from}
+use Rattle.rv_insn.specs.Run.{settled}
+use Rattle.rv_insn.proofs.Runs.{ticks_from}
 use Rattle.rv_insn.specs.declared.events.Event.{Event}
 use Rattle.rv_insn.specs.declared.events.Event.TheVariants as events
 use Rattle.rv_machine.specs.Run.{World, tick, run}
@@ -29,7 +30,7 @@ settled_standing (events.Trap kind) program world is = over (λ e. cc) (λ e. cc
 
 tick_standing : (program : Program) (world : World) → world.ending ≡ events.Going → IsStanding (tick program world).ending
 tick_standing program world is =
-    subst IsStanding (sym (ap (λ e. (tick_from e program world).ending) is)) (settled_standing (instruction_step program world.core).event program world is)
+    subst IsStanding (sym (ap (λ (w : World). w.ending) (ticks_from program world is))) (settled_standing (instruction_step program world.core).event program world is)
 
 -- a run goes on for all instructions, or is over after some
 pub data Stops (program : Program) (world : World) (limit : ℕ) : Type 0 where

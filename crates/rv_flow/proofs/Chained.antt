@@ -8,8 +8,8 @@ use Rattle.rv_insn.specs.Operations.{is_taken}
 use Rattle.rv_insn.specs.Program.{Program, code_start}
 use Rattle.rv_insn.specs.Memory.{doublewords}
 use Rattle.rv_insn.specs.Step.{Core, reg, with_reg, displaced, jumped, going, execute, instruction_step}
-use Rattle.rv_insn.specs.Run.{World, tick, run}
-use Rattle.rv_insn.proofs.Runs.{run_none, run_first}
+use Rattle.rv_insn.specs.Run.{World, settled, tick, run}
+use Rattle.rv_insn.proofs.Runs.{run_none, run_first, ticks_from}
 use Rattle.rv_asm.specs.declared.items.Item.{Item}
 use Rattle.rv_asm.specs.declared.items.Item.TheVariants.{Plain, BranchTo, JumpTo, FarTo, Constant}
 use Rattle.rv_asm.specs.Forms.{constant_words}
@@ -27,7 +27,7 @@ use Rattle.rv_flow.proofs.Steps.{stands_at, jumped_shows, executes, line_reached
 -- ---- items that take more than one instruction
 
 ticks : (p : Program) (w : World) → w.ending ≡ Going → (instruction_step p w.core).event ≡ Going → tick p w ≡ record w { core = (instruction_step p w.core).core }
-ticks p w h e = rw (h, e) refl
+ticks p w h e = ticks_from p w h ∙ ap (λ x. settled x (instruction_step p w.core).core w) e
 
 goes_runs : (p : Program) (n : ℕ) (w : World) (after : Core) → w.ending ≡ Going → GoesOn p n w.core after → run p n w ≡ record w { core = after }
 goes_runs p zero w after h g = run_none p w ∙ ap (λ c. record w { core = c }) g

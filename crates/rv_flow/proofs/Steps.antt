@@ -21,7 +21,8 @@ use Rattle.rv_insn.specs.Operations.{reg_value, imm_value, shift_value, is_taken
 use Rattle.rv_insn.specs.Program.{Program, table_start, stack_start}
 use Rattle.rv_insn.specs.Memory.{load, store, doublewords}
 use Rattle.rv_insn.specs.Step.{Core, Outcome, reg, with_reg, displaced, jumped, advanced, going, stopped, given, fault_at, service, execute, instruction_step}
-use Rattle.rv_insn.specs.Run.{World, run, settled}
+use Rattle.rv_insn.specs.Run.{World, tick, run, settled}
+use Rattle.rv_insn.proofs.Runs.{run_none, run_more, ticks_from}
 use Rattle.rv_insn.specs.Laws.{StoresDoubleword}
 use Rattle.rv_insn.proofs.Doublewords.{load_doubleword, store_doubleword}
 use Rattle.rv_insn.proofs.Regions.{load_from_table}
@@ -40,8 +41,7 @@ stands_at w address v s = record { pc_is = s.pc_is; count = s.count; zero_is = s
 
 -- the first step of a run
 pub first_step : (p : Program) (w : World) (o : Outcome) → w.ending ≡ event.Going → instruction_step p w.core ≡ o → run p 1 w ≡ settled o.event o.core w
-unfolding run
-first_step p w o h e = rw (h, e) refl
+first_step p w o h e = run_more p 0 w ∙ ap (tick p) (run_none p w) ∙ ticks_from p w h ∙ ap (λ x. settled x.event x.core w) e
 
 -- ---- what instructions execute
 

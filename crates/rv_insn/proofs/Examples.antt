@@ -18,6 +18,7 @@ use Rattle.rv_insn.specs.Operations.{reg_value, imm_value, shift_value, is_taken
 use Rattle.rv_insn.specs.Program.{Program}
 use Rattle.rv_insn.specs.Memory.{load, load_size, load_value, store, store_size, store_bytes}
 use Rattle.rv_insn.specs.Step.{execute, service, instruction_step, reg}
+use Rattle.fy_runs.specs.Runs.{after}
 use Rattle.rv_insn.specs.Run.{World, run}
 
 -- the least number, and all ones: -1
@@ -93,7 +94,7 @@ abbrev first : World
 first = record { core = record { regs = replicate 32 0; pc = 65536; stack = []; status = Running }; input = 7 ∷ 8 ∷ []; output = []; ending = Going }
 
 echo_runs : ((run echo 7 first).output ≡ 65 ∷ []) × ((run echo 7 first).input ≡ 8 ∷ []) × ((run echo 7 first).ending ≡ Ended) × (reg (run echo 7 first).core 10 ≡ 7) × ((run echo 6 first).ending ≡ Going) × ((run echo 9 first).core.pc ≡ 65560)
-unfolding run instruction_step execute service imm_value
+unfolding after instruction_step execute service imm_value
 echo_runs = (refl, refl, refl, refl, refl, refl)
 
 -- what JALR leads to: bit 0 is cleared, the target is of the old register, and a bad target traps at the next fetch
@@ -104,7 +105,7 @@ abbrev from : ℕ → World
 from target = record first { core = record first.core { regs = 0 ∷ 0 ∷ 0 ∷ 0 ∷ 0 ∷ target ∷ [] } }
 
 leaps : ((run leap 1 (from 65544)).core.pc ≡ 65542) × (reg (run leap 1 (from 65544)).core 5 ≡ 65540) × ((run leap 1 (from 65544)).ending ≡ Going) × ((run leap 2 (from 65544)).ending ≡ Trap FetchAlign) × ((run leap 2 (from 65541)).ending ≡ Trap FetchRange) × ((run leap 1 (from 0)).core.pc ≡ 0xfffffffffffffffe)
-unfolding run instruction_step execute
+unfolding after instruction_step execute
 leaps = (refl, refl, refl, refl, refl, refl)
 
 -- the services at x17, x10 and x11, with one place
@@ -124,5 +125,5 @@ abbrev ask : Program
 ask = record small { instructions = Some (Imm Addi 17 0 (pos 2)) ∷ Some Ecall ∷ Some (Imm Addi 0 10 (pos 1)) ∷ None ∷ [] }
 
 asks : (reg (run ask 2 (record first { input = [] })).core 10 ≡ ones) × (reg (run ask 3 (record first { input = [] })).core 0 ≡ 0) × ((run ask 4 (record first { input = [] })).ending ≡ Trap Illegal)
-unfolding run instruction_step execute service imm_value
+unfolding after instruction_step execute service imm_value
 asks = (refl, refl, refl)

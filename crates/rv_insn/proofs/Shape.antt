@@ -1,5 +1,5 @@
 -- What a step keeps of a machine: its number of registers, x0, and the size of its stack.
-use Rattle.std.proofs.Common.{◌≡◌, ℕ, zero, suc, Bool, true, false, not, nat_eq, if◌then◌else◌, Option, Some, None, ◌+◌, ◌-◌, ◌/◌, ◌%◌, ◌≤◌, List, ◌++◌, length, take, drop, Result, Ok, Err, refl, ◌∙◌, ap, arith}
+use Rattle.std.proofs.Common.{◌≡◌, ℕ, zero, Bool, true, false, not, nat_eq, if◌then◌else◌, Option, Some, None, ◌+◌, ◌-◌, ◌/◌, ◌%◌, ◌≤◌, List, ◌++◌, length, take, drop, Result, Ok, Err, refl, ◌∙◌, ap, arith}
 use Rattle.std.specs.List.{slice_get, slice_index, slice_set}
 use Rattle.std.proofs.lemmas.List.{get_or-set_other, length-set, length-drop, length-append, length-take}
 use Rattle.fy_base.specs.declared.data.Place.{Place}
@@ -15,7 +15,9 @@ use Rattle.rv_insn.specs.Operations.{is_taken}
 use Rattle.rv_insn.specs.Program.{Program, code_start, stack_start}
 use Rattle.rv_insn.specs.Memory.{load, store, store_size, store_bytes, lies_in, overwritten}
 use Rattle.rv_insn.specs.Step.{Core, reg, set_reg, displaced, jumped, advanced, given, after_load, after_store, fault_at, service, execute, after_fetch, instruction_step}
-use Rattle.rv_insn.specs.Run.{World, settled, tick_from, run}
+use Rattle.fy_runs.specs.Runs.{Run, settled, ticked, tick}
+use Rattle.fy_runs.proofs.Runs.{along}
+use Rattle.rv_insn.specs.Run.{World, run_of, move_of, standing_of, insn_machine, run}
 use Rattle.rv_insn.specs.Laws.{KeepsShape}
 
 length-set_reg : (regs : List ℕ) (rd v : ℕ) → length (set_reg regs rd v) ≡ length regs
@@ -126,15 +128,14 @@ gave : (o : Option ℕ) (c : Core) → KeepsShape c (given o c)
 gave None c = record { count = length-set c.regs 10 _; zero = get_or-set_other c.regs 10 0 _ 0 (λ e. omega (arith, e)); size = refl }
 gave (Some b) c = record { count = length-set c.regs 10 b; zero = get_or-set_other c.regs 10 0 b 0 (λ e. omega (arith, e)); size = refl }
 
-settles : (e : Event) (c : Core) (w : World) → KeepsShape w.core c → KeepsShape w.core (settled e c w).core
-settles WantByte c w h = through w.core c (given (slice_get w.input 0) c) h (gave (slice_get w.input 0) c)
-settles e c w h = h
+settles : (e : Event) (c : Core) (r : Run Core Event) → KeepsShape r.state c → KeepsShape r.state (settled standing_of (move_of e c) r).state
+settles WantByte c r h = through r.state c (given (slice_get r.input 0) c) h (gave (slice_get r.input 0) c)
+settles e c r h = h
 
-ticks : (e : Event) (p : Program) (w : World) → KeepsShape w.core (tick_from e p w).core
-ticks Going p w = settles (instruction_step p w.core).event (instruction_step p w.core).core w (step_keeps p w.core)
-ticks e p w = same w.core
+ticks : (e : Event) (p : Program) (r : Run Core Event) → KeepsShape r.state (ticked (insn_machine p) e r).state
+ticks Going p r = settles (instruction_step p r.state).event (instruction_step p r.state).core r (step_keeps p r.state)
+ticks e p r = same r.state
 
 pub run_keeps : (p : Program) (n : ℕ) (w : World) → KeepsShape w.core (run p n w).core
-unfolding run
-run_keeps p zero w = same w.core
-run_keeps p (suc n) w = through w.core (run p n w).core (run p (suc n) w).core (run_keeps p n w) (ticks (run p n w).ending p (run p n w))
+run_keeps p n w =
+    along (λ (r : Run Core Event). KeepsShape w.core r.state) (insn_machine p) (λ r h. through w.core r.state (tick (insn_machine p) r).state h (ticks r.standing p r)) n (run_of w) (same w.core)

@@ -2,7 +2,8 @@
 use Rattle.std.proofs.Common.{◌≡◌, ◌≢◌, ◌+◌, [], ◌∷◌, length, sym, ap, ◌∙◌, refl, add-zero, length-append}
 use Rattle.rv_insn.specs.Program.{Program}
 use Rattle.rv_insn.specs.Step.{Core, instruction_step}
-use Rattle.rv_insn.specs.Run.{tick_from, settled}
+use Rattle.rv_insn.specs.Run.{settled}
+use Rattle.rv_insn.proofs.Runs.{ticks_from}
 use Rattle.rv_insn.specs.declared.events.Event.{Event}
 use Rattle.rv_insn.specs.declared.events.Event.TheVariants as events
 use Rattle.rv_machine.specs.Run.{World, tick}
@@ -22,7 +23,7 @@ settled_puts (events.Trap kind) core world = sym (add-zero (length world.output)
 pub tick_puts : (program : Program) (world : World) → world.ending ≡ events.Going → length (tick program world).output ≡ length world.output + put_count (instruction_step program world.core).event
 tick_puts program world going =
     let step = instruction_step program world.core in
-    ap (λ e. length (tick_from e program world).output) going ∙ settled_puts step.event step.core world
+    ap (λ w. length w.output) (ticks_from program world going) ∙ settled_puts step.event step.core world
 
 -- an event by which the run is over leaves the output as it is
 settled_over : (event : Event) (core : Core) (world : World) → world.ending ≡ events.Going → (settled event core world).ending ≢ events.Going → (settled event core world).output ≡ world.output
@@ -38,5 +39,5 @@ settled_over (events.Trap kind) core world going over = refl
 pub over_puts_none : (program : Program) (world : World) → world.ending ≡ events.Going → (tick program world).ending ≢ events.Going → (tick program world).output ≡ world.output
 over_puts_none program world going over =
     let step = instruction_step program world.core in
-    let ticks : tick program world ≡ settled step.event step.core world = ap (λ e. tick_from e program world) going in
+    let ticks : tick program world ≡ settled step.event step.core world = ticks_from program world going in
     ap (λ w. w.output) ticks ∙ settled_over step.event step.core world going (λ on. over (ap (λ w. w.ending) ticks ∙ on))

@@ -2,17 +2,18 @@
 use Rattle.std.proofs.Common.{◌≡◌, ℕ, ◌<◌, Bool, IsTrue, [], ◌∷◌, ◌++◌, sym, ap, ◌∙◌, refl, subst, append_assoc, Some, None}
 use Rattle.std.proofs.lemmas.List.Elements.{All-nil}
 use Rattle.std.specs.declared.option.Option.{Option}
-use Rattle.fy_base.specs.Outside.{Bytes, IsAtEnd, Gained, GainedPart, appended, Drew}
+use Rattle.fy_base.specs.Outside.{Bytes, IsAtEnd, Gained, GainedPart, Drew}
 use Rattle.fy_base.specs.declared.data.Ending.{Ending}
 use Rattle.fy_base.specs.declared.data.Ending.TheVariants as ends
 use Rattle.rv_insn.specs.Program.{Program}
 use Rattle.rv_insn.specs.Step.{Core, instruction_step}
-use Rattle.rv_insn.specs.Run.{tick_from, settled}
+use Rattle.rv_insn.specs.Run.{settled}
+use Rattle.rv_insn.proofs.Runs.{ticks_from}
 use Rattle.rv_machine.specs.Run.{World, tick}
 use Rattle.rv_machine.specs.Turn.{Shows, Came, TurnedIn, Turned}
 use Rattle.rv_insn.specs.declared.events.Event.{Event}
 use Rattle.rv_insn.specs.declared.events.Event.TheVariants as events
-use Rattle.rv_machine.proofs.Turns.{gave_none}
+use Rattle.fy_runs.proofs.Outer.{gave_none, gained_more}
 
 -- nothing was drawn
 drew_none : (left : Option Bytes) (over : Bool) → (IsTrue over → IsAtEnd left) → Drew left left over over []
@@ -33,7 +34,7 @@ turned_alone end program core after left over held held_now at_end did = record 
 pub ticked : (event : Event) (program : Program) (world : World) (core after : Core) → world.ending ≡ events.Going → core ≡ world.core → instruction_step program core ≡ record { event = event; core = after }
     → tick program world ≡ settled event after world
 ticked event program world core after going same step =
-    ap (λ e. tick_from e program world) going ∙ ap (λ c. settled (instruction_step program c).event (instruction_step program c).core world) (sym same) ∙ ap (λ o. settled o.event o.core world) step
+    ticks_from program world going ∙ ap (λ c. settled (instruction_step program c).event (instruction_step program c).core world) (sym same) ∙ ap (λ o. settled o.event o.core world) step
 
 came_to : (event : Event) (program : Program) (world now : World) (after : Core) (input : Bytes) (before held : Option Bytes) → tick program world ≡ now → now.ending ≡ event → Shows now after input before held
     → Came program world event after input before held
@@ -41,10 +42,6 @@ came_to event program world now after input before held ticks ending shows = rec
   ending_is = ap (λ w. w.ending) ticks ∙ ending;
   shows = let P : World → Type 0 = λ w. Shows w after input before held in subst P (sym ticks) shows;
 }
-
-gained_more : (before held now : Option Bytes) (output bytes : Bytes) → Gained before held output → Gained held now bytes → Gained before now (output ++ bytes)
-gained_more None held now output bytes first then = then ∙ ap (λ o. appended o bytes) first
-gained_more (Some start) held now output bytes first then = then ∙ ap (λ o. appended o bytes) first ∙ ap (λ b. Some b) (append_assoc start output bytes)
 
 -- it goes on
 pub turned_going : (program : Program) (core after : Core) (left : Option Bytes) (over : Bool) (held : Option Bytes) → (IsTrue over → IsAtEnd left) → instruction_step program core ≡ record { event = events.Going; core = after }

@@ -1,5 +1,5 @@
 -- Runs, by their counts of instructions.
-use Rattle.std.proofs.Common.{◌≡◌, ◌≢◌, ℕ, ◌+◌, ◌-◌, ◌≤◌, sym, ap, ◌∙◌, arith, add-one, subst, inl, inr}
+use Rattle.std.proofs.Common.{◌≡◌, ◌≢◌, ℕ, ◌+◌, ◌≤◌, sym, ap, ◌∙◌, arith, add-one, inl, inr}
 use Rattle.std.proofs.lemmas.Bool.{cases_lt}
 use Rattle.fy_base.specs.Outside.{IsPrefix}
 use Rattle.rv_insn.specs.Program.{Program}
@@ -27,16 +27,11 @@ over_stays program n world over = insn.ended_stays program n world over
 
 -- a run that is over stays
 pub run_stays : (program : Program) (n m : ℕ) (world : World) → (run program n world).ending ≢ Going → n ≤ m → run program m world ≡ run program n world
-run_stays program n m world over le =
-    let e : m ≡ n + (m - n) = omega arith in
-    ap (λ k. run program k world) e ∙ run_split program n (m - n) world ∙ over_stays program (m - n) (run program n world) over
+run_stays program n m world over le = insn.ended_later program n m world over le
 
 -- the output of a longer run begins with that of a shorter one
 pub outputs_grow : (program : Program) (n m : ℕ) (world : World) → n ≤ m → IsPrefix (run program n world).output (run program m world).output
-outputs_grow program n m world le =
-    let e : n + (m - n) ≡ m = omega arith in
-    let P : ℕ → Type 0 = λ k. IsPrefix (run program n world).output (run program k world).output in
-    subst P e (insn.output_grows program n (m - n) world)
+outputs_grow program n m world le = insn.outputs_grow program n m world le
 
 -- a run that stands over at a count stands so at each later one
 pub stands_stays : (program : Program) (world : World) (n m : ℕ) (event : Event) → event ≢ Going → StandsAt program world n event → n ≤ m → run program m world ≡ run program n world

@@ -1,21 +1,24 @@
 -- Runs over a source and a sink, instruction by instruction.
-use Rattle.std.proofs.Common.{◌≡◌, ◌≢◌, ℕ, ◌+◌, ◌-◌, ◌<◌, ◌≤◌, Bool, IsTrue, List, [], ◌++◌, length, All, sym, ap, ◌∙◌, refl, arith, subst, inl, inr, append_assoc, Some, None}
-use Rattle.std.proofs.lemmas.List.{append-nil}
+use Rattle.std.proofs.Common.{◌≡◌, ◌≢◌, ℕ, ◌+◌, ◌-◌, ◌<◌, ◌≤◌, Bool, IsTrue, List, [], ◌∷◌, ◌++◌, length, All, sym, ap, ◌∙◌, refl, arith, subst, append_assoc, Some, None}
 use Rattle.std.proofs.lemmas.List.Elements.{All-append, All-nil}
-use Rattle.std.proofs.lemmas.Bool.{cases_lt}
 use Rattle.std.specs.Option.{option_map, option_to_list, unwrap_or}
 use Rattle.std.specs.declared.option.Option.{Option}
-use Rattle.fy_base.specs.Outside.{Bytes, IsPrefix, Gave, IsAtEnd, Gained, GainedPart, Drew}
+use Rattle.fy_base.specs.Outside.{Bytes, IsPrefix, Gave, IsAtEnd, Gained, GainedPart}
 use Rattle.fy_base.specs.declared.data.Ending.{Ending}
 use Rattle.fy_base.specs.declared.data.Ending.TheVariants as ends
+use Rattle.fy_runs.specs.Runs.{takes, puts}
+use Rattle.fy_runs.proofs.Outer.{gained_none, part_longer, gave_none, gave_more, drew_all, rest_none}
+use Rattle.fy_runs.proofs.Reached as runs_reached
+use Rattle.fy_runs.proofs.Closes as runs_close
+use Rattle.fy_runs.proofs.Closes.{asks_next, puts_next, ask_puts_none}
 use Rattle.rv_insn.specs.Program.{Program}
-use Rattle.rv_insn.specs.Step.{Core, instruction_step}
-use Rattle.rv_insn.specs.Run.{tick_from, settled}
+use Rattle.rv_insn.specs.Step.{Core, instruction_step, given}
+use Rattle.rv_insn.specs.Run.{run_of, move_of, insn_machine}
 use Rattle.rv_machine.specs.declared.run.MachineRun.{MachineRun}
 use Rattle.rv_machine.specs.Run.{World, going_world, run, tick}
 use Rattle.rv_machine.specs.Fetch.{fetched_at, fetches}
 use Rattle.rv_machine.specs.declared.watch.Fetched.{Fetched}
-use Rattle.rv_machine.specs.Ends.{IsGoingBelow, StandsAt, EndsSo, HasPut, core_after, taken_after, GainedSinceRead, Watched}
+use Rattle.rv_machine.specs.Ends.{IsGoingBelow, StandsAt, AsksAt, EndsSo, HasPut, core_after, taken_after, GainedSinceRead, Watched}
 use Rattle.rv_machine.specs.Turn.{put_count, Shows, Came, TurnedIn, Turned}
 use Rattle.rv_insn.specs.declared.events.Event.{Event}
 use Rattle.rv_insn.specs.declared.events.Event.TheVariants as events
@@ -38,18 +41,6 @@ pub record Reached (program : Program) (start : Core) (n : ℕ) (seen : List Fet
   pub gave : Gave left left_now given
   pub at_end : IsTrue over → IsAtEnd left_now
   pub stands : (more : Bytes) → (IsTrue over → more ≡ []) → Stands program (going_world start (given ++ more)) n seen bytes core more before now
-
-gained_none : (held : Option Bytes) → Gained held held []
-gained_none None = refl
-gained_none (Some bytes) = ap (λ b. Some b) (sym (append-nil bytes))
-
-pub gave_none : (left : Option Bytes) → Gave left left []
-gave_none None = refl
-gave_none (Some bytes) = refl
-
-gave_more : (before left now : Option Bytes) (given bytes : Bytes) → Gave before left given → Gave left now bytes → Gave before now (given ++ bytes)
-gave_more before left None given bytes first then = first ∙ ap (λ o. option_map (λ rest. given ++ rest) o) then
-gave_more before left (Some rest) given bytes first then = first ∙ ap (λ o. option_map (λ rest. given ++ rest) o) then ∙ ap (λ b. Some b) (sym (append_assoc given bytes rest))
 
 -- before the first instruction
 stands_start : (program : Program) (core : Core) (input : Bytes) (held : Option Bytes) → Stands program (going_world core input) 0 [] 0 core input held held
@@ -74,10 +65,7 @@ reached_start program core left held over at_end = record {
 
 -- below n and at n
 pub below_next : (program : Program) (world : World) (n : ℕ) → IsGoingBelow program world n → (run program n world).ending ≡ events.Going → IsGoingBelow program world (n + 1)
-below_next program world n below here k lt = elim (cases_lt k n) [
-  | inl less ↦ below k less
-  | inr more ↦ let last : k ≡ n = omega arith in ap (λ j. (run program j world).ending) last ∙ here
-]
+below_next program world n below here = runs_reached.below_next (insn_machine program) (run_of world) n below here
 
 -- the world after one more instruction is shown so
 shown_next : (program : Program) (world : World) (n : ℕ) (core : Core) (input : Bytes) (before now : Option Bytes) → Shows (tick program (run program n world)) core input before now → Shows (run program (n + 1) world) core input before now
@@ -107,10 +95,6 @@ stands_next program world n seen bytes c d i j before g h stands came = record {
   counted = put_more program world n seen bytes c i before g stands;
   shows = shown_next program world n d j before h came.shows;
 }
-
--- what the bytes drawn and then more are, where the source is over
-drew_all : (left left_now : Option Bytes) (over over_now : Bool) (bytes more : Bytes) → Drew left left_now over over_now bytes → (IsTrue over_now → more ≡ []) → IsTrue over → bytes ++ more ≡ []
-drew_all left left_now over over_now bytes more drew none was = ap (λ b. b ++ more) (drew.none was) ∙ none (drew.stays was)
 
 -- one more instruction from where the run stands: on each input that the source may yet give, it stood there, and it turned so
 turned_at : (end : Option Ending) (program : Program) (start : Core) (n : ℕ) (seen : List Fetched) (bytes : ℕ) (c d : Core) (left l m : Option Bytes) (o p : Bool) (before g h : Option Bytes)
@@ -156,39 +140,21 @@ ends_by program world n limit event core input before now over below lt came =
       ap (λ w. w.output) (run_more program n world) ∙ over_puts_none program (run program n world) (below n (omega arith)) (λ going. over (sym came.ending_is ∙ going)),
     )
 
--- a read changes no output
-ask_puts_none : (program : Program) (world : World) → world.ending ≡ events.Going → (instruction_step program world.core).event ≡ events.WantByte → (tick program world).output ≡ world.output
-ask_puts_none program world going asks =
-    ap (λ e. (tick_from e program world).output) going ∙ ap (λ e. (settled e (instruction_step program world.core).core world).output) asks
+-- what the step of a run leads to, in the words of all machines
+asks_so : (program : Program) (core : Core) → (instruction_step program core).event ≡ events.WantByte → (insn_machine program).step core ≡ takes (λ byte. given byte (instruction_step program core).core)
+asks_so program core asks = ap (λ e. move_of e (instruction_step program core).core) asks
 
-part_longer : (before now : Option Bytes) (short long : Bytes) → GainedPart before now short → IsPrefix short long → GainedPart before now long
-part_longer before now short long gained begins = record {
-  part = gained.part;
-  gained = gained.gained;
-  begins = record {
-    rest = gained.begins.rest ++ begins.rest;
-    is = begins.is ∙ ap (λ b. b ++ begins.rest) gained.begins.is ∙ append_assoc gained.part gained.begins.rest begins.rest;
-  };
-}
+puts_so : (program : Program) (core : Core) (byte : ℕ) → (instruction_step program core).event ≡ events.Put byte → (insn_machine program).step core ≡ puts (byte ∷ []) (instruction_step program core).core
+puts_so program core byte puts_it = ap (λ e. move_of e (instruction_step program core).core) puts_it
 
 -- what a put that failed left: all that was put before it, and so before each read
-since_read : (program : Program) (world : World) (n byte : ℕ) (before now : Option Bytes) → IsGoingBelow program world (n + 1) → (instruction_step program (run program n world).core).event ≡ events.Put byte
+since_read : (program : Program) (world : World) (n byte : ℕ) (before now : Option Bytes) → (instruction_step program (run program n world).core).event ≡ events.Put byte
     → (put : GainedPart before now (tick program (run program n world)).output) → IsPrefix (run program n world).output put.part → GainedSinceRead program world (n + 1) before now
-since_read program world n byte before now going puts put behind = record {
-  part = put.part;
-  gained = put.gained;
-  begins = record { rest = put.begins.rest; is = ap (λ w. w.output) (run_more program n world) ∙ put.begins.is };
-  reads = λ k le asks. elim (cases_lt k (n + 1)) [
-    | inl less ↦ (
-        let grows = outputs_grow program k n world (omega arith) in
-        record { rest = grows.rest ++ behind.rest; is = behind.is ∙ ap (λ b. b ++ behind.rest) grows.is ∙ append_assoc (run program k world).output grows.rest behind.rest }
-        )
-    | inr more ↦ (
-        let same : k - 1 ≡ n = omega arith in
-        absurd (let clash : events.Put byte ≡ events.WantByte = sym puts ∙ ap (λ j. (instruction_step program (run program j world).core).event) (sym same) ∙ asks.asks in cc)
-        )
-  ];
-}
+since_read program world n byte before now puts_it put behind =
+    let core = (run program n world).core in
+    runs_close.since_read (insn_machine program) (run_of world) n (byte ∷ []) (instruction_step program core).core behind.rest before now (puts_so program core byte puts_it)
+    (subst (λ b. Gained before now b) behind.is put.gained)
+    (subst (λ b. IsPrefix b (run program (n + 1) world).output) behind.is (record { rest = put.begins.rest; is = ap (λ w. w.output) (run_more program n world) ∙ put.begins.is }))
 
 -- what a run on an input came to
 record RunsOn (program : Program) (world : World) (limit : ℕ) (done : MachineRun) (after : Core) (input : Bytes) (before now : Option Bytes) : Type 0 where
@@ -217,10 +183,11 @@ run_ends (ends.Trap kind) program world n limit seen bytes c d i j before g h st
     record { end = done.0; core_is = done.1.core_is; input_is = done.1.input_is; output = done.1.output_is; part = done.2; counted = λ _. stands.counted ∙ ap length (sym done.3); unput = λ clash. cc }
 run_ends ends.InputFault program world n limit seen bytes c d i j before g h stands lt turned =
     let same : n ≡ (n + 1) - 1 = omega arith in
-    let none : (run program (n + 1) world).output ≡ (run program n world).output =
-    ap (λ w. w.output) (run_more program n world) ∙ ask_puts_none program (run program n world) (stands.going n (omega arith)) turned.asks in
+    let core = (run program n world).core in
+    let at : AsksAt program world (n + 1) = asks_next (insn_machine program) (run_of world) n core (λ byte. given byte (instruction_step program core).core) stands.going refl (asks_so program core turned.asks) in
+    let none : (run program (n + 1) world).output ≡ (run program n world).output = ask_puts_none (insn_machine program) (run_of world) (n + 1) at ∙ ap (λ k. (run program k world).output) (sym same) in
     record {
-      end = record { some = omega arith; below = stands.going; asks = ap (λ k. (instruction_step program (run program k world).core).event) (sym same) ∙ turned.asks };
+      end = at;
       core_is = turned.core_is ∙ ap (λ k. (instruction_step program (run program k world).core).core) same;
       input_is = ap (λ k. (run program k world).input) (sym same) ∙ turned.input_is;
       output = let P : Bytes → Type 0 = λ b. Gained before h b in subst P (sym none) turned.output_is;
@@ -229,16 +196,16 @@ run_ends ends.InputFault program world n limit seen bytes c d i j before g h sta
       unput = λ clash. cc;
     }
 run_ends ends.OutputFault program world n limit seen bytes c d i j before g h stands lt turned =
-    let same : n ≡ (n + 1) - 1 = omega arith in
+    let core = (run program n world).core in
     let put : GainedPart before h (run program (n + 1) world).output = let P : World → Type 0 = λ w. GainedPart before h w.output in subst P (sym (run_more program n world)) turned.output_is in
     record {
-      end = record { some = omega arith; below = stands.going; byte = turned.byte; puts = ap (λ k. (instruction_step program (run program k world).core).event) (sym same) ∙ turned.puts };
+      end = puts_next (insn_machine program) (run_of world) n core (turned.byte ∷ []) (instruction_step program core).core stands.going refl (puts_so program core turned.byte turned.puts);
       core_is = turned.core_is ∙ ap (λ w. w.core) (sym (run_more program n world));
       input_is = ap (λ w. w.input) (run_more program n world) ∙ turned.input_is;
       output = put;
       part = part_longer before h _ _ put (outputs_grow program (n + 1) limit world (omega arith));
       counted = λ other. absurd (other refl);
-      unput = λ _. since_read program world n (turned.byte) before h stands.going turned.puts turned.output_is turned.behind;
+      unput = λ _. since_read program world n (turned.byte) before h turned.puts turned.output_is turned.behind;
     }
 run_ends ends.Spent program world n limit seen bytes c d i j before g h stands lt turned = absurd turned
 run_ends ends.TooBig program world n limit seen bytes c d i j before g h stands lt turned = absurd turned
@@ -260,11 +227,6 @@ run_spent program world n limit seen bytes c i before g same stands =
       counted = λ _. there.counted;
       unput = λ clash. cc;
     }
-
--- what is left at a source, where that is told, is nothing where the source is over
-rest_none : (left : Option Bytes) (over : Bool) → (IsTrue over → IsAtEnd left) → IsTrue over → unwrap_or left [] ≡ []
-rest_none None over at_end was = refl
-rest_none (Some rest) over at_end was = at_end was rest refl
 
 -- a run on what a source gave and what is left there is the run of the source
 watched_to : (program : Program) (start : Core) (limit : ℕ) (done : MachineRun) (after : Core) (given : Bytes) (left left_now before now : Option Bytes) (room : ℕ) (held held_now seen : List Fetched)

@@ -1,12 +1,15 @@
 -- How a run over a source and a sink ends, told by the machine's run on an input.
-use Rattle.std.specs.Prelude.{◌≡◌, ◌≢◌, ℕ, ◌-◌, ◌<◌, ◌≤◌, List, ◌++◌, length, All, Some, None}
+use Rattle.std.specs.Prelude.{◌≡◌, ◌≢◌, ℕ, ◌-◌, ◌<◌, List, ◌++◌, length, All, Some, None}
 use Rattle.std.specs.Option.{ForSome, option_map}
 use Rattle.std.specs.declared.option.Option.{Option}
-use Rattle.fy_base.specs.Outside.{Bytes, Gained, GainedPart, IsPrefix}
+use Rattle.fy_base.specs.Outside.{Bytes, GainedPart}
 use Rattle.fy_base.specs.declared.data.Ending.{Ending}
 use Rattle.fy_base.specs.declared.data.Ending.TheVariants as ends
+use Rattle.fy_runs.specs.Ends as runs
+use Rattle.fy_runs.specs.Ends.{Limited, Close, stands, spent, unread, unwritten, never, Occurs, ClosesSo, taken_by, HasPutBy}
 use Rattle.rv_insn.specs.Program.{Program}
 use Rattle.rv_insn.specs.Step.{Core, instruction_step}
+use Rattle.rv_insn.specs.Run.{run_of, insn_machine}
 use Rattle.rv_machine.specs.Run.{World, going_world, run}
 use Rattle.rv_machine.specs.Fetch.{fetches}
 use Rattle.rv_machine.specs.declared.watch.Fetched.{Fetched}
@@ -17,62 +20,57 @@ use Rattle.rv_insn.specs.declared.events.Status.{Status}
 use Rattle.rv_insn.specs.declared.events.Status.TheVariants.{Running, Waiting, Stopped}
 use Rattle.rv_machine.specs.declared.run.MachineRun.{MachineRun}
 
+-- a program's machine has no limit
+abbrev pub free_machine : Program → Limited Core Event
+free_machine program = record { machine = insn_machine program; IsInside = λ core. Unit {0}; IsPast = λ core. ⊥ }
+
 -- a run goes on after each count of instructions below n
 abbrev pub IsGoingBelow : Program → World → ℕ → Type 0
-IsGoingBelow program world n = (k : ℕ) → k < n → (run program k world).ending ≡ events.Going
+IsGoingBelow program world n = runs.IsGoingBelow (insn_machine program) (run_of world) n
 
 -- a run goes on below n instructions, and stands so after n
-pub record StandsAt (program : Program) (world : World) (n : ℕ) (event : Event) : Type 0 where
-  pub below : IsGoingBelow program world n
-  pub here : (run program n world).ending ≡ event
-
--- a run still goes on after all the instructions that were allowed
-pub record IsSpent (program : Program) (world : World) (n limit : ℕ) : Type 0 where
-  pub all : n ≡ limit
-  pub going : StandsAt program world n events.Going
+abbrev pub StandsAt : Program → World → ℕ → Event → Type 0
+StandsAt program world n event = runs.StandsAt (insn_machine program) (run_of world) n event
 
 -- a run comes to its instruction number n, which asks for a byte
-pub record AsksAt (program : Program) (world : World) (n : ℕ) : Type 0 where
-  pub some : 0 < n
-  pub below : IsGoingBelow program world n
-  pub asks : (instruction_step program (run program (n - 1) world).core).event ≡ events.WantByte
+abbrev pub AsksAt : Program → World → ℕ → Type 0
+AsksAt program world n = runs.AsksAt (insn_machine program) (run_of world) n
 
--- a run comes to its instruction number n, which puts a byte
-pub record PutsAt (program : Program) (world : World) (n : ℕ) : Type 0 where
-  pub some : 0 < n
-  pub below : IsGoingBelow program world n
-  pub byte : ℕ
-  pub puts : (instruction_step program (run program (n - 1) world).core).event ≡ events.Put byte
+-- or puts one
+abbrev pub PutsAt : Program → World → ℕ → Type 0
+PutsAt program world n = runs.PutsAt (insn_machine program) (run_of world) n
+
+-- the ends of a run of the machine
+abbrev pub close_of : Ending → Close Event
+close_of ends.Ended = stands events.Ended
+close_of (ends.Fault kind place) = stands (events.Fault kind place)
+close_of ends.Exhausted = stands events.Exhausted
+close_of (ends.Trap kind) = stands (events.Trap kind)
+close_of ends.Spent = spent
+close_of ends.InputFault = unread
+close_of ends.OutputFault = unwritten
+close_of ends.TooBig = never
+close_of ends.Stuck = never
+close_of ends.Gone = never
+
+abbrev pub IsMachineEnd : Ending → Type 0
+IsMachineEnd end = Occurs (close_of end)
 
 -- what an end means of the run, of which n instructions out of so many were executed
 abbrev pub EndsSo : Ending → Program → World → ℕ → ℕ → Type 0
-EndsSo ends.Ended program world n limit = StandsAt program world n events.Ended
-EndsSo (ends.Fault kind place) program world n limit = StandsAt program world n (events.Fault kind place)
-EndsSo ends.Exhausted program world n limit = StandsAt program world n events.Exhausted
-EndsSo (ends.Trap kind) program world n limit = StandsAt program world n (events.Trap kind)
-EndsSo ends.Spent program world n limit = IsSpent program world n limit
-EndsSo ends.InputFault program world n limit = AsksAt program world n
-EndsSo ends.OutputFault program world n limit = PutsAt program world n
-EndsSo ends.TooBig program world n limit = ⊥
-EndsSo ends.Stuck program world n limit = ⊥
-EndsSo ends.Gone program world n limit = ⊥
+EndsSo end program world n limit = ClosesSo (free_machine program) (close_of end) (run_of world) n limit
 
 -- of which count of instructions the input was taken: a read that failed took none
 abbrev pub taken_after : Ending → ℕ → ℕ
-taken_after ends.InputFault n = n - 1
-taken_after _ n = n
+taken_after end n = taken_by (close_of end) n
 
 -- a sink gained the output; where it failed, a beginning of it
 abbrev pub HasPut : Ending → Option Bytes → Option Bytes → Bytes → Type 0
-HasPut ends.OutputFault before now output = GainedPart before now output
-HasPut _ before now output = Gained before now output
+HasPut end before now output = HasPutBy (close_of end) before now output
 
 -- a sink that failed gained a beginning of what n instructions put, with all that was put before each of them that reads
-pub record GainedSinceRead (program : Program) (world : World) (n : ℕ) (before now : Option Bytes) : Type 0 where
-  pub part : Bytes
-  pub gained : Gained before now part
-  pub begins : IsPrefix part (run program n world).output
-  pub reads : (k : ℕ) → k ≤ n → AsksAt program world k → IsPrefix (run program k world).output part
+abbrev pub GainedSinceRead : Program → World → ℕ → Option Bytes → Option Bytes → Type 0
+GainedSinceRead program world n before now = runs.GainedSinceRead (insn_machine program) (run_of world) n before now
 
 -- the machine is the run's, but where it still waits for a byte
 abbrev pub core_after : Ending → Program → World → ℕ → Core
@@ -101,13 +99,6 @@ pub record RunsTo (program : Program) (core : Core) (limit : ℕ) (done : Machin
 pub record Watched (program : Program) (core : Core) (limit : ℕ) (done : MachineRun) (after : Core) (left left_now before now : Option Bytes) (room : ℕ) (held held_now : List Fetched) : Type 0 where
   pub runs : RunsTo program core limit done after left left_now before now
   pub watched : held_now ≡ keep_last room (held ++ fetches program (going_world core runs.fed) done.steps)
-
--- the ends that a machine's run has
-abbrev pub IsMachineEnd : Ending → Type 0
-IsMachineEnd ends.TooBig = ⊥
-IsMachineEnd ends.Stuck = ⊥
-IsMachineEnd ends.Gone = ⊥
-IsMachineEnd _ = Unit {0}
 
 -- how the machine stands after a run
 abbrev pub status_at : Ending → Status
