@@ -42,6 +42,17 @@ pub fn run(
     items: &[Item],
     due: &[u8],
 ) -> Result<(Ending, bool), Fail> {
+    run_for(alloc, stack_words, items, due, 1_000_000)
+}
+
+// The same, where it ends within so many instructions.
+pub fn run_for(
+    alloc: Global,
+    stack_words: u32,
+    items: &[Item],
+    due: &[u8],
+    steps: u64,
+) -> Result<(Ending, bool), Fail> {
     keep_limits(items)?;
     let assembled = assemble(alloc, items)?;
     let mut places = PlaceList::new(alloc);
@@ -59,6 +70,6 @@ pub fn run(
     let mut m = Machine::load(alloc, &image)?;
     let mut input = SteadySource::new(Vec::new(alloc));
     let mut output = SteadySink::new(alloc, 1024)?;
-    let run = run_machine(&mut m, &mut input, &mut output, 1_000_000);
+    let run = run_machine(&mut m, &mut input, &mut output, steps);
     Ok((run.end, output.bytes() == due))
 }

@@ -1,4 +1,4 @@
-use crate::tests::made::run;
+use crate::tests::made::run_for;
 use fy_base::Ending;
 use rv_flow::{lower_block, lower_entries};
 use rv_word::Micro;
@@ -19,7 +19,7 @@ fn asked(alloc: Global, address: u64, size: u16) -> Result<Ending, Fail> {
         Micro::End,
     ];
     lower_block(&mut items, 1, 0, 0, &micros)?;
-    Ok(run(alloc, 8192, &items, &[])?.0)
+    Ok(run_for(alloc, 8192, &items, &[], 100)?.0)
 }
 
 // The least and the largest windows of both checks.
