@@ -4,10 +4,10 @@ use Rattle.std.specs.List.{list_any}
 use Rattle.std.specs.Str.{bytes_eq}
 use Rattle.std.proofs.lemmas.List.Folds.{list_any-append}
 use Rattle.fy_base.specs.Outside.{Bytes}
-use Rattle.fy_phrase.specs.Tree.{Tree, Trees, var, lit, unary, binary, cond, case, lam, app, field, sel, merge, let_in, rec, skip, seq, assign, while_do, forever, new, cells, escape, accept, put, read, mark, no_trees, and_tree}
+use Rattle.fy_phrase.specs.Tree.{Trees, var, lit, unary, binary, cond, case, lam, app, field, sel, merge, let_in, rec, skip, seq, assign, while_do, forever, new, cells, escape, accept, put, read, mark, no_trees, and_tree}
 use Rattle.fy_short.specs.DataTexts.{put_word}
 use Rattle.fy_show.specs.Entries.{Fields, Entry, unnamed, one, all, Scope, Known, entry_at, field_name, is_field_name, has_name}
-use Rattle.fy_show.specs.Fresh.{record_at, used_as, is_some_name, field_used_as, uses, any_uses}
+use Rattle.fy_show.specs.Fresh.{record_at, used_as, is_some_name, field_used_as, any_uses}
 use Rattle.fy_show.specs.Names.{entry_names, names_as, name_alone, field_names_as, names_in, all_names_in}
 use Rattle.fy_show.specs.Laws.{UsesAreNames}
 

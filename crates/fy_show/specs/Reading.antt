@@ -5,7 +5,6 @@ use Rattle.fy_base.specs.Outside.{Bytes}
 use Rattle.fy_types.specs.Types.{PlainType}
 use Rattle.fy_types.specs.Reading.{plain_type}
 use Rattle.fy_phrase.specs.Tree.{Tree}
-use Rattle.fy_phrase.specs.Reads.{reads}
 use Rattle.fy_show.specs.declared.entries.FieldText.{FieldText}
 use Rattle.fy_show.specs.declared.entries.EntryText.{EntryText}
 use Rattle.fy_show.specs.declared.entries.EntryText.TheVariants as text

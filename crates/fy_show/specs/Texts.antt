@@ -2,9 +2,7 @@
 use Rattle.std.specs.Prelude.{ℕ, suc, ◌+◌, ◌/◌, pos, negsuc, Bool, true, false, ◌&&◌, ◌==◌, nat_le, nat_lt, if◌then◌else◌, Option, Some, None, option_map, List, [], ◌∷◌, ◌++◌, length, unwrap_or, codes}
 use Rattle.std.specs.Ordering.{int_eq}
 use Rattle.fy_base.specs.Outside.{Bytes}
-use Rattle.fy_base.specs.declared.data.Datum.{Datum}
 use Rattle.fy_base.specs.declared.data.Datum.TheVariants as datum
-use Rattle.fy_base.specs.declared.data.UnOp.{UnOp}
 use Rattle.fy_base.specs.declared.data.UnOp.TheVariants as unary_op
 use Rattle.fy_types.specs.Types.{PlainType, PlainTypes, no_types, and_type}
 use Rattle.fy_types.specs.Print.{name_text}
