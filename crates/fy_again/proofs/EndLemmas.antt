@@ -1,5 +1,5 @@
 -- Where a token before other bytes is the longest.
-use Rattle.std.proofs.Common.{◌≡◌, ℕ, ◌<◌, Bool, true, false, not, eqb, List, [], ◌∷◌, ◌++◌, length, refl, sym, ap, subst, ◌∙◌, arith, inl, inr}
+use Rattle.std.proofs.Common.{◌≡◌, ℕ, ◌<◌, Bool, true, false, not, eqb, List, [], ◌∷◌, ◌++◌, length, refl, sym, ap, subst, ◌∙◌, arith, inl, inr, eq-eqb}
 use Rattle.std.specs.List.{list_all}
 use Rattle.std.proofs.lemmas.Bool.{cases_lt}
 use Rattle.fy_base.specs.Outside.{Bytes}
@@ -23,7 +23,7 @@ pub longest : (names : List Bytes) (k : TokenKind) (piece rest : Bytes) → Spel
 longest names k piece [] h follows = longest_alone piece
 longest names k piece (z ∷ y) h (ending e) = longest_before z e names k piece y h
 
--- ---- an opening parenthesis is a token before any bytes
+-- ---- an opening parenthesis, a dot and a backslash are tokens before any bytes
 
 -- a symbol of one byte, or one that doesn't begin with this one
 abbrev begins_none : ℕ → Bytes → Bool
@@ -31,31 +31,52 @@ begins_none z [] = true
 begins_none z (b ∷ []) = true
 begins_none z (b ∷ c ∷ bytes) = not (eqb b z)
 
-open_alone : list_all (λ e. begins_none 40 e.0) symbols ≡ true
+-- a byte that is a symbol, and with which no longer one begins
+record IsAlone (z : ℕ) : Type 0 where
+  none : list_all (λ e. begins_none z e.0) symbols ≡ true
+  class : class_of z ≡ 7
+
+open-alone : IsAlone 40
 unfolding symbols
-open_alone = refl
+open-alone = record { none = refl; class = symbol-class 40 [] symbol.OpenParen (spelled [] (kind.Sym symbol.OpenParen) tt tt) }
 
-open-class : class_of 40 ≡ 7
-open-class = symbol-class 40 [] symbol.OpenParen (spelled [] (kind.Sym symbol.OpenParen) tt tt)
+dot-alone : IsAlone 46
+unfolding symbols
+dot-alone = record { none = refl; class = symbol-class 46 [] symbol.Dot (spelled [] (kind.Sym symbol.Dot) tt tt) }
 
-no_open : (names : List Bytes) (k : TokenKind) (c : ℕ) (more : Bytes) → Spells names k (40 ∷ c ∷ more) → ⊥
-no_open names k c more h = by k h (sym open-class ∙ first-token names k 40 (c ∷ more) h)
+backslash-alone : IsAlone 92
+unfolding symbols
+backslash-alone = record { none = refl; class = symbol-class 92 [] symbol.Backslash (spelled [] (kind.Sym symbol.Backslash) tt tt) }
+
+no_more : (z : ℕ) → IsAlone z → (names : List Bytes) (k : TokenKind) (c : ℕ) (more : Bytes) → Spells names k (z ∷ c ∷ more) → ⊥
+no_more z alone names k c more h = by k h (sym alone.class ∙ first-token names k z (c ∷ more) h)
   where
-    by : (k : TokenKind) → Spells names k (40 ∷ c ∷ more) → 7 ≡ kind_class k → ⊥
+    by : (k : TokenKind) → Spells names k (z ∷ c ∷ more) → 7 ≡ kind_class k → ⊥
     by (kind.Ident n) h e = omega (arith, e)
     by (kind.Word w) h e = omega (arith, e)
     by (kind.Number v) h e = omega (arith, e)
     by (kind.Letter b) h e = omega (arith, e)
     by (kind.Str bytes) h e = omega (arith, e)
-    by (kind.Sym s) h e = let f : false ≡ true = lookup-all (begins_none 40) symbols (40 ∷ c ∷ more) s open_alone h in cc
+    by (kind.Sym s) h e =
+        let f : not (eqb z z) ≡ true = lookup-all (begins_none z) symbols (z ∷ c ∷ more) s alone.none h in
+        let g : false ≡ true = sym (ap not (eq-eqb z z refl)) ∙ f in cc
     by kind.End h e = h
 
+alone-longest : (z : ℕ) → IsAlone z → (rest : Bytes) → IsLongest (z ∷ rest) (z ∷ [])
+alone-longest z alone rest [] others e t = omega arith
+alone-longest z alone rest (b ∷ []) others e t = omega arith
+alone-longest z alone rest (b ∷ c ∷ more) others e t =
+    let same : b ≡ z = cc in
+    absurd (no_more z alone t.names t.kind c more (subst (λ x. Spells t.names t.kind (x ∷ c ∷ more)) same t.spelled))
+
 pub open-longest : (rest : Bytes) → IsLongest (40 ∷ rest) (40 ∷ [])
-open-longest rest [] others e t = omega arith
-open-longest rest (b ∷ []) others e t = omega arith
-open-longest rest (b ∷ c ∷ more) others e t =
-    let same : b ≡ 40 = cc in
-    absurd (no_open t.names t.kind c more (subst (λ x. Spells t.names t.kind (x ∷ c ∷ more)) same t.spelled))
+open-longest rest = alone-longest 40 open-alone rest
+
+pub dot-longest : (rest : Bytes) → IsLongest (46 ∷ rest) (46 ∷ [])
+dot-longest rest = alone-longest 46 dot-alone rest
+
+pub backslash-longest : (rest : Bytes) → IsLongest (92 ∷ rest) (92 ∷ [])
+backslash-longest rest = alone-longest 92 backslash-alone rest
 
 -- ---- an identifier is a token before a colon
 

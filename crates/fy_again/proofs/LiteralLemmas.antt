@@ -112,10 +112,10 @@ line_element : (quote b : ℕ) (t : Bool) → b < 256 → escaped quote ≡ Some
 line_element quote b true h esc e = Element.escape 110 refl (ap Some (sym (eqb-true b 10 e)))
 line_element quote b false h esc e = tab_element quote b (b == 9) h esc refl
 
-element_read : (quote b : ℕ) → b < 256 → escaped quote ≡ Some quote → Element quote (element_text quote b) b
+pub element_read : (quote b : ℕ) → b < 256 → escaped quote ≡ Some quote → Element quote (element_text quote b) b
 element_read quote b h esc = line_element quote b (b == 10) h esc refl
 
-elements_read : (quote : ℕ) (bytes : Bytes) → AreBytes bytes → escaped quote ≡ Some quote → Elements quote (elements_text quote bytes) bytes
+pub elements_read : (quote : ℕ) (bytes : Bytes) → AreBytes bytes → escaped quote ≡ Some quote → Elements quote (elements_text quote bytes) bytes
 elements_read quote [] h esc = refl
 elements_read quote (b ∷ bytes) h esc = (element_text quote b, elements_text quote bytes, refl, element_read quote b h.0 esc, elements_read quote bytes h.1 esc)
 
@@ -125,7 +125,7 @@ not_least : (z : ℤ) → pos 0 ≤ℤ z → is_least z ≡ false
 not_least (pos n) h = refl
 not_least (negsuc n) h = absurd (omega (arith, ints, h))
 
-plain_int : (z : ℤ) → pos 0 ≤ℤ z → signed_decimal z ≡ int_text z
+pub plain_int : (z : ℤ) → pos 0 ≤ℤ z → signed_decimal z ≡ int_text z
 plain_int z h = sym (ap (λ b. if b then codes "-9223372036854775807 - 1" else signed_decimal z) (not_least z h))
 
 pub short_data_read : ShortDataAreReadAgain

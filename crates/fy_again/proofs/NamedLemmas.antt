@@ -58,7 +58,7 @@ sequence_named names are (PlainType.atom atoms.Char) x e =
     subst (λ y. IsNameOf names y (sequence_of (PlainType.atom atoms.Char))) same (named names are (codes "charseq") 10 _ refl (λ l. refl) (λ l. refl) refl)
 sequence_named names are B x e = absurd cc
 
-int-is : (A : PlainType) → is_int A ≡ true → A ≡ PlainType.atom atoms.Int
+pub int-is : (A : PlainType) → is_int A ≡ true → A ≡ PlainType.atom atoms.Int
 int-is (PlainType.atom atoms.Int) h = refl
 int-is A h = absurd (false≢true h)
 

@@ -78,7 +78,11 @@ mutual
       shows_more names A As (in_parentheses_unless (is_short A) (short_type names A)) (short_members names (codes " & ") As)
       (part names A (short_type names A) (shows names are A f.0 k.0)) (shows_further names are As f.1 k.1)
 
-kinds-append : (us vs : List Token) → kinds (us ++ vs) ≡ kinds us ++ kinds vs
+-- the short text of a type shows it
+pub shows_short : (names : List Bytes) → AreNames names → (A : PlainType) → HasFullMeets A → AllFields (IsIdentifierNumber names) A → Shows names TypeLevel.type A (short_type names A)
+shows_short names are A f k = (shows names are A f k).whole
+
+pub kinds-append : (us vs : List Token) → kinds (us ++ vs) ≡ kinds us ++ kinds vs
 kinds-append [] vs = refl
 kinds-append (u ∷ us) vs = ap (λ l. u.kind ∷ l) (kinds-append us vs)
 

@@ -1,5 +1,5 @@
 -- Texts of types by their parts: how they are read, and what their tokens spell.
-use Rattle.std.proofs.Common.{◌≡◌, ℕ, List, [], ◌∷◌, ◌++◌, codes, refl, sym, ap, ap₂, subst, ◌∙◌, append_assoc, Some}
+use Rattle.std.proofs.Common.{◌≡◌, ℕ, Option, None, is_none, List, [], ◌∷◌, ◌++◌, codes, refl, sym, ap, ap₂, subst, ◌∙◌, append_assoc, Some}
 use Rattle.fy_base.specs.Outside.{Bytes}
 use Rattle.fy_base.specs.declared.data.Place.{Place}
 use Rattle.fy_types.specs.declared.types.Atom.{Atom}
@@ -20,7 +20,10 @@ use Rattle.fy_syntax.specs.Signs.{TypeLevel, token, front, atom_word}
 use Rattle.fy_syntax.specs.Spells.{SpellsType, MoreTypes, Fields, meet_of}
 use Rattle.fy_syntax.specs.Printing.{IsIdentifierNumber}
 use Rattle.fy_syntax.proofs.KindTexts.{word_text, spelled, names_stay}
+use Rattle.fy_expand.specs.declared.error.ExpandError.TheVariants.{UnknownType}
+use Rattle.fy_expand.specs.Faults.{unknown, all_unknown}
 use Rattle.fy_expand.specs.Types.{type_of, types_of, named_type, predefined}
+use Rattle.fy_again.proofs.FaultLemmas.{both_fine, test_fine}
 use Rattle.fy_again.proofs.EndLemmas.{Follows, longest, open-longest, colon-longest}
 use Rattle.fy_again.proofs.ReadLemmas.{Reads, reads_blank, reads_token, reads_same, peel}
 
@@ -31,6 +34,7 @@ pub record SpelledAs (l : TypeLevel) (A : PlainType) (us : List Token) (ks : Lis
   pub spells : SpellsType l tree us rest
   pub left : kinds rest ≡ ks
   pub means : type_of predefined tree ≡ A
+  pub known : None ≡ unknown predefined tree
 
 -- the text shows the type at that level: it is read as tokens of some kinds, and such tokens spell the type
 pub record Shows (names : List Bytes) (l : TypeLevel) (A : PlainType) (text : Bytes) : Type 0 where
@@ -44,21 +48,21 @@ pub at_field : {names : List Bytes} {A : PlainType} {text : Bytes} → Shows nam
 at_field s = record {
   own = s.own;
   reads = s.reads;
-  taken = λ us ks e. let x = s.taken us ks e in record { tree = x.tree; rest = x.rest; spells = SpellsType.field {names = []} {a = x.tree} {ts = us} {m = us} {r = x.rest} Fields.no_fields x.spells; left = x.left; means = x.means };
+  taken = λ us ks e. let x = s.taken us ks e in record { tree = x.tree; rest = x.rest; spells = SpellsType.field {names = []} {a = x.tree} {ts = us} {m = us} {r = x.rest} Fields.no_fields x.spells; left = x.left; means = x.means; known = x.known };
 }
 
 pub at_inter : {names : List Bytes} {A : PlainType} {text : Bytes} → Shows names TypeLevel.field A text → Shows names TypeLevel.inter A text
 at_inter s = record {
   own = s.own;
   reads = s.reads;
-  taken = λ us ks e. let x = s.taken us ks e in record { tree = x.tree; rest = x.rest; spells = SpellsType.inter {a = x.tree} {more = TypeTrees.no_types} {ts = us} {m = x.rest} {r = x.rest} x.spells MoreTypes.no_types; left = x.left; means = x.means };
+  taken = λ us ks e. let x = s.taken us ks e in record { tree = x.tree; rest = x.rest; spells = SpellsType.inter {a = x.tree} {more = TypeTrees.no_types} {ts = us} {m = x.rest} {r = x.rest} x.spells MoreTypes.no_types; left = x.left; means = x.means; known = x.known };
 }
 
 pub at_type : {names : List Bytes} {A : PlainType} {text : Bytes} → Shows names TypeLevel.inter A text → Shows names TypeLevel.type A text
 at_type s = record {
   own = s.own;
   reads = s.reads;
-  taken = λ us ks e. let x = s.taken us ks e in record { tree = x.tree; rest = x.rest; spells = SpellsType.no_arrow x.spells; left = x.left; means = x.means };
+  taken = λ us ks e. let x = s.taken us ks e in record { tree = x.tree; rest = x.rest; spells = SpellsType.no_arrow x.spells; left = x.left; means = x.means; known = x.known };
 }
 
 -- ---- one token
@@ -92,6 +96,7 @@ shows_ns names =
             spells = subst (λ l. SpellsType TypeLevel.primary (TypeTree.ns p.place) l p.rest) (sym p.is) SpellsType.ns;
             left = p.left;
             means = refl;
+            known = refl;
           };
     }
 
@@ -121,6 +126,7 @@ shows_atom names a =
             spells = subst (λ l. SpellsType TypeLevel.primary (TypeTree.atom a p.place) l p.rest) (sym p.is) SpellsType.atom;
             left = p.left;
             means = refl;
+            known = refl;
           };
     }
 
@@ -138,6 +144,7 @@ shows_named names A text n sp stays is = record {
         spells = subst (λ l. SpellsType TypeLevel.primary (TypeTree.ident n p.place) l p.rest) (sym p.is) SpellsType.ident;
         left = p.left;
         means = ap named_type is;
+        known = test_fine (is_none (predefined n)) (UnknownType p.place) (ap (λ (o : Option PlainType). is_none o) is);
       };
 }
 
@@ -167,6 +174,7 @@ shows_group names A text s =
                 (SpellsType.group (subst (λ l. SpellsType TypeLevel.type x.tree p.rest l) q.is x.spells));
             left = q.left;
             means = x.means;
+            known = x.known;
           };
     }
 
@@ -182,10 +190,10 @@ shows_arrow names A B a b s t =
           let arrow =
           reads_token names (kind.Sym symbol.Arrow) (45 ∷ 62 ∷ []) (32 ∷ (b ++ rest)) (t.own ++ ks) (arrow_spelled names) refl
           (longest names (kind.Sym symbol.Arrow) (45 ∷ 62 ∷ []) (32 ∷ (b ++ rest)) (arrow_spelled names) (Follows.ending blank-ends)) behind in
-          let before = reads_blank names (45 ∷ 62 ∷ 32 ∷ (b ++ rest)) (kind.Sym symbol.Arrow ∷ (t.own ++ ks)) arrow in
+          let earlier = reads_blank names (45 ∷ 62 ∷ 32 ∷ (b ++ rest)) (kind.Sym symbol.Arrow ∷ (t.own ++ ks)) arrow in
           reads_same names (a ++ 32 ∷ 45 ∷ 62 ∷ 32 ∷ (b ++ rest)) ((a ++ codes " -> " ++ b) ++ rest) _ _
           (sym (append_assoc (a ++ codes " -> ") b rest ∙ append_assoc a (codes " -> ") (b ++ rest))) (sym (append_assoc s.own (kind.Sym symbol.Arrow ∷ t.own) ks))
-          (s.reads (32 ∷ 45 ∷ 62 ∷ 32 ∷ (b ++ rest)) (kind.Sym symbol.Arrow ∷ (t.own ++ ks)) (Follows.ending blank-ends) before);
+          (s.reads (32 ∷ 45 ∷ 62 ∷ 32 ∷ (b ++ rest)) (kind.Sym symbol.Arrow ∷ (t.own ++ ks)) (Follows.ending blank-ends) earlier);
       taken = λ us ks e.
           let x = domain.taken us (kind.Sym symbol.Arrow ∷ (t.own ++ ks)) (e ∙ append_assoc s.own (kind.Sym symbol.Arrow ∷ t.own) ks) in
           let p = peel x.rest (kind.Sym symbol.Arrow) (t.own ++ ks) x.left in
@@ -196,6 +204,7 @@ shows_arrow names A B a b s t =
             spells = SpellsType.arrow (subst (λ l. SpellsType TypeLevel.inter x.tree us l) p.is x.spells) y.spells;
             left = y.left;
             means = ap₂ (λ (X Y : PlainType). PlainType.arrow X Y) x.means y.means;
+            known = both_fine _ _ x.known y.known;
           };
     }
 
@@ -229,6 +238,7 @@ shows_field names i A a known s =
                 (Fields.and_field {n = i} {names = []} {ts = q.rest} {r = q.rest} {p = p.place} {q = q.place} Fields.no_fields) x.spells);
             left = x.left;
             means = ap (λ (X : PlainType). PlainType.field i X) x.means;
+            known = x.known;
           };
     }
 
@@ -240,6 +250,7 @@ pub record MoreSpelledAs (As : PlainTypes) (us : List Token) (ks : List TokenKin
   pub spells : MoreTypes symbol.Ampersand TypeLevel.field types us rest
   pub left : kinds rest ≡ ks
   pub means : types_of predefined types ≡ As
+  pub known : None ≡ all_unknown predefined types
 
 -- the text shows further members, each behind ` & `
 pub record ShowsMore (names : List Bytes) (As : PlainTypes) (text : Bytes) : Type 0 where
@@ -253,7 +264,7 @@ shows_none names = record {
   own = [];
   follows = λ rest f. f;
   reads = λ rest ks f r. r;
-  taken = λ us ks e. record { types = TypeTrees.no_types; rest = us; spells = MoreTypes.no_types; left = e; means = refl };
+  taken = λ us ks e. record { types = TypeTrees.no_types; rest = us; spells = MoreTypes.no_types; left = e; means = refl; known = refl };
 }
 
 pub shows_more : (names : List Bytes) (A : PlainType) (As : PlainTypes) (a more : Bytes) → Shows names TypeLevel.primary A a → ShowsMore names As more →
@@ -286,6 +297,7 @@ shows_more names A As a more s t =
                 (MoreTypes.and_type x.spells y.spells);
             left = y.left;
             means = ap₂ (λ (X : PlainType) (Y : PlainTypes). PlainTypes.and_type X Y) x.means y.means;
+            known = both_fine _ _ x.known y.known;
           };
     }
 
@@ -293,6 +305,10 @@ meet-means : (a : TypeTree) (more : TypeTrees) (at : Place) (A B : PlainType) (A
     type_of predefined (meet_of a more at) ≡ PlainType.meet (PlainTypes.and_type A (PlainTypes.and_type B As))
 meet-means a TypeTrees.no_types at A B As e f = absurd cc
 meet-means a (TypeTrees.and_type b more) at A B As e f = ap₂ (λ (X : PlainType) (Y : PlainTypes). PlainType.meet (PlainTypes.and_type X Y)) e f
+
+meet-known : (a : TypeTree) (more : TypeTrees) (at : Place) → None ≡ unknown predefined a → None ≡ all_unknown predefined more → None ≡ unknown predefined (meet_of a more at)
+meet-known a TypeTrees.no_types at h g = h
+meet-known a (TypeTrees.and_type b more) at h g = both_fine _ _ h g
 
 pub shows_meet : (names : List Bytes) (A B : PlainType) (As : PlainTypes) (a more : Bytes) → Shows names TypeLevel.primary A a → ShowsMore names (PlainTypes.and_type B As) more →
     Shows names TypeLevel.inter (PlainType.meet (PlainTypes.and_type A (PlainTypes.and_type B As))) (a ++ more)
@@ -313,5 +329,6 @@ shows_meet names A B As a more s t =
             spells = SpellsType.inter {a = x.tree} {more = y.types} {ts = us} {m = x.rest} {r = y.rest} x.spells y.spells;
             left = y.left;
             means = meet-means x.tree y.types (front us) A B As x.means y.means;
+            known = meet-known x.tree y.types (front us) x.known y.known;
           };
     }

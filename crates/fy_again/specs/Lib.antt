@@ -1,1 +1,3 @@
 pub mod Again
+pub mod Phrases
+pub mod Programs

@@ -4,5 +4,6 @@
 mod laws;
 
 pub use laws::{
-    short_data_are_read_again, short_strings_are_read_again, short_types_are_read_again,
+    phrases_are_read_again, programs_are_read_again, short_data_are_read_again,
+    short_strings_are_read_again, short_types_are_read_again,
 };
