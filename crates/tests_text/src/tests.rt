@@ -5,3 +5,4 @@ mod made;
 mod show;
 mod syntax;
 mod told;
+mod why;

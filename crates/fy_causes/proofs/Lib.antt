@@ -1,0 +1,12 @@
+pub mod ArmLemmas
+pub mod AroundLemmas
+pub mod BlameLemmas
+pub mod BodyLemmas
+pub mod CauseLemmas
+pub mod EmptyLemmas
+pub mod FailLemmas
+pub mod FormLemmas
+pub mod HollowLemmas
+pub mod LoopLemmas
+pub mod PathLemmas
+pub mod WalkLemmas

@@ -1,0 +1,9 @@
+use Rattle.std.proofs.Common.{◌≡◌, ◌++◌, drop, map}
+use Rattle.fy_types.specs.Reading.{paths_from, plain_path}
+use Rattle.fy_causes.specs.Causes.{domains_in}
+use Rattle.fy_causes.specs.Readings.{domain_read}
+use Rattle.fy_causes.proofs.causes.domains_of.Given as goal
+
+abbrev pub invariant-loop-head : goal.invariant-loop-head
+invariant-loop-head l =
+    map domain_read l.all.items ++ domains_in (paths_from (map plain_path (drop l.head-index l.head-items))) ≡ domains_in (paths_from (map plain_path l.head-items))
