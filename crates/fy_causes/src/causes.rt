@@ -256,23 +256,7 @@ fn other_cause(
         }
         Phrase::Rec(_, ty, _, _) => declared_cause(alloc, ty, parts),
         Phrase::Assign(..) => assignment_cause(alloc, parts),
-        Phrase::Lit(..)
-        | Phrase::Unary(..)
-        | Phrase::Lam(..)
-        | Phrase::Field(..)
-        | Phrase::Merge(..)
-        | Phrase::LetIn(..)
-        | Phrase::Skip(_)
-        | Phrase::Seq(..)
-        | Phrase::WhileDo(..)
-        | Phrase::Forever(..)
-        | Phrase::New(..)
-        | Phrase::Cells(..)
-        | Phrase::Escape(..)
-        | Phrase::Accept(..)
-        | Phrase::Put(..)
-        | Phrase::Read(..)
-        | Phrase::Mark(..) => Ok(Cause::NotCommand),
+        _ => Ok(Cause::NotCommand),
     }
 }
 
