@@ -17,10 +17,7 @@ pub struct DeclaredField<'a> {
 }
 
 /// The fields of the type, in order.
-pub(crate) fn declared_fields<'a>(
-    alloc: Global,
-    ty: &'a Ty,
-) -> Result<Vec<DeclaredField<'a>>, OutOfMemory>
+pub fn declared_fields<'a>(alloc: Global, ty: &'a Ty) -> Result<Vec<DeclaredField<'a>>, OutOfMemory>
     ensures { IfOk result (λ v. declared_read v.items ≡ fields_of (plain_type ty.now)) }
 {
     let mut fields = Vec::new(alloc);

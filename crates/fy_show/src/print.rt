@@ -112,9 +112,9 @@ fn put_form(text: &mut Vec<u8>, view: &View<'_, '_>, p: &Phrase) -> Result<(), O
     }
 }
 
-// A part, in parentheses where its level is below that one.
+/// Puts a part behind the text, in parentheses where its level is below that one.
 #[cycle(print)]
-fn put_part(
+pub fn put_part(
     text: &mut Vec<u8>,
     view: &View<'_, '_>,
     level: u8,
@@ -356,9 +356,9 @@ fn put_items(
     put_item(text, view, halves, q)
 }
 
-// An item of a sequence, which goes on with its own items where the sequence is parted into halves.
+/// Puts an item of a sequence behind the text, which goes on with its own items where the sequence is parted into halves.
 #[cycle(print)]
-fn put_item(
+pub fn put_item(
     text: &mut Vec<u8>,
     view: &View<'_, '_>,
     halves: bool,
@@ -373,9 +373,13 @@ fn put_item(
     }
 }
 
-// What `seq` or a string is written as.
+/// Puts what `seq` or a string is written as behind the text.
 #[cycle(print)]
-fn put_sequence(text: &mut Vec<u8>, view: &View<'_, '_>, parts: &Parts) -> Result<(), OutOfMemory>
+pub fn put_sequence(
+    text: &mut Vec<u8>,
+    view: &View<'_, '_>,
+    parts: &Parts,
+) -> Result<(), OutOfMemory>
     ensures { OnOk result (text.new.items ≡ text.old.items ++ sequence_text (reads_parts parts.now)
         (parts_text (known_read view.now.known.now) (scope_read view.now.scope.now) view.now.manner [] (reads_parts parts.now))) }
 {
@@ -539,10 +543,10 @@ fn put_rec(
     put_entry(text, Some(&entry))
 }
 
-// `letrec f: A, .. where f == p, ..`
+/// Puts `letrec f: A, .. where f == p, ..` behind the text.
 #[tactic(auto, using(crate::proofs::ScopeLemmas::scopes))]
 #[cycle(print)]
-fn put_letrec<'x>(
+pub fn put_letrec<'x>(
     text: &mut Vec<u8>,
     view: &View<'_, 'x>,
     entry: &'x EntryText,
@@ -698,8 +702,8 @@ fn put_field_text(text: &mut Vec<u8>, fields: &[FieldText], name: Name) -> Resul
     }
 }
 
-// The name of a binder.
-fn put_one(text: &mut Vec<u8>, entry: &EntryText) -> Result<(), OutOfMemory>
+/// Puts the name of a binder behind the text.
+pub fn put_one(text: &mut Vec<u8>, entry: &EntryText) -> Result<(), OutOfMemory>
     ensures { OnOk result (text.new.items ≡ text.old.items ++ entry_name (entry_read entry.now)) }
 {
     match entry {

@@ -149,7 +149,7 @@ pub(crate) fn letters(alloc: Global, parts: &Parts) -> Result<Option<Vec<u8>>, O
 
 /// Whether a sequence of these is the one into whose halves its items are parted.
 #[cycle(halved)]
-pub(crate) fn is_halved_pair(p: &Phrase, q: &Phrase) -> bool
+pub fn is_halved_pair(p: &Phrase, q: &Phrase) -> bool
     ensures { result ≡ (are_halves (reads p.now) (reads q.now) && (is_halved_of (reads p.now) && is_halved_of (reads q.now))) }
 {
     let first = item_count(p);

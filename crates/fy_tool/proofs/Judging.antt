@@ -1,4 +1,4 @@
--- From what judging a derivation came to, to what is due for `judge`.
+-- From what judging a derivation came to, to what is due for `judge`, and what writing lines below a note did.
 use Rattle.std.proofs.Common.{◌≡◌, ◌≢◌, ◌∙◌, ℕ, ◌<◌, ◌≤◌, List, [], ◌∷◌, length, sym, ap, refl, subst, false, Some, None, Ok, Err}
 use Rattle.std.specs.Prelude.{IfOk}
 use Rattle.std.specs.declared.option.Option.{Option}
@@ -22,7 +22,6 @@ use Rattle.fy_told.specs.ReasonTexts.{source_names, told_of}
 use Rattle.fy_words.specs.Order.{judge}
 use Rattle.fy_world.specs.World.{Contents, Counts}
 use Rattle.fy_world.specs.Note.{ended_lines, read_note, texts}
-use Rattle.fy_world.specs.Runs.{Due, told as told_due}
 use Rattle.fy_world.specs.Did.{Did}
 use Rattle.fy_world.specs.declared.note.Note.{Note}
 use Rattle.fy_world.specs.declared.note.Note.TheVariants as note
@@ -34,7 +33,7 @@ use Rattle.fy_front.specs.declared.refusal.Refusal.{Refusal}
 use Rattle.fy_front.specs.declared.texts.Core.{Core}
 use Rattle.fy_front.specs.Checked.{IsCore, IsUnjudged}
 use Rattle.fy_tool.specs.Given.{HasBinders, IsStoppedAt, handed, unread, too_long, before_typing, by_derivation, by_shapes}
-use Rattle.fy_tool.specs.Due.{accepted as accepted_due, judges, misjudges, tells_lines}
+use Rattle.fy_tool.specs.Due.{accepted as accepted_due, judges, lined, misjudges, tells_lines}
 use Rattle.fy_tool.specs.Answers.{Serves}
 use Rattle.fy_tool.specs.Fetched.{HasFetched}
 use Rattle.fy_tool.specs.Working.{HasWritten, IsGivenInUse, Judges, JudgesFor, JudgesUnder, JudgesWritten, ReadFrom, Tables, WasJudged}
@@ -156,16 +155,13 @@ stopped_some text (Some written) node lines is = λ none. told_some (source_name
 
 -- ---- what was done
 
-abbrev pub stopped_due : ℕ → Bytes → Due
-stopped_due node lines = record (told_due 8 (note.DerivationNode node ∷ [])) { output = lines }
-
 -- the lines weren't all put
-pub stop_unput : (node : ℕ) (lines : Bytes) (b c : Contents) (stop : Stop) → lines ≢ [] → c ≡ record b { output = c.output } → GainedPart b.output c.output lines → stop ≡ Output → Did (stopped_due node lines) b c (Err stop)
-stop_unput node lines b c stop some rest part stop_is = record {
+pub lines_unput : (status : ℕ) (why : Note) (lines : Bytes) (b c : Contents) (stop : Stop) → lines ≢ [] → c ≡ record b { output = c.output } → GainedPart b.output c.output lines → stop ≡ Output → Did (lined status why lines) b c (Err stop)
+lines_unput status why lines b c stop some rest part stop_is = record {
   files = ap (λ (x : Contents). x.files) rest;
   input = ap (λ (x : Contents). x.input) rest;
   output = part;
-  notes = subst (λ n. GainedPart b.notes n (ended_lines (texts (note.DerivationNode node ∷ [])))) (sym (ap (λ (x : Contents). x.notes) rest)) (nothing b.notes (ended_lines (texts (note.DerivationNode node ∷ []))));
+  notes = subst (λ n. GainedPart b.notes n (ended_lines (texts (why ∷ [])))) (sym (ap (λ (x : Contents). x.notes) rest)) (nothing b.notes (ended_lines (texts (why ∷ []))));
   unchanged = λ _. ap (λ (x : Contents). x.files) rest;
   whole = λ memory. let clash : Output ≡ Memory = sym stop_is ∙ memory in absurd cc;
   unkept = λ keep. let clash : Output ≡ Keep = sym stop_is ∙ keep in absurd cc;
@@ -175,10 +171,10 @@ stop_unput node lines b c stop some rest part stop_is = record {
   due_kept = λ keep. let clash : Output ≡ Keep = sym stop_is ∙ keep in absurd cc;
 }
 
--- they were put, and the node wasn't told
-pub stop_untold : (node : ℕ) (lines : Bytes) (b c d : Contents) (stop : Stop) → c ≡ record b { output = appended b.output lines } → d ≡ record c { notes = d.notes }
-    → GainedPart c.notes d.notes (ended_lines (texts (note.DerivationNode node ∷ []))) → stop ≡ Notes → Did (stopped_due node lines) b d (Err stop)
-stop_untold node lines b c d stop put rest part stop_is =
+-- they were put, and the note wasn't told
+pub lines_untold : (status : ℕ) (why : Note) (lines : Bytes) (b c d : Contents) (stop : Stop) → c ≡ record b { output = appended b.output lines } → d ≡ record c { notes = d.notes }
+    → GainedPart c.notes d.notes (ended_lines (texts (why ∷ []))) → stop ≡ Notes → Did (lined status why lines) b d (Err stop)
+lines_untold status why lines b c d stop put rest part stop_is =
     let files : d.files ≡ b.files = ap (λ (x : Contents). x.files) rest ∙ ap (λ (x : Contents). x.files) put in
     let input : d.input ≡ b.input = ap (λ (x : Contents). x.input) rest ∙ ap (λ (x : Contents). x.input) put in
     let output : d.output ≡ appended b.output lines = ap (λ (x : Contents). x.output) rest ∙ ap (λ (x : Contents). x.output) put in
@@ -186,7 +182,7 @@ stop_untold node lines b c d stop put rest part stop_is =
       files = files;
       input = input;
       output = subst (λ o. GainedPart b.output o lines) (sym output) (all_gained b.output lines);
-      notes = subst (λ n. GainedPart n d.notes (ended_lines (texts (note.DerivationNode node ∷ [])))) (ap (λ (x : Contents). x.notes) put) part;
+      notes = subst (λ n. GainedPart n d.notes (ended_lines (texts (why ∷ [])))) (ap (λ (x : Contents). x.notes) put) part;
       unchanged = λ _. files;
       whole = λ memory. let clash : Notes ≡ Memory = sym stop_is ∙ memory in absurd cc;
       unkept = λ keep. let clash : Notes ≡ Keep = sym stop_is ∙ keep in absurd cc;
@@ -196,15 +192,15 @@ stop_untold node lines b c d stop put rest part stop_is =
       due_kept = λ keep. let clash : Notes ≡ Keep = sym stop_is ∙ keep in absurd cc;
     }
   where
-    some_texts : texts (note.DerivationNode node ∷ []) ≢ []
+    some_texts : texts (why ∷ []) ≢ []
     some_texts = λ e. cc
 
 -- both were done
-pub stop_told : (node : ℕ) (lines : Bytes) (b c d : Contents) → c ≡ record b { output = appended b.output lines } → d ≡ record c { notes = appended c.notes (ended_lines (texts (note.DerivationNode node ∷ []))) }
-    → Did (stopped_due node lines) b d (Ok 8)
-stop_told node lines b c d put told_is = (
+pub lines_told : (status : ℕ) (why : Note) (lines : Bytes) (b c d : Contents) → c ≡ record b { output = appended b.output lines } → d ≡ record c { notes = appended c.notes (ended_lines (texts (why ∷ []))) }
+    → Did (lined status why lines) b d (Ok status)
+lines_told status why lines b c d put told_is = (
   refl,
-  told_is ∙ ap (λ (x : Contents). record { files = x.files; input = x.input; output = x.output; notes = appended x.notes (ended_lines (texts (note.DerivationNode node ∷ []))) }) put,
+  told_is ∙ ap (λ (x : Contents). record { files = x.files; input = x.input; output = x.output; notes = appended x.notes (ended_lines (texts (why ∷ []))) }) put,
 )
 
 -- ---- what is due
@@ -217,9 +213,9 @@ serves_judged file name text derivation b c d k k1 k2 e e1 e2 result is a ready 
 
 -- one at a node of which judging stops
 pub serves_stop : (file name text : Bytes) (derivation : Option Bytes) (node : ℕ) (lines : Bytes) (b c d : Contents) (k k1 k2 : Counts) (e e1 e2 : FileCalls) (result : Result ℕ Stop)
-    → HasWritten derivation (λ written. IsStoppedAt text written node lines) → After (judge file name) (both text derivation) b c d k k1 k2 e e1 e2 result → result ≢ Err Memory → Did (stopped_due node lines) c d result
+    → HasWritten derivation (λ written. IsStoppedAt text written node lines) → After (judge file name) (both text derivation) b c d k k1 k2 e e1 e2 result → result ≢ Err Memory → Did (lined 8 (note.DerivationNode node) lines) c d result
     → Serves (Some (judge file name)) b d k k2 e e2 result
 serves_stop file name text None node lines b c d k k1 k2 e e1 e2 result is a ready did = absurd is
 serves_stop file name text (Some written) node lines b c d k k1 k2 e e1 e2 result is a ready did =
-    done_quietly (judge file name) (both text (Some written)) b c d k k1 k2 e e1 e2 result (stopped_due node lines) a (λ input. misjudges file name text written node lines refl refl is) did
+    done_quietly (judge file name) (both text (Some written)) b c d k k1 k2 e e1 e2 result (lined 8 (note.DerivationNode node) lines) a (λ input. misjudges file name text written node lines refl refl is) did
     (λ _ memory. absurd (ready memory)) (λ _ _. a.kept)

@@ -14,3 +14,4 @@ pub mod ReadUnits
 pub mod Linking
 pub mod UnitCommands
 pub mod Judging
+pub mod Explaining

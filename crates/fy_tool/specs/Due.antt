@@ -31,7 +31,7 @@ use Rattle.fy_link.specs.UnitBytes.{unit_bytes}
 use Rattle.fy_link.specs.declared.linking.Linked.{Linked}
 use Rattle.fy_link.specs.declared.unit.Unit.{Unit as UnitValue}
 use Rattle.fy_sample.specs.Sample.{sample_text}
-use Rattle.fy_words.specs.Order.{Order, stack_wanted, steps_wanted, copy_wanted, trace_steps_wanted}
+use Rattle.fy_words.specs.Order.{Order, stack_wanted, steps_wanted, copy_wanted, trace_steps_wanted, width_wanted}
 use Rattle.fy_words.specs.Order as orders
 use Rattle.fy_world.specs.Runs.{Due, told, written, IsRun, ran, sampled, running_of, CopyEnd, IsCopyRun, copied, stepped, stepping_of}
 use Rattle.fy_world.specs.Note.{ended_lines, refusal_note, elf_note}
@@ -39,9 +39,11 @@ use Rattle.fy_world.specs.Shown.{listing}
 use Rattle.fy_world.specs.Steps.{StepEnd, IsSteppedRun}
 use Rattle.fy_world.specs.declared.note.Note.{Note}
 use Rattle.fy_world.specs.declared.note.Note.TheVariants as note
+use Rattle.fy_base.specs.declared.data.Place.{Place}
 use Rattle.fy_front.specs.declared.refusal.Refusal.{Refusal}
-use Rattle.fy_front.specs.Checked.{IsProgramText, IsInUse, IsAccepted, HasNames}
-use Rattle.fy_tool.specs.Given.{IsGiven, IsStoppedAt, IsTurnedDown}
+use Rattle.fy_front.specs.declared.refusal.Refusal.TheVariants as refusal
+use Rattle.fy_front.specs.Checked.{IsProgramText, IsInUse, IsAccepted, IsRefusedFor, HasNames}
+use Rattle.fy_tool.specs.Given.{IsGiven, IsStoppedAt, IsToldWhy, IsTurnedDown}
 use Rattle.fy_tool.specs.Units.{Listed, ListsUnits, names_of, IsUnitOfText, IsNoUnit, IsLinkedBy, IsNotLinked, PassesShapes}
 
 -- ---- what an order reads and keeps
@@ -82,6 +84,7 @@ abbrev pub signature_of : Order → Signature
 signature_of (orders.check file) = taking (program_text file)
 signature_of (orders.derive file) = taking (program_text file)
 signature_of (orders.judge file named) = record (taking (program_text file)) { derivation = Some named }
+signature_of (orders.why file width) = taking (program_text file)
 signature_of (orders.build file image stack named) = record (taking (program_text file)) { derivation = named; keeps = Some image }
 signature_of (orders.exec image steps last) = record (taking (image_bytes image)) { runs_image = true; ready_first = is_none last }
 signature_of (orders.run file steps stack named image) = record (taking (program_text file)) { derivation = named; keeps = Some (kept_as file image); runs_image = true }
@@ -157,6 +160,7 @@ RunsImage order = T (signature_of order).runs_image
 -- a note below which lines are due at output
 abbrev pub tells_lines : Order → Note → Bool
 tells_lines (orders.judge file named) (note.DerivationNode node) = true
+tells_lines (orders.why file width) (note.Refused (refusal.NoType place)) = true
 tells_lines order why = false
 
 -- ---- images
@@ -188,7 +192,7 @@ pub record RunsBuilt (text : Bytes) (named derivation : Option Bytes) (stack ste
 
 -- ---- what is due
 
--- what `check` is due to write of a text that is accepted, and `judge` of a derivation
+-- what `check` and `why` are due to write of a text that is accepted, and `judge` of a derivation
 abbrev pub accepted : Due
 accepted = written (codes "accepted" ++ 10 ∷ [])
 
@@ -199,6 +203,10 @@ audited = written (codes "audited" ++ 10 ∷ [])
 -- bytes kept under a name, and nothing else
 abbrev pub kept : Bytes → Bytes → Due
 kept name bytes = record { status = 0; output = []; notes = []; kept = Some (name, bytes); rest = None; running = None }
+
+-- lines below a note
+abbrev pub lined : ℕ → Note → Bytes → Due
+lined status why lines = record (told status (why ∷ [])) { output = lines }
 
 -- what is due for the words, by what the files hold that they name and by the input
 pub data IsDue (sources : Sources) (input : Bytes) : Option Order → Due → Type 0 where
@@ -222,7 +230,13 @@ pub data IsDue (sources : Sources) (input : Bytes) : Option Order → Due → Ty
       → IsDue sources input (Some (orders.judge file name)) accepted
   -- `judge` of one that isn't tells the node at which judging stops, and writes why
   misjudges : (file name text derivation : Bytes) (node : ℕ) (lines : Bytes) → sources.file ≡ Some text → sources.derivation ≡ Some derivation → IsStoppedAt text derivation node lines
-      → IsDue sources input (Some (orders.judge file name)) (record (told 8 (note.DerivationNode node ∷ [])) { output = lines })
+      → IsDue sources input (Some (orders.judge file name)) (lined 8 (note.DerivationNode node) lines)
+  -- `why` of a text that is accepted
+  untold : (file text : Bytes) (width : Option ℕ) → sources.file ≡ Some text → IsAccepted text → IsDue sources input (Some (orders.why file width)) accepted
+  -- `why` of a text that has no type tells the place that `check` tells, and writes why
+  explains : (file text : Bytes) (width : Option ℕ) (place : Place) (lines : Bytes) → sources.file ≡ Some text → IsRefusedFor text (refusal.NoType place)
+      → IsToldWhy text (width_wanted width) lines
+      → IsDue sources input (Some (orders.why file width)) (lined 2 (note.Refused (refusal.NoType place)) lines)
   -- `build` keeps the image's bytes, in version 2
   builds : (file name : Bytes) (stack : Option ℕ) (named : Option Bytes) (text : Bytes) (image : Image) (bytes : Bytes) → sources.file ≡ Some text
       → IsBuilt text named sources.derivation (stack_wanted stack) image → IsSpelled Two image bytes

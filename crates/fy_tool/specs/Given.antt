@@ -15,6 +15,8 @@ use Rattle.fy_reasons.specs.Reasons.{reason_of}
 use Rattle.fy_show.specs.Binders.{program_binders}
 use Rattle.fy_show.specs.declared.binders.Binder.{Binder}
 use Rattle.fy_told.specs.ReasonTexts.{source_names, told_of}
+use Rattle.fy_causes.specs.Hollow.{Told, why_of}
+use Rattle.fy_why.specs.Texts.{why_text}
 use Rattle.fy_least.specs.Pairs.{HasAllPairs}
 use Rattle.fy_read.specs.FieldNames.{NumbersFields}
 use Rattle.fy_read.specs.Refusals.{IsReadFault, KeepsThroughout}
@@ -80,3 +82,15 @@ pub record IsStoppedAt (text written : Bytes) (node : ℕ) (lines : Bytes) : Typ
   pub binders : List Binder
   pub named : HasBinders text (place_of p) binders
   pub lines_are : lines ≡ told_of (source_names spelled.after binders) d p (reason_of d p)
+
+-- the lines tell why the text has no type, with its names and with phrases in at most so many bytes
+pub record IsToldWhy (text : Bytes) (width : ℕ) (lines : Bytes) : Type 0 where
+  pub p : Tree
+  pub is_judged : IsJudged text (Ok p)
+  pub why : Told
+  pub is_why : why_of p ≡ Some why
+  pub names : List Bytes
+  pub numbered : HasNames text names
+  pub binders : List Binder
+  pub named : HasBinders text (place_of p) binders
+  pub lines_are : lines ≡ why_text width (source_names names binders) (Some why)

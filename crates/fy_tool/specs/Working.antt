@@ -6,7 +6,12 @@ use Rattle.std.specs.declared.option.Option.{Option}
 use Rattle.std.specs.declared.result.Result.{Result}
 use Rattle.std.specs.declared.vec.Vec.{Vec}
 use Rattle.fy_base.specs.Outside.{Bytes, FileCalls, Folder, Rose, Tells}
-use Rattle.fy_phrase.specs.Tree.{Tree}
+use Rattle.fy_base.specs.declared.data.Place.{Place}
+use Rattle.fy_phrase.specs.Tree.{Tree, place_of}
+use Rattle.fy_show.specs.declared.binders.Binder.{Binder}
+use Rattle.fy_told.specs.ReasonTexts.{source_names}
+use Rattle.fy_causes.specs.Hollow.{why_of}
+use Rattle.fy_why.specs.Texts.{why_text}
 use Rattle.fy_phrase.specs.Reads.{reads}
 use Rattle.fy_phrase.specs.declared.shapes.ShapeTable.{ShapeTable}
 use Rattle.fy_expand.specs.Judged.{IsJudged, IsJudgedFrom}
@@ -53,12 +58,14 @@ use Rattle.fy_world.specs.Stepping.{HasStepped}
 use Rattle.fy_world.specs.Did.{Did}
 use Rattle.fy_world.specs.Working.{IsUnbegun, Keeps, KeepsAndRuns, KeepsAndSamples, listed}
 use Rattle.fy_world.specs.declared.note.Note.{Note}
+use Rattle.fy_world.specs.declared.note.Note.TheVariants as note
 use Rattle.fy_front.specs.declared.refusal.Refusal.{Refusal}
+use Rattle.fy_front.specs.declared.refusal.Refusal.TheVariants as refused
 use Rattle.fy_world.specs.declared.world.Stop.{Stop}
 use Rattle.fy_world.specs.declared.world.Stop.TheVariants.{Fetch}
-use Rattle.fy_front.specs.Checked.{IsRefusedFor, shapes_refusal, IsCore, IsInUse, IsUnjudged, IsOfText}
-use Rattle.fy_words.specs.Order.{judge}
-use Rattle.fy_tool.specs.Given.{IsGiven, IsStoppedAt, IsTurnedDown, Spells}
+use Rattle.fy_front.specs.Checked.{IsAccepted, IsRefusedFor, shapes_refusal, IsCore, IsInUse, IsUnjudged, IsOfText, HasNames}
+use Rattle.fy_words.specs.Order.{judge, why}
+use Rattle.fy_tool.specs.Given.{HasBinders, IsGiven, IsStoppedAt, IsToldWhy, IsTurnedDown, Spells}
 use Rattle.fy_tool.specs.Due.{TellsNamed, AreListed, AreTold, tells_lines}
 use Rattle.fy_tool.specs.Fetched.{HasFetched, LastRose}
 use Rattle.fy_tool.specs.Units.{most_unit, Listed, names_of, ListsUnits, ListsNone, IsUnitOfText, IsNoUnit, AreUnitsRead, IsBadObject, IsLinkedBy, IsNotLinked, link_note}
@@ -68,6 +75,8 @@ use Rattle.fy_tool.specs.declared.given.TurnedDown.{TurnedDown}
 use Rattle.fy_tool.specs.declared.judge.Judgement.{Judgement}
 use Rattle.fy_tool.specs.declared.judge.Judgement.TheVariants as judgement
 use Rattle.fy_tool.specs.declared.texts.Source.{Source}
+use Rattle.fy_tool.specs.declared.why.Telling.{Telling}
+use Rattle.fy_tool.specs.declared.why.Telling.TheVariants as telling
 use Rattle.fy_tool.specs.declared.link.Together.{Together}
 use Rattle.fy_tool.specs.declared.objects.Objects.{Objects}
 
@@ -195,6 +204,30 @@ pub record WasJudged (file name : Bytes) (files : Option Folder) (calls calls' :
 
 abbrev pub Judges : Bytes → Bytes → Option Folder → FileCalls → FileCalls → Result Judgement Stop → Type 0
 Judges file name files calls calls' result = IfOk result (WasJudged file name files calls calls')
+
+-- the lines are those of the phrase of the text, with its names and with phrases in at most so many bytes
+pub record TellsWhy (text : Bytes) (width : ℕ) (lines : Bytes) : Type 0 where
+  pub p : Tree
+  pub is_judged : IsJudged text (Ok p)
+  pub names : List Bytes
+  pub numbered : HasNames text names
+  pub binders : List Binder
+  pub named : HasBinders text (place_of p) binders
+  pub lines_are : lines ≡ why_text width (source_names names binders) (why_of p)
+
+-- the place of a phrase that has no type, if that is why the text is refused
+abbrev pub untyped_at : Refusal → Option Place
+untyped_at (refused.NoType place) = Some place
+untyped_at refusal = None
+
+-- what is told of a text: it is accepted, or a stage other than the type refuses it, or it has no type, as lines tell
+abbrev pub ExplainsText : Bytes → ℕ → Telling → Type 0
+ExplainsText text width telling.Accepted = IsAccepted text
+ExplainsText text width (telling.Refused refusal) = IsRefusedFor text refusal × (tells_lines (why [] None) (note.Refused refusal) ≡ false)
+ExplainsText text width (telling.Untyped place lines) = IsRefusedFor text (refused.NoType place) × IsToldWhy text width lines
+
+abbrev pub Explains : Bytes → ℕ → Option Folder → Result Telling Stop → Type 0
+Explains file width files result = IfOk result (λ found. (text : Bytes) × Tells files file (Some text) × ExplainsText text width found)
 
 -- ---- images
 

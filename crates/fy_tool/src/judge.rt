@@ -13,9 +13,9 @@ ghost use Rattle.fy_told.specs.ReasonTexts.{source_names, told_of};
 ghost use Rattle.fy_words.specs.Order.{judge};
 ghost use Rattle.fy_world.specs.Counted.{Counted, IsReadStop};
 ghost use Rattle.fy_world.specs.Did.{Did, IsOwn};
-ghost use Rattle.fy_world.specs.Runs.{told};
 ghost use Rattle.fy_tool.specs.Answers.{Serves};
 ghost use Rattle.fy_tool.specs.Given.{HasBinders};
+ghost use Rattle.fy_tool.specs.Due.{lined};
 ghost use Rattle.fy_tool.specs.Working.{Judges, JudgesFor, JudgesUnder, JudgesWritten, WasUngiven};
 
 use crate::given::{TurnedDown, WRITTEN_LIMIT, read_named, stop_of, table_of};
@@ -42,8 +42,8 @@ pub(crate) enum Judgement {
     Stopped { node: u32, lines: Text },
 }
 
-// The names that a text gives its binders, where its phrase stands at that place.
-fn binders_of(alloc: Global, at: Place, text: &[u8]) -> Result<Vec<Binder>, FrontError>
+/// The names that a text gives its binders, where its phrase stands at that place.
+pub(crate) fn binders_of(alloc: Global, at: Place, text: &[u8]) -> Result<Vec<Binder>, FrontError>
     requires { length text.now ≤ most_text }
     ensures binders { IfOk result (λ made. HasBinders text.now at made.items) }
     ensures refused { IfErr result (IfRefused (IsUnjudged text.now)) }
@@ -183,10 +183,16 @@ fn judgement_in<W: World>(
     judgement_of(alloc, text.as_slice(), core, written.as_slice())
 }
 
-// Writes why judging stops, and tells at which node.
-fn tell_stop<W: World>(node: u32, lines: &[u8], world: &mut W) -> Result<u8, Stop>
-    requires { lines.now ≢ [] }
-    ensures did { Did (record (told 8 (Note.DerivationNode node ∷ [])) { output = lines.now }) (W.holds world.old) (W.holds world.new) result }
+/// Writes lines, and tells the note above them and a status.
+pub(crate) fn tell_lines<W: World>(
+    status: u8,
+    why: Note,
+    lines: &[u8],
+    world: &mut W,
+) -> Result<u8, Stop>
+    requires own { IsOwn status }
+    requires some { lines.now ≢ [] }
+    ensures did { Did (lined status why lines.now) (W.holds world.old) (W.holds world.new) result }
     ensures own { IfOk result IsOwn }
     ensures counted { Counted [] [] (W.counts world.old) (W.counts world.new) result }
     ensures memory { result ≢ Err Stop.Memory }
@@ -197,8 +203,8 @@ fn tell_stop<W: World>(node: u32, lines: &[u8], world: &mut W) -> Result<u8, Sto
         Ok(()) => {}
         Err(stop) => return Err(stop),
     }
-    match tell(&[Note::DerivationNode(node)], world) {
-        Ok(()) => Ok(8),
+    match tell(&[why], world) {
+        Ok(()) => Ok(status),
         Err(stop) => Err(stop),
     }
 }
@@ -216,7 +222,9 @@ pub(crate) fn judge_file<W: World>(
     match judgement_in(alloc, file, name, world) {
         Err(stop) => Err(stop),
         Ok(Judgement::Down(down)) => refuse(down.status, down.note, world),
-        Ok(Judgement::Stopped { node, lines }) => tell_stop(node, lines.as_slice(), world),
+        Ok(Judgement::Stopped { node, lines }) => {
+            tell_lines(8, Note::DerivationNode(node), lines.as_slice(), world)
+        }
         Ok(Judgement::Accepted) => write(b"accepted\n", world),
     }
 }

@@ -24,6 +24,7 @@ mod top;
 mod trace;
 mod unit;
 mod wanted;
+mod why;
 
 pub use fy_words::{Command, command_of};
 pub use laws::{

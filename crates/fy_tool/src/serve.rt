@@ -19,6 +19,7 @@ use crate::run::run_file;
 use crate::sample::run_sample;
 use crate::trace::trace_file;
 use crate::unit::unit_file;
+use crate::why::why_file;
 use fy_words::Command;
 use fy_world::{Stop, World};
 use std::alloc::Global;
@@ -33,6 +34,7 @@ pub(crate) fn serve<W: World>(alloc: Global, command: Command, world: &mut W) ->
         Command::Check { file } => check_file(alloc, file, world),
         Command::Derive { file } => derive_file(alloc, file, world),
         Command::Judge { file, derivation } => judge_file(alloc, file, derivation, world),
+        Command::Why { file, width } => why_file(alloc, file, width, world),
         Command::Build {
             file,
             image,

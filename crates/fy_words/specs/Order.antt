@@ -14,6 +14,7 @@ pub data Order : Type 0 where
   check : (file : Bytes) → Order
   derive : (file : Bytes) → Order
   judge : (file derivation : Bytes) → Order
+  why : (file : Bytes) (width : Option ℕ) → Order
   build : (file image : Bytes) (stack : Option ℕ) (derivation : Option Bytes) → Order
   exec : (image : Bytes) (steps last : Option ℕ) → Order
   run : (file : Bytes) (steps stack : Option ℕ) (derivation image : Option Bytes) → Order
@@ -34,6 +35,7 @@ abbrev pub order_of : Command → Order
 order_of (command.Check file) = check file.now
 order_of (command.Derive file) = derive file.now
 order_of (command.Judge file derivation) = judge file.now derivation.now
+order_of (command.Why file width) = why file.now width
 order_of (command.Build file image stack derivation) = build file.now image.now stack (option_map (λ name. name.now) derivation)
 order_of (command.Exec image steps last) = exec image.now steps last
 order_of (command.Run file steps stack derivation image) = run file.now steps stack (option_map (λ name. name.now) derivation) (option_map (λ name. name.now) image)
@@ -144,6 +146,10 @@ trace_steps_option words = at_most_once (number_in 1 1000000) (values (codes "--
 abbrev pub trace_option : List Bytes → Option (Option ℕ)
 trace_option words = at_most_once (number_in 1 4096) (values (codes "--trace=") words)
 
+-- the bytes of a phrase
+abbrev pub width_option : List Bytes → Option (Option ℕ)
+width_option words = at_most_once (number_in 40 1000) (values (codes "--width=") words)
+
 -- ---- the commands
 
 -- `check FILE`
@@ -161,6 +167,14 @@ judge_with _ _ = None
 
 abbrev pub judge_from : List Bytes → Option Order
 judge_from words = if are_known (codes "--derivation=" ∷ []) words then judge_with (only_operand (operands words)) (derivation_option words) else None
+
+-- `why FILE [--width=W]`
+abbrev pub why_with : Option Bytes → Option (Option ℕ) → Option Order
+why_with (Some file) (Some width) = Some (why file width)
+why_with _ _ = None
+
+abbrev pub why_from : List Bytes → Option Order
+why_from words = if are_known (codes "--width=" ∷ []) words then why_with (only_operand (operands words)) (width_option words) else None
 
 -- `build FILE --image=OUT [--stack=W] [--derivation=D]`
 abbrev pub build_with : Option Bytes → Option (Option Bytes) → Option (Option ℕ) → Option (Option Bytes) → Option Order
@@ -263,6 +277,7 @@ command_from (name ∷ words) =
     if bytes_eq name (codes "check") then check_from words
     else (if bytes_eq name (codes "derive") then derive_from words
     else (if bytes_eq name (codes "judge") then judge_from words
+    else (if bytes_eq name (codes "why") then why_from words
     else (if bytes_eq name (codes "build") then build_from words
     else (if bytes_eq name (codes "exec") then exec_from words
     else (if bytes_eq name (codes "run") then run_from words
@@ -277,7 +292,7 @@ command_from (name ∷ words) =
     else (if bytes_eq name (codes "unit") then unit_from words
     else (if bytes_eq name (codes "join") then join_from words
     else (if bytes_eq name (codes "link") then link_from words
-    else None))))))))))))))))
+    else None)))))))))))))))))
 
 -- ---- what is wanted where no option says it
 
@@ -297,6 +312,10 @@ copy_wanted steps = unwrap_or steps 100000
 abbrev pub trace_steps_wanted : Option ℕ → ℕ
 trace_steps_wanted steps = unwrap_or steps 10000
 
+-- bytes of a phrase
+abbrev pub width_wanted : Option ℕ → ℕ
+width_wanted width = unwrap_or width 78
+
 -- a stack of a size that images have
 abbrev pub IsStackInRange : Option ℕ → Type 0
 IsStackInRange stack = (1024 ≤ stack_wanted stack) × (stack_wanted stack ≤ 67108864)
@@ -311,6 +330,7 @@ IsInRange (sample number size) = (number < 2 ^ 32) × (1 ≤ size) × (size ≤ 
 IsInRange (check file) = Unit {0}
 IsInRange (derive file) = Unit {0}
 IsInRange (judge file derivation) = Unit {0}
+IsInRange (why file width) = Unit {0}
 IsInRange (exec image steps last) = Unit {0}
 IsInRange (list file) = Unit {0}
 IsInRange (audit image) = Unit {0}

@@ -3,7 +3,7 @@
 ghost use Rattle.std.specs.Prelude.{◌≡◌, ◌≤◌, map, string_bytes, IfSome};
 ghost use Rattle.std.specs.Option.{option_map};
 ghost use Rattle.fy_words.specs.Order.{IsInRange, IsStackInRange, copy_wanted, trace_steps_wanted};
-ghost use Rattle.fy_words.specs.Order.{stack_option, trace_option, steps_option, check_from, build_from, exec_from, run_from, list_from, sample_from, command_from, order_of, copy_option, copy_from, trace_steps_option, trace_from, derive_from, judge_from, audit_from, migrate_from, elf_from, unelf_from, unit_from, join_from, link_from};
+ghost use Rattle.fy_words.specs.Order.{stack_option, trace_option, steps_option, check_from, build_from, exec_from, run_from, list_from, sample_from, command_from, order_of, copy_option, copy_from, trace_steps_option, trace_from, derive_from, judge_from, why_from, width_option, audit_from, migrate_from, elf_from, unelf_from, unit_from, join_from, link_from};
 
 use crate::words::{
     are_known, both_names, both_operands, name_option, number_in, number_option, only_operand,
@@ -24,6 +24,11 @@ pub enum Command<'a> {
     Judge {
         file: &'a str,
         derivation: &'a str,
+    },
+    /// Tells why the text in the file has no type, with phrases of so many bytes.
+    Why {
+        file: &'a str,
+        width: Option<u32>,
     },
     /// Builds an image of the text in the file, and keeps it.
     Build {
@@ -148,6 +153,17 @@ fn trace_steps_option(words: &[String]) -> Option<Option<u64>>
     number_option("--steps=", 1, 1_000_000, words)
 }
 
+// The bytes of a phrase that `--width=` allows.
+fn width_option(words: &[String]) -> Option<Option<u32>>
+    ensures { result ≡ width_option (map string_bytes words.now) }
+{
+    let width = number_option("--width=", 40, 1000, words)?;
+    match width {
+        None => Some(None),
+        Some(bytes) => Some(Some(bytes as u32)),
+    }
+}
+
 // `check FILE`
 fn check_of(words: &[String]) -> Option<Command<'_>>
     ensures order { option_map order_of result ≡ check_from (map string_bytes words.now) }
@@ -183,6 +199,19 @@ fn judge_of(words: &[String]) -> Option<Command<'_>>
     let file = only_operand(words)?;
     let derivation = name_option("--derivation=", words)??;
     Some(Command::Judge { file, derivation })
+}
+
+// `why FILE [--width=W]`
+fn why_of(words: &[String]) -> Option<Command<'_>>
+    ensures order { option_map order_of result ≡ why_from (map string_bytes words.now) }
+    ensures stack { IfSome result (λ command. IsInRange (order_of command)) }
+{
+    if !are_known(&["--width="], words) {
+        return None;
+    }
+    let file = only_operand(words)?;
+    let width = width_option(words)?;
+    Some(Command::Why { file, width })
 }
 
 // `build FILE --image=OUT [--stack=W] [--derivation=D]`
@@ -402,6 +431,7 @@ pub fn command_of(words: &[String]) -> Option<Command<'_>>
         "check" => check_of(words),
         "derive" => derive_of(words),
         "judge" => judge_of(words),
+        "why" => why_of(words),
         "build" => build_of(words),
         "exec" => exec_of(words),
         "run" => run_of(words),

@@ -22,8 +22,8 @@ returns-in-Ok-Down-clause-serves g c =
     (after order (both h.text h.derivation) _ _ _ _ _ _ _ _ _ _ (tells order _ _ _ h.told h.told_named) c.in-Ok-Down.ensures.holds c.in-Ok-Down.ensures.counted h.called c.refuse.ensures.own c.refuse.ensures.counted (called_same 0 _ _ _ c.refuse.ensures.called))
     c.refuse.ensures.memory c.refuse.ensures.did c.refuse.ensures.called
 
-pub tell_stop-requires : goal.tell_stop-requires
-tell_stop-requires g c =
+pub tell_lines-requires-clause-some : goal.tell_lines-requires-clause-some
+tell_lines-requires-clause-some g c =
     let h = rw c.in-Ok-Stopped.field-0-is at c.in-Ok-Stopped.ensures.judged in
     rw c.as_slice.ensures (stopped_some h.text h.derivation c.in-Ok-Stopped.node c.in-Ok-Stopped.lines h.is)
 
@@ -31,10 +31,10 @@ pub returns-in-Ok-Stopped-clause-serves : goal.returns-in-Ok-Stopped-clause-serv
 returns-in-Ok-Stopped-clause-serves g c =
     let h = rw c.in-Ok-Stopped.field-0-is at c.in-Ok-Stopped.ensures.judged in
     let order = judge c.args.file.now c.args.name.now in
-    let did = rw c.as_slice.ensures at c.tell_stop.ensures.did in
+    let did = rw c.as_slice.ensures at c.tell_lines.ensures.did in
     serves_stop c.args.file.now c.args.name.now h.text h.derivation c.in-Ok-Stopped.node c.in-Ok-Stopped.lines _ _ _ _ _ _ _ _ _ _ h.is
-    (after order (both h.text h.derivation) _ _ _ _ _ _ _ _ _ _ (tells order _ _ _ h.told h.told_named) c.in-Ok-Stopped.ensures.holds c.in-Ok-Stopped.ensures.counted h.called c.tell_stop.ensures.own c.tell_stop.ensures.counted (called_same 0 _ _ _ c.tell_stop.ensures.called))
-    c.tell_stop.ensures.memory did
+    (after order (both h.text h.derivation) _ _ _ _ _ _ _ _ _ _ (tells order _ _ _ h.told h.told_named) c.in-Ok-Stopped.ensures.holds c.in-Ok-Stopped.ensures.counted h.called c.tell_lines.ensures.own c.tell_lines.ensures.counted (called_same 0 _ _ _ c.tell_lines.ensures.called))
+    c.tell_lines.ensures.memory did
 
 pub returns-in-Ok-Accepted-clause-serves : goal.returns-in-Ok-Accepted-clause-serves
 returns-in-Ok-Accepted-clause-serves g c =

@@ -1,0 +1,12 @@
+pub mod TypeLemmas
+pub mod MismatchLemmas
+pub mod PartLemmas
+pub mod ScopeLemmas
+pub mod SpanLemmas
+pub mod SeenLemmas
+pub mod TakerLemmas
+pub mod InsideLemmas
+pub mod OriginLemmas
+pub mod LineLemmas
+pub mod SentenceLemmas
+pub mod TextLemmas
