@@ -13,6 +13,10 @@ pub none-called : (D P : PlainPaths) → has_none (called D P) ≡ has_none P
 none-called D no_paths = refl
 none-called D (and_path p P) = refl
 
+pub called-none : (D P : PlainPaths) → has_none P ≡ true → no_paths ≡ called D P
+called-none D no_paths e = refl
+called-none D (and_path p P) e = absurd (cc)
+
 pub none-picked : (i : ℕ) (P : PlainPaths) → has_none (picked i P) ≡ has_none P
 none-picked i no_paths = refl
 none-picked i (and_path p P) = refl

@@ -8,12 +8,14 @@ use Rattle.fy_types.specs.declared.paths.Paths.{Paths}
 use Rattle.fy_types.specs.Types.{PlainTypes, no_types, and_type}
 use Rattle.fy_types.specs.Paths.{PlainPath, PlainPaths, end, call, pick, no_paths, paths}
 use Rattle.fy_types.specs.Bounds.{join_of}
-use Rattle.fy_types.specs.Reading.{plain_path, plain_paths}
+use Rattle.fy_types.specs.Reading.{plain_path, plain_paths, plain_type}
 use Rattle.fy_phrase.specs.declared.phrase.DataTy.{DataTy}
 use Rattle.fy_phrase.specs.declared.phrase.DataTy.TheVariants as data_type
 use Rattle.fy_phrase.specs.Tree.{Tree}
 use Rattle.fy_phrase.specs.Reads.{reads}
 use Rattle.fy_causes.specs.declared.around.Variable.{Variable as KnownVariable}
+use Rattle.fy_causes.specs.declared.around.Bound.{Bound}
+use Rattle.fy_causes.specs.declared.around.Bound.TheVariants as bounds
 use Rattle.fy_causes.specs.declared.around.Around.{Around, Around-F, fold-Around}
 use Rattle.fy_causes.specs.declared.around.Occurrence.{Occurrence as KnownOccurrence}
 use Rattle.fy_causes.specs.declared.found.Found.{Found}
@@ -31,8 +33,13 @@ use Rattle.fy_causes.specs.Blamed.{blamed, if_hollow}
 use Rattle.fy_causes.specs.Causes.{Missed, missed, Cause, not_command, useless, wants, differ, branches, parts, no_procedure, no_domain, no_field, declared, no_acceptor, assigned, data_types}
 use Rattle.fy_causes.specs.Hollow.{Failed, Explained, Second, Told}
 
+-- the paths of a variable's type
+abbrev pub bound_read : Bound → PlainPaths
+bound_read (bounds.Paths P) = plain_paths P
+bound_read (bounds.Written T) = paths (plain_type T.now)
+
 abbrev pub variable_read : KnownVariable → Variable
-variable_read v = bound_by (reads v.binder.now) (plain_paths v.paths)
+variable_read v = bound_by (reads v.binder.now) (bound_read v.bound)
 
 abbrev pub around_step : Around-F (List Variable) → List Variable
 around_step Around-F.Nothing = []

@@ -7,23 +7,30 @@ ghost use Rattle.fy_phrase.specs.Reads.{reads};
 ghost use Rattle.fy_derive.specs.Least.{paths_at as paths_at_of};
 ghost use Rattle.fy_causes.specs.Hollow.{definition_in as definition_in_of, definition_of as definition_of_name};
 ghost use Rattle.fy_causes.specs.Occurrences.{bound_by, forms_around, occurs};
-ghost use Rattle.fy_causes.specs.Readings.{around_read, occurrence_read};
+ghost use Rattle.fy_causes.specs.Readings.{around_read, bound_read, occurrence_read};
 
 use crate::error::CauseError;
 use fy_base::OutOfMemory;
-use fy_forms::meet;
+use fy_forms::{meet, paths_of};
 use fy_phrase::Phrase;
-use fy_types::Paths;
+use fy_types::{Paths, Ty};
 use std::alloc::Global;
 use std::rc::Rc;
 
 /// A variable in scope.
 #[derive(Drop)]
 pub struct Variable<'a> {
-    /// The paths of its type.
-    pub paths: Paths,
+    /// What its type is known by.
+    pub bound: Bound<'a>,
     /// The phrase that binds it.
     pub binder: &'a Phrase,
+}
+
+/// What the type of a variable is known by. Paths of a type that is written are made only where they are asked for.
+#[derive(Drop)]
+pub enum Bound<'a> {
+    Paths(Paths),
+    Written(&'a Ty),
 }
 
 /// The variables in scope, the innermost first, which phrases share.
@@ -55,15 +62,15 @@ pub(crate) fn occurring<'a>(
 #[tactic(auto, using(crate::proofs::AroundLemmas::readings))]
 pub(crate) fn under<'a>(
     alloc: Global,
-    paths: Paths,
+    bound: Bound<'a>,
     binder: &'a Phrase,
     around: &Rc<Around<'a>>,
 ) -> Result<Rc<Around<'a>>, OutOfMemory>
     ensures { IfOk result
-        (λ made. around_read made.value ≡ bound_by (reads binder.now) (plain_paths paths) ∷ around_read around.now.value) }
+        (λ made. around_read made.value ≡ bound_by (reads binder.now) (bound_read bound.entry) ∷ around_read around.now.value) }
 {
     let outer = around.clone()?;
-    let made = Rc::new(alloc, Around::Under(Variable { paths, binder }, outer))?;
+    let made = Rc::new(alloc, Around::Under(Variable { bound, binder }, outer))?;
     Ok(made)
 }
 
@@ -77,8 +84,17 @@ pub(crate) fn paths_at(alloc: Global, around: &Around<'_>, number: u32) -> Resul
         Around::Nothing => Ok(Paths::new(alloc)),
         Around::Under(variable, outer) => {
             if number == 0 {
-                let made = meet(alloc, &Paths::new(alloc), &variable.paths)?;
-                Ok(made)
+                match &variable.bound {
+                    Bound::Paths(paths) => {
+                        let made = meet(alloc, &Paths::new(alloc), paths)?;
+                        Ok(made)
+                    }
+                    Bound::Written(ty) => {
+                        let paths = paths_of(alloc, ty)?;
+                        let made = meet(alloc, &Paths::new(alloc), &paths)?;
+                        Ok(made)
+                    }
+                }
             } else {
                 paths_at(alloc, outer, number - 1)
             }

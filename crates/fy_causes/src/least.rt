@@ -28,10 +28,10 @@ ghost use Rattle.fy_causes.specs.Blamed.{blamed as blamed_in};
 ghost use Rattle.fy_causes.specs.Occurrences.{bound_by, each_occurs, forms_around, least_in, occurs, under as under_binder};
 ghost use Rattle.fy_causes.specs.Readings.{around_read, blame_from, first_under, found_at, found_read, joined as joined_of, occurrence_read};
 
-use crate::around::{Around, paths_at, under};
+use crate::around::{Around, Bound, paths_at, under};
 use crate::ends::{command_behind, end_if, fit_assignment, fit_operator};
 use crate::error::CauseError;
-use crate::found::{Found, alone, no_path, of_many, of_one, of_three, of_two};
+use crate::found::{Found, alone, is_hollow, no_path, of_many, of_one, of_three, of_two};
 use fy_base::BinOp;
 use fy_derive::{
     Demand, acceptor_atom, binary_atom, data_atom, datum_atom, demand_of, operand_atom, put_atom,
@@ -173,7 +173,7 @@ fn found_under<'a>(
         ≡ blame_from (found_at (under_binder (around_read around.now.value) (reads p.now) (plain_paths bound) (reads body.now)) ∷ [])
         (occurs (around_read around.now.value) (reads p.now))) }
 {
-    let inside = under(alloc, bound, p, around)?;
+    let inside = under(alloc, Bound::Paths(bound), p, around)?;
     let found = found_in(alloc, body, &inside, memo)?;
     let paths = end_if(alloc, has(&found.paths, ends.0), ends.1)?;
     Ok(of_one(paths, found, around, p)?)
@@ -325,7 +325,7 @@ fn found_in_abstraction<'a>(
 #[cycle(least)]
 fn found_with<'a>(
     alloc: Global,
-    ty: &Ty,
+    ty: &'a Ty,
     body: &'a Phrase,
     around: &Rc<Around<'a>>,
     p: &'a Phrase,
@@ -336,9 +336,12 @@ fn found_with<'a>(
     ensures found { IfOk result (λ made. found_read made.1
         ≡ found_at (under_binder (around_read around.now.value) (reads p.now) (paths_in_type (plain_type ty.now)) (reads body.now))) }
 {
-    let domain = paths_of(alloc, ty)?;
-    let inside = under(alloc, copy_paths(alloc, &domain)?, p, around)?;
+    let inside = under(alloc, Bound::Written(ty), p, around)?;
     let found = found_in(alloc, body, &inside, memo)?;
+    if is_hollow(&found.paths) {
+        return Ok((no_path(alloc), found));
+    }
+    let domain = paths_of(alloc, ty)?;
     let called = call_form(alloc, &domain, &found.paths)?;
     Ok((called, found))
 }
@@ -463,7 +466,8 @@ fn found_in_definition<'a>(
         (occurs (around_read around.now.value) (reads p.now))) }
 {
     let defined = found_in(alloc, defined, around, &mut *memo)?;
-    let inside = under(alloc, copy_paths(alloc, &defined.paths)?, p, around)?;
+    let bound = copy_paths(alloc, &defined.paths)?;
+    let inside = under(alloc, Bound::Paths(bound), p, around)?;
     let body = found_in(alloc, body, &inside, &mut *memo)?;
     let paths = copy_paths(alloc, &body.paths)?;
     Ok(of_two(paths, (defined, body), around, p)?)
@@ -472,7 +476,7 @@ fn found_in_definition<'a>(
 #[cycle(least)]
 fn found_in_recursion<'a>(
     alloc: Global,
-    ty: &Ty,
+    ty: &'a Ty,
     body: &'a Phrase,
     around: &Rc<Around<'a>>,
     p: &'a Phrase,
@@ -486,7 +490,7 @@ fn found_in_recursion<'a>(
         (occurs (around_read around.now.value) (reads p.now))) }
 {
     let declared = paths_of(alloc, ty)?;
-    let inside = under(alloc, copy_paths(alloc, &declared)?, p, around)?;
+    let inside = under(alloc, Bound::Written(ty), p, around)?;
     let found = found_in(alloc, body, &inside, memo)?;
     let paths = if are_paths_below(alloc, &found.paths, &declared)? {
         meet(alloc, &Paths::new(alloc), &declared)?
@@ -588,7 +592,7 @@ fn found_in_cell<'a>(
         (occurs (around_read around.now.value) (reads p.now))) }
 {
     let first = found_in(alloc, first, around, &mut *memo)?;
-    let inside = under(alloc, bound, p, around)?;
+    let inside = under(alloc, Bound::Paths(bound), p, around)?;
     let body = found_in(alloc, body, &inside, &mut *memo)?;
     let paths = command_behind(alloc, &first.paths, wants, &body.paths)?;
     Ok(of_two(paths, (first, body), around, p)?)

@@ -12,7 +12,7 @@ mod least;
 mod parts;
 mod told;
 
-pub use around::{Around, Occurrence, Variable};
+pub use around::{Around, Bound, Occurrence, Variable};
 pub use causes::{Cause, Missed, first_missed};
 pub use laws::{
     blame_stops, blamed_phrases_stand_at_their_places, causes_are_so, only_some_forms_are_blamed,

@@ -6,7 +6,7 @@ ghost use Rattle.fy_phrase.specs.Reads.{reads, reads_parts};
 ghost use Rattle.fy_causes.specs.Occurrences.{each_occurs, least_in, least_of, occurs, parts_of as parts_of_phrase, under as under_binder};
 ghost use Rattle.fy_causes.specs.Readings.{around_read, first_under, part_at, part_type};
 
-use crate::around::{Around, Occurrence, occurring, under};
+use crate::around::{Around, Bound, Occurrence, occurring, under};
 use crate::error::CauseError;
 use crate::least::{cell_form, found_in, sequence_form};
 use fy_derive::data_atom;
@@ -186,7 +186,7 @@ fn part_under<'a>(
     ensures types { IfOk result (λ v. map part_type v.items
         ≡ least_of (under_binder (around_read around.now.value) (reads p.now) (plain_paths bound) (reads body.now)) ∷ []) }
 {
-    let inside = under(alloc, bound, p, around)?;
+    let inside = under(alloc, Bound::Paths(bound), p, around)?;
     one_part(alloc, body, &inside, memo)
 }
 
@@ -206,7 +206,7 @@ fn part_before<'a>(
         ∷ least_of (under_binder (around_read around.now.value) (reads p.now) (plain_paths bound) (reads body.now)) ∷ []) }
 {
     let first = part_of(alloc, first, around, &mut *memo)?;
-    let inside = under(alloc, bound, p, around)?;
+    let inside = under(alloc, Bound::Paths(bound), p, around)?;
     let second = part_of(alloc, body, &inside, &mut *memo)?;
     Ok(Vec::from_array(alloc, [first, second])?)
 }
@@ -227,7 +227,7 @@ fn defined_part<'a>(
 {
     let first = part_of(alloc, defined, around, &mut *memo)?;
     let bound = copy_paths(alloc, &first.paths)?;
-    let inside = under(alloc, bound, p, around)?;
+    let inside = under(alloc, Bound::Paths(bound), p, around)?;
     let second = part_of(alloc, body, &inside, &mut *memo)?;
     Ok(Vec::from_array(alloc, [first, second])?)
 }

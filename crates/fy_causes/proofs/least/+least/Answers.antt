@@ -1,17 +1,19 @@
-use Rattle.std.proofs.Common.{◌<◌, ◌≤◌, ◌≡◌, [], ◌∷◌, length, map, sym, ap, ◌∙◌, subst, arith}
+use Rattle.std.proofs.Common.{◌<◌, ◌≤◌, ◌≡◌, List, [], ◌∷◌, length, map, sym, ap, ◌∙◌, subst, arith}
 use Rattle.std.specs.Prelude.{IfOk}
 use Rattle.fy_types.specs.declared.types.Atom.TheVariants.{Int}
-use Rattle.fy_types.specs.Paths.{PlainPaths}
+use Rattle.fy_types.specs.Paths.{PlainPaths, paths}
 use Rattle.fy_types.specs.Once.{once}
-use Rattle.fy_types.specs.Reading.{plain_paths, plain_types}
+use Rattle.fy_types.specs.Reading.{plain_paths, plain_type, plain_types}
 use Rattle.fy_phrase.specs.Reads.{reads, reads_parts}
+use Rattle.fy_derive.specs.Clear.{has_none}
 use Rattle.fy_derive.specs.Least.{alternatives_of, has, if_passed, least_type}
 use Rattle.fy_derive.proofs.FormLemmas.{Case-tree, Lam-tree}
-use Rattle.fy_causes.specs.Occurrences.{each_occurs, forms_around, least_in, occurs}
+use Rattle.fy_causes.specs.Occurrences.{Variable, bound_by, each_occurs, forms_around, least_in, occurs}
 use Rattle.fy_causes.specs.Blamed.{blamed}
 use Rattle.fy_causes.specs.Readings.{around_read, blame_from, first_under, found_at, found_read, joined, occurrence_read}
 use Rattle.fy_causes.proofs.ArmLemmas.{case_blamed, case_least}
 use Rattle.fy_causes.proofs.BodyLemmas.{alternatives-all, new-none, under-first}
+use Rattle.fy_causes.proofs.EmptyLemmas.{called-none}
 use Rattle.fy_causes.proofs.LoopLemmas.{alternative-met, both-found, pushed-all, pushed-more}
 use Rattle.fy_causes.proofs.least.+least.Goals as goal
 
@@ -42,6 +44,15 @@ found_in-returns-in-Lam-clause-least t c =
     subst (λ P. IfOk c.found_in_abstraction.result (λ f. plain_paths f.paths ≡ P))
     (ap (λ q. once (alternatives_of (plain_types c.in-Lam.types) (λ D. least_type (D ∷ forms_around G) (reads q)))) c.deref-in-Lam.ensures
     ∙ sym (ap (least_in G) shape)) c.found_in_abstraction.ensures.least
+
+pub found_with-returns-then-is_hollow-clause-called : goal.found_with-returns-then-is_hollow-clause-called
+found_with-returns-then-is_hollow-clause-called t c =
+    let D = paths (plain_type c.args.ty.now) in
+    let b = reads c.args.body.now in
+    let same = c.in_ok-found.ensures.least ∙ ap (λ (G : List Variable). least_in G b) c.in_ok-inside.ensures in
+    c.no_path.ensures
+    ∙ called-none D (least_in (bound_by (reads c.args.p.now) D ∷ around_read c.args.around.now.value) b)
+    (sym (c.is_hollow.ensures ∙ ap has_none same) ∙ c.if-is_hollow.true)
 
 pub found_in_each-loop-part-preserved : goal.found_in_each-loop-part-preserved
 found_in_each-loop-part-preserved t c =
