@@ -144,29 +144,7 @@ fn put_wanted_alternative(text: &mut Vec<u8>, p: &Phrase) -> Result<(), OutOfMem
     match p {
         Phrase::Lam(_, types, _, _) => put_last(text, types.as_slice()),
         Phrase::Merge(..) => put(text, b"`left` or `right`"),
-        Phrase::Var(..)
-        | Phrase::Lit(..)
-        | Phrase::Unary(..)
-        | Phrase::Binary(..)
-        | Phrase::Cond(..)
-        | Phrase::Case(..)
-        | Phrase::App(..)
-        | Phrase::Field(..)
-        | Phrase::Sel(..)
-        | Phrase::LetIn(..)
-        | Phrase::Rec(..)
-        | Phrase::Skip(_)
-        | Phrase::Seq(..)
-        | Phrase::Assign(..)
-        | Phrase::WhileDo(..)
-        | Phrase::Forever(..)
-        | Phrase::New(..)
-        | Phrase::Cells(..)
-        | Phrase::Escape(..)
-        | Phrase::Accept(..)
-        | Phrase::Put(..)
-        | Phrase::Read(..)
-        | Phrase::Mark(..) => Ok(()),
+        _ => Ok(()),
     }
 }
 

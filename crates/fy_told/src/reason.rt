@@ -201,30 +201,7 @@ fn alternatives_in(p: &Phrase) -> &[Ty]
 {
     match p {
         Phrase::Lam(_, types, _, _) => types.as_slice(),
-        Phrase::Var(..)
-        | Phrase::Lit(..)
-        | Phrase::Unary(..)
-        | Phrase::Binary(..)
-        | Phrase::Cond(..)
-        | Phrase::Case(..)
-        | Phrase::App(..)
-        | Phrase::Field(..)
-        | Phrase::Sel(..)
-        | Phrase::Merge(..)
-        | Phrase::LetIn(..)
-        | Phrase::Rec(..)
-        | Phrase::Skip(_)
-        | Phrase::Seq(..)
-        | Phrase::Assign(..)
-        | Phrase::WhileDo(..)
-        | Phrase::Forever(..)
-        | Phrase::New(..)
-        | Phrase::Cells(..)
-        | Phrase::Escape(..)
-        | Phrase::Accept(..)
-        | Phrase::Put(..)
-        | Phrase::Read(..)
-        | Phrase::Mark(..) => &[],
+        _ => &[],
     }
 }
 

@@ -138,30 +138,7 @@ fn body_of(p: &Phrase) -> &Phrase
 {
     match p {
         Phrase::Lam(_, _, body, _) => body,
-        Phrase::Var(..)
-        | Phrase::Lit(..)
-        | Phrase::Unary(..)
-        | Phrase::Binary(..)
-        | Phrase::Cond(..)
-        | Phrase::Case(..)
-        | Phrase::App(..)
-        | Phrase::Field(..)
-        | Phrase::Sel(..)
-        | Phrase::Merge(..)
-        | Phrase::LetIn(..)
-        | Phrase::Rec(..)
-        | Phrase::Skip(_)
-        | Phrase::Seq(..)
-        | Phrase::Assign(..)
-        | Phrase::WhileDo(..)
-        | Phrase::Forever(..)
-        | Phrase::New(..)
-        | Phrase::Cells(..)
-        | Phrase::Escape(..)
-        | Phrase::Accept(..)
-        | Phrase::Put(..)
-        | Phrase::Read(..)
-        | Phrase::Mark(..) => p,
+        _ => p,
     }
 }
 
@@ -170,30 +147,7 @@ fn left_of(p: &Phrase) -> &Phrase
 {
     match p {
         Phrase::Merge(left, _, _) => left,
-        Phrase::Var(..)
-        | Phrase::Lit(..)
-        | Phrase::Unary(..)
-        | Phrase::Binary(..)
-        | Phrase::Cond(..)
-        | Phrase::Case(..)
-        | Phrase::Lam(..)
-        | Phrase::App(..)
-        | Phrase::Field(..)
-        | Phrase::Sel(..)
-        | Phrase::LetIn(..)
-        | Phrase::Rec(..)
-        | Phrase::Skip(_)
-        | Phrase::Seq(..)
-        | Phrase::Assign(..)
-        | Phrase::WhileDo(..)
-        | Phrase::Forever(..)
-        | Phrase::New(..)
-        | Phrase::Cells(..)
-        | Phrase::Escape(..)
-        | Phrase::Accept(..)
-        | Phrase::Put(..)
-        | Phrase::Read(..)
-        | Phrase::Mark(..) => p,
+        _ => p,
     }
 }
 
@@ -203,29 +157,6 @@ pub(crate) fn right_of(p: &Phrase) -> &Phrase
 {
     match p {
         Phrase::Merge(_, right, _) => right,
-        Phrase::Var(..)
-        | Phrase::Lit(..)
-        | Phrase::Unary(..)
-        | Phrase::Binary(..)
-        | Phrase::Cond(..)
-        | Phrase::Case(..)
-        | Phrase::Lam(..)
-        | Phrase::App(..)
-        | Phrase::Field(..)
-        | Phrase::Sel(..)
-        | Phrase::LetIn(..)
-        | Phrase::Rec(..)
-        | Phrase::Skip(_)
-        | Phrase::Seq(..)
-        | Phrase::Assign(..)
-        | Phrase::WhileDo(..)
-        | Phrase::Forever(..)
-        | Phrase::New(..)
-        | Phrase::Cells(..)
-        | Phrase::Escape(..)
-        | Phrase::Accept(..)
-        | Phrase::Put(..)
-        | Phrase::Read(..)
-        | Phrase::Mark(..) => p,
+        _ => p,
     }
 }
