@@ -2,6 +2,7 @@
 use Rattle.std.specs.Prelude.{ℕ, ◌==◌, ◌&&◌, if◌then◌else◌, List, [], ◌∷◌, slice_get, Option, Some, None}
 use Rattle.pe_code.specs.declared.code.PeInsn.{PeInsn}
 use Rattle.pe_code.specs.declared.code.PeInsn.TheVariants as insn
+use Rattle.pe_code.specs.declared.code.StraightPart.{StraightPart}
 use Rattle.pe_code.specs.declared.code.PeItem.{PeItem}
 use Rattle.pe_code.specs.declared.code.Entry.{Entry}
 use Rattle.pe_code.specs.declared.code.PeCode.{PeCode}
@@ -48,6 +49,8 @@ beside (insn.Escape y) = []
 beside (insn.Accept y) = []
 beside (insn.Put kind x) = x ∷ []
 beside (insn.Read x) = x ∷ []
+beside (insn.Eval ss) = []
+beside (insn.Set k ss) = []
 
 -- the address of the body under its binder
 abbrev pub body_of : PeInsn → Option ℕ
@@ -78,12 +81,15 @@ body_of (insn.Escape y) = Some y
 body_of (insn.Accept y) = Some y
 body_of (insn.Put kind x) = None
 body_of (insn.Read x) = None
+body_of (insn.Eval ss) = None
+body_of (insn.Set k ss) = None
 
 -- the variable that an instruction names
 abbrev pub variable_of : PeInsn → Option ℕ
 variable_of (insn.UseVar k s) = Some k
 variable_of (insn.PassVar k y) = Some k
 variable_of (insn.LetVar k y) = Some k
+variable_of (insn.Set k ss) = Some k
 variable_of _ = None
 
 -- the shape that it names
@@ -102,3 +108,9 @@ node_of _ = None
 abbrev pub picked_from : PeInsn → List ℕ
 picked_from (insn.Case x ys) = ys
 picked_from _ = []
+
+-- the straight code that it runs
+abbrev pub straight_of : PeInsn → Option (List StraightPart)
+straight_of (insn.Eval ss) = Some ss
+straight_of (insn.Set k ss) = Some ss
+straight_of _ = None

@@ -3,3 +3,4 @@ pub mod Members
 pub mod Code
 pub mod Valid
 pub mod Print
+pub mod Straight

@@ -13,6 +13,8 @@ use Rattle.fy_base.specs.declared.data.BinOp.TheVariants.{Add, Sub, Mul, Div, Re
 use Rattle.fy_base.specs.declared.data.PutKind.{PutKind}
 use Rattle.fy_base.specs.declared.data.PutKind.TheVariants as kinds
 use Rattle.fy_types.specs.Print.{name_text}
+use Rattle.pe_code.specs.declared.code.StraightPart.{StraightPart}
+use Rattle.pe_code.specs.declared.code.StraightPart.TheVariants as part
 use Rattle.pe_code.specs.declared.code.PeInsn.{PeInsn}
 use Rattle.pe_code.specs.declared.code.PeInsn.TheVariants as insn
 
@@ -63,6 +65,13 @@ line word ns = word ++ flat_map then_number ns
 abbrev pub worded : Bytes → Bytes → List ℕ → Bytes
 worded keyword word ns = keyword ++ codes " " ++ line word ns
 
+-- a part of straight code behind others: ` lit 17`, ` cell 2`, ` add 5`
+abbrev pub then_part : StraightPart → Bytes
+then_part (part.Literal v) = codes " lit " ++ datum_text v
+then_part (part.Cell k) = codes " cell" ++ then_number k
+then_part (part.Unary op a) = codes " " ++ (unary_word op ++ then_number a)
+then_part (part.Binary op a) = codes " " ++ (binary_word op ++ then_number a)
+
 -- the text of an instruction, by a list of names
 abbrev pub printed : List Bytes → PeInsn → Bytes
 printed names (insn.UseVar k s) = line (codes "use") (k ∷ s ∷ [])
@@ -92,3 +101,5 @@ printed names (insn.Escape y) = line (codes "escape") (y ∷ [])
 printed names (insn.Accept y) = line (codes "accept") (y ∷ [])
 printed names (insn.Put kind x) = worded (codes "put") (kind_word kind) (x ∷ [])
 printed names (insn.Read x) = line (codes "read") (x ∷ [])
+printed names (insn.Eval ss) = codes "eval" ++ flat_map then_part ss
+printed names (insn.Set k ss) = line (codes "set") (k ∷ []) ++ flat_map then_part ss

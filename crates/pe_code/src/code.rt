@@ -4,6 +4,17 @@ use crate::lists::{EntryList, NodeList};
 use fy_base::{BinOp, Datum, ListOf, Place, PutKind, UnOp};
 use fy_types::Name;
 
+/// A part of straight code, which is an expression in postfix form: operands come before their operator. An operator has the address of the item at whose place it
+/// faults.
+#[derive(Clone, Copy, Debug)]
+pub enum StraightPart {
+    Literal(Datum),
+    /// What the variable's own cell holds.
+    Cell(u32),
+    Unary(UnOp, u32),
+    Binary(BinOp, u32),
+}
+
 /// An instruction. Its parts are addresses: places of items in the list of the code. A node is a number of a node of the phrase, and a variable is the number of
 /// binders between it and its own.
 #[derive(Debug, Drop)]
@@ -55,6 +66,10 @@ pub enum PeInsn {
     Accept(u32),
     Put(PutKind, u32),
     Read(u32),
+    /// Evaluates straight code.
+    Eval(StraightList),
+    /// Assigns what straight code comes to to the variable's own cell.
+    Set(u32, StraightList),
 }
 
 impl PeInsn {
@@ -86,7 +101,8 @@ impl PeInsn {
         match self {
             PeInsn::UseVar(variable, _)
             | PeInsn::PassVar(variable, _)
-            | PeInsn::LetVar(variable, _) => Some(*variable),
+            | PeInsn::LetVar(variable, _)
+            | PeInsn::Set(variable, _) => Some(*variable),
             _ => None,
         }
     }
@@ -190,5 +206,7 @@ impl PeCode {
 
 /// Addresses.
 pub type AddressList = ListOf<u32>;
+/// Straight code.
+pub type StraightList = ListOf<StraightPart>;
 /// Items of code.
 pub type PeItemList = ListOf<PeItem>;

@@ -7,7 +7,10 @@ mod lists;
 mod print;
 mod valid;
 
-pub use code::{AddressList, Entry, PeCode, PeInsn, PeItem, PeItemList, SequenceShapes};
+pub use code::{
+    AddressList, Entry, PeCode, PeInsn, PeItem, PeItemList, SequenceShapes, StraightList,
+    StraightPart,
+};
 pub use lists::{EntryList, NodeList};
 pub use print::print_pe;
-pub use valid::is_valid;
+pub use valid::{is_valid, leave_one};

@@ -3,9 +3,9 @@
 ghost use Rattle.std.specs.Prelude.{◌≡◌, [], ◌∷◌, ◌++◌, codes, IfOk, OnOk};
 ghost use Rattle.std.specs.List.{flat_map};
 ghost use Rattle.fy_types.specs.Print.{name_text};
-ghost use Rattle.pe_code.specs.Print.{unary_word, binary_word, kind_word, datum_text, then_number, line, worded, printed};
+ghost use Rattle.pe_code.specs.Print.{unary_word, binary_word, kind_word, datum_text, then_number, then_part, line, worded, printed};
 
-use crate::code::PeInsn;
+use crate::code::{PeInsn, StraightPart};
 use fy_base::{BinOp, Datum, OutOfMemory, PutKind, Text, UnOp};
 use fy_types::{Name, Names};
 use std::alloc::Global;
@@ -52,6 +52,8 @@ fn put_insn(text: &mut Text, names: &Names, insn: &PeInsn) -> Result<(), OutOfMe
         PeInsn::Accept(body) => put_line(text, b"accept", &[*body]),
         PeInsn::Put(kind, x) => put_worded(text, b"put", kind_word(*kind), &[*x]),
         PeInsn::Read(x) => put_line(text, b"read", &[*x]),
+        PeInsn::Eval(parts) => put_straight(text, b"eval", &[], parts.as_slice()),
+        PeInsn::Set(variable, parts) => put_straight(text, b"set", &[*variable], parts.as_slice()),
     }
 }
 
@@ -88,6 +90,54 @@ fn put_case(text: &mut Text, index: u32, parts: usize) -> Result<(), OutOfMemory
 {
     put_line(text, b"case", &[index])?;
     put_number(text, parts)
+}
+
+// A keyword and the numbers behind it, and straight code.
+fn put_straight(
+    text: &mut Text,
+    keyword: &[u8],
+    numbers: &[u32],
+    parts: &[StraightPart],
+) -> Result<(), OutOfMemory>
+    ensures { OnOk result (text.new ≡ text.old ++ (line keyword.now numbers.now ++ flat_map then_part parts.now)) }
+{
+    put_line(text, keyword, numbers)?;
+    put_parts(text, parts)
+}
+
+fn put_parts(text: &mut Text, parts: &[StraightPart]) -> Result<(), OutOfMemory>
+    ensures { OnOk result (text.new ≡ text.old ++ flat_map then_part parts.now) }
+{
+    for part in parts {
+        put_part(text, *part)?;
+    }
+    Ok(())
+}
+
+fn put_part(text: &mut Text, part: StraightPart) -> Result<(), OutOfMemory>
+    ensures { OnOk result (text.new ≡ text.old ++ then_part part) }
+{
+    match part {
+        StraightPart::Literal(value) => put_literal(text, value),
+        StraightPart::Cell(variable) => put_line(text, b" cell", &[variable]),
+        StraightPart::Unary(op, address) => put_operator(text, unary_word(op), address),
+        StraightPart::Binary(op, address) => put_operator(text, binary_word(op), address),
+    }
+}
+
+fn put_literal(text: &mut Text, value: Datum) -> Result<(), OutOfMemory>
+    ensures { OnOk result (text.new ≡ text.old ++ (codes " lit " ++ datum_text value)) }
+{
+    put(text, b" lit ")?;
+    put_datum(text, value)
+}
+
+fn put_operator(text: &mut Text, word: &[u8], address: u32) -> Result<(), OutOfMemory>
+    ensures { OnOk result (text.new ≡ text.old ++ (codes " " ++ (word.now ++ then_number address))) }
+{
+    put(text, b" ")?;
+    put(text, word)?;
+    put_number(text, address as usize)
 }
 
 fn put_worded(

@@ -1,12 +1,13 @@
 //! Which code is valid.
 
-ghost use Rattle.std.specs.Prelude.{◌≡◌, ℕ, ◌+◌, ◌*◌, ◌<◌, ◌≤◌, ◌↔◌, All, IsTrue, length};
+ghost use Rattle.std.specs.Prelude.{◌≡◌, ℕ, ◌+◌, ◌*◌, ◌<◌, ◌≤◌, ◌↔◌, All, IfSome, IsTrue, Some, None, nat_lt, if◌then◌else◌, length};
 ghost use Rattle.std.specs.Option.{ForSome};
 ghost use Rattle.pe_code.specs.Entries.{AreInOrder};
-ghost use Rattle.pe_code.specs.Code.{beside};
-ghost use Rattle.pe_code.specs.Valid.{LeadsTo, IsThunkNode, IsSoundItem, all_picked_from, IsSoundEntry, AreOnce, IsValid, asked_shapes};
+ghost use Rattle.pe_code.specs.Code.{beside, node_of, straight_of};
+ghost use Rattle.pe_code.specs.Straight.{height_after, height_with as height_with_part};
+ghost use Rattle.pe_code.specs.Valid.{LeadsTo, IsThunkNode, IsSoundPart, IsSoundStraight, IsSoundItem, all_picked_from, parts_run_by, all_parts_run, places_in, all_places_in, IsSoundEntry, AreOnce, IsValid, asked_shapes};
 
-use crate::code::{Entry, PeCode, PeInsn, PeItem};
+use crate::code::{Entry, PeCode, PeInsn, PeItem, StraightPart};
 
 const MOST_ITEMS: usize = 65_536;
 
@@ -14,9 +15,12 @@ const MOST_DEPTH: u32 = 512;
 
 const MOST_WORDS: usize = 1_048_576;
 
+const MOST_PARTS: usize = 16;
+
 /// Whether the machine and the selection take the code: it has 1 to 65,536 items, of which the first stands under no
 /// binder; each item is at most 512 deep, and all that it names is there, at the depth that it asks for; the items pick
-/// from no more parts together than there are items; each entry leads to an item, and has a shape that is there and a
+/// from no more parts together than there are items, and straight code, which leaves one datum, has no more parts
+/// together than there are items that run it or do nothing; each entry leads to an item, and has a shape that is there and a
 /// node that has no other entry for it; and the table of all shapes and thunk nodes has at most 1,048,576 words. It
 /// takes no memory.
 pub fn is_valid(code: &PeCode) -> bool
@@ -27,7 +31,7 @@ pub fn is_valid(code: &PeCode) -> bool
     is_item_count(items.len())
         && leads_to(code, 0, 0)
         && are_sound_items(code, items)
-        && are_few_parts(items)
+        && have_few_parts(items)
         && are_sound_entries(code, entries)
         && are_once(entries)
         && are_sound_shapes(code)
@@ -86,7 +90,7 @@ fn is_sound_item(code: &PeCode, item: &PeItem) -> bool
         && has_sound_body(code, item.depth + 1, item.insn.body())
         && is_below(item.insn.variable(), item.depth)
         && is_below(item.insn.shape(), code.shapes)
-        && has_sound_node(code, item.depth, item.insn.node())
+        && has_sound_rest(code, item.depth, &item.insn)
 }
 
 fn has_sound_parts(code: &PeCode, depth: u32, insn: &PeInsn) -> bool
@@ -119,7 +123,9 @@ fn has_sound_parts(code: &PeCode, depth: u32, insn: &PeInsn) -> bool
         | PeInsn::Knot(..)
         | PeInsn::Done
         | PeInsn::Escape(_)
-        | PeInsn::Accept(_) => true,
+        | PeInsn::Accept(_)
+        | PeInsn::Eval(_)
+        | PeInsn::Set(..) => true,
     }
 }
 
@@ -139,6 +145,96 @@ fn has_sound_node(code: &PeCode, depth: u32, node: Option<u32>) -> bool
         Some(node) => is_thunk_node(code, depth, node),
         None => true,
     }
+}
+
+// Whether its node and its straight code are sound.
+fn has_sound_rest(code: &PeCode, depth: u32, insn: &PeInsn) -> bool
+    ensures { IsTrue result ↔ (ForSome (node_of insn.now) (IsThunkNode code.now depth) × ForSome (straight_of insn.now) (IsSoundStraight code.now depth)) }
+{
+    has_sound_node(code, depth, insn.node()) && has_sound_straight(code, depth, insn)
+}
+
+fn has_sound_straight(code: &PeCode, depth: u32, insn: &PeInsn) -> bool
+    ensures { IsTrue result ↔ ForSome (straight_of insn.now) (IsSoundStraight code.now depth) }
+{
+    match insn {
+        PeInsn::Eval(parts) => is_sound_straight(code, depth, parts.as_slice()),
+        PeInsn::Set(_, parts) => is_sound_straight(code, depth, parts.as_slice()),
+        _ => true,
+    }
+}
+
+fn is_sound_straight(code: &PeCode, depth: u32, parts: &[StraightPart]) -> bool
+    ensures { IsTrue result ↔ IsSoundStraight code.now depth parts.now }
+{
+    parts.len() <= MOST_PARTS && leave_one(parts) && are_sound_parts(code, depth, parts)
+}
+
+fn are_sound_parts(code: &PeCode, depth: u32, parts: &[StraightPart]) -> bool
+    ensures { IsTrue result ↔ All (IsSoundPart code.now depth) parts.now }
+{
+    parts.iter().all(|part| is_sound_part(code, depth, *part))
+}
+
+fn is_sound_part(code: &PeCode, depth: u32, part: StraightPart) -> bool
+    ensures { IsTrue result ↔ IsSoundPart code.now depth part }
+{
+    match part {
+        StraightPart::Literal(_) => true,
+        StraightPart::Cell(variable) => variable < depth,
+        StraightPart::Unary(_, address) => leads_to(code, depth, address),
+        StraightPart::Binary(_, address) => leads_to(code, depth, address),
+    }
+}
+
+/// Whether the parts leave one datum on a stack of at most three.
+pub fn leave_one(parts: &[StraightPart]) -> bool
+    ensures { IsTrue result ↔ (height_after parts.now 0 ≡ Some 1) }
+{
+    let mut height = 0;
+    for part in parts {
+        match height_with(*part, height) {
+            Some(next) => height = next,
+            None => return false,
+        }
+    }
+    height == 1
+}
+
+// How many data stand on the stack after a part.
+fn height_with(part: StraightPart, height: u32) -> Option<u32>
+    requires { height ≤ 3 }
+    ensures height { result ≡ height_with_part part height }
+    ensures few { IfSome result (λ next. next ≤ 3) }
+{
+    match part {
+        StraightPart::Literal(_) => one_more(height),
+        StraightPart::Cell(_) => one_more(height),
+        StraightPart::Unary(..) => {
+            if height < 1 {
+                return None;
+            }
+            Some(height)
+        }
+        StraightPart::Binary(..) => {
+            if height < 2 {
+                return None;
+            }
+            Some(height - 1)
+        }
+    }
+}
+
+// A datum more, where it fits.
+fn one_more(height: u32) -> Option<u32>
+    requires { height ≤ 3 }
+    ensures height { result ≡ (if nat_lt height 3 then Some (height + 1) else None) }
+    ensures few { IfSome result (λ next. next ≤ 3) }
+{
+    if height < 3 {
+        return Some(height + 1);
+    }
+    None
 }
 
 fn is_thunk_node(code: &PeCode, depth: u32, node: u32) -> bool
@@ -176,6 +272,57 @@ fn are_below(numbers: &[Option<u32>], bound: u32) -> bool
     ensures { IsTrue result ↔ All (λ o. ForSome o (λ n. n < bound)) numbers.now }
 {
     numbers.iter().all(|number| is_below(*number, bound))
+}
+
+// Whether the items pick from few parts, and run few.
+fn have_few_parts(items: &[PeItem]) -> bool
+    ensures { IsTrue result ↔ ((all_picked_from items.now ≤ length items.now) × (all_parts_run items.now ≤ all_places_in items.now)) }
+{
+    are_few_parts(items) && run_few_parts(items)
+}
+
+// Whether straight code has no more parts, all together, than there are items that run it or do nothing.
+fn run_few_parts(items: &[PeItem]) -> bool
+    ensures { IsTrue result ↔ (all_parts_run items.now ≤ all_places_in items.now) }
+{
+    let mut room = count_places(items);
+    for item in items {
+        let count = parts_run_by(&item.insn);
+        if count > room {
+            return false;
+        }
+        room -= count;
+    }
+    true
+}
+
+fn count_places(items: &[PeItem]) -> usize
+    ensures { result ≡ all_places_in items.now }
+{
+    let mut count = 0;
+    for item in items {
+        count += places_in(&item.insn);
+    }
+    count
+}
+
+fn parts_run_by(insn: &PeInsn) -> usize
+    ensures { result ≡ parts_run_by insn.now }
+{
+    match insn {
+        PeInsn::Eval(parts) => parts.len(),
+        PeInsn::Set(_, parts) => parts.len(),
+        _ => 0,
+    }
+}
+
+fn places_in(insn: &PeInsn) -> usize
+    ensures { result ≡ places_in insn.now }
+{
+    match insn {
+        PeInsn::Eval(_) | PeInsn::Set(..) | PeInsn::Done => 1,
+        _ => 0,
+    }
 }
 
 // Whether the items pick from no more parts, all together, than there are items.

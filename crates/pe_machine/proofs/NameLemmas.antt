@@ -77,6 +77,7 @@ module _ (a b : Frames) (keeps : (name : FrameName) → IsPlacedName a name → 
   kept_change (change.NewEscape d p) is = kept_link p.frame is
   kept_change (change.SetCell name v) is = keeps name is
   kept_change (change.SetElement name i v) is = keeps name is
+  kept_change (change.Assign name v) is = keeps name is
 
   kept_contexts : (contexts : List Held) → ArePlacedContexts a contexts → ArePlacedContexts b contexts
   kept_contexts contexts are = All-weaker (λ h. IsPlacedContext a h.context) (λ h. IsPlacedContext b h.context) (λ h. kept_context h.context) contexts are

@@ -23,6 +23,8 @@ use Rattle.pe_machine.specs.declared.turns.Demand.{Demand}
 use Rattle.pe_machine.specs.declared.turns.Demand.TheVariants as demand
 use Rattle.pe_machine.specs.declared.turns.Act.{Act}
 use Rattle.pe_machine.specs.declared.turns.Act.TheVariants as act
+use Rattle.pe_machine.specs.declared.lookup.OwnCell.{OwnCell}
+use Rattle.pe_machine.specs.declared.lookup.OwnCell.TheVariants as own_cell
 
 -- the frames in the array, and the number that the next one takes
 pub record Frames : Type 0 where
@@ -99,6 +101,7 @@ IsPlacedChange frames (change.NewCell d v p) = IsPlacedPointer frames p
 IsPlacedChange frames (change.NewEscape d p) = IsPlacedPointer frames p
 IsPlacedChange frames (change.SetCell name v) = IsPlacedName frames name
 IsPlacedChange frames (change.SetElement name i v) = IsPlacedName frames name
+IsPlacedChange frames (change.Assign name v) = IsPlacedName frames name
 
 abbrev pub IsPlacedTurn : Frames → Turn → Type 0
 IsPlacedTurn frames (turn.On c) = IsPlacedChange frames c
@@ -119,6 +122,11 @@ IsPlacedAct frames (act.Use k shape frame) = IsPlacedLink frames frame
 IsPlacedAct frames (act.Pass k p) = IsPlacedPointer frames p
 IsPlacedAct frames (act.Let d k p) = IsPlacedPointer frames p
 IsPlacedAct frames (act.Ask d) = IsPlacedDemand frames d
+
+abbrev pub IsPlacedOwnCell : Frames → OwnCell → Type 0
+IsPlacedOwnCell frames (own_cell.Reads name v) = IsPlacedName frames name
+IsPlacedOwnCell frames own_cell.NoCell = Unit {0}
+IsPlacedOwnCell frames own_cell.NoFrame = Unit {0}
 
 -- ---- each of what the stacks keep has one proof
 

@@ -17,6 +17,13 @@ use Rattle.pe_machine.specs.declared.contexts.Context.{Context}
 use Rattle.pe_machine.specs.declared.contexts.Context.TheVariants as held
 use Rattle.pe_machine.specs.declared.contexts.Held.{Held}
 use Rattle.pe_machine.specs.declared.contexts.Filling.{Filling}
+use Rattle.pe_code.specs.Straight.{Reading, reads, no_cell, no_frame, Outcome, leaves, fails, has_none, misses}
+use Rattle.pe_machine.specs.declared.lookup.OwnCell.{OwnCell}
+use Rattle.pe_machine.specs.declared.lookup.OwnCell.TheVariants as cell
+use Rattle.pe_machine.specs.declared.straight.Stack.{Stack}
+use Rattle.pe_machine.specs.declared.straight.Stack.TheVariants as stack
+use Rattle.pe_machine.specs.declared.straight.Run.{Run}
+use Rattle.pe_machine.specs.declared.straight.Run.TheVariants as run
 use Rattle.pe_machine.specs.declared.contexts.Focus.{Focus}
 use Rattle.pe_machine.specs.declared.contexts.Focus.TheVariants as focus
 
@@ -107,3 +114,23 @@ filled_state f s = record s {
 abbrev pub with_filling : Option Filling → states.PeState → states.PeState
 with_filling None s = s
 with_filling (Some f) s = filled_state f s
+
+-- ---- straight code
+
+abbrev pub reading_of : OwnCell → Reading
+reading_of (cell.Reads name v) = reads v
+reading_of cell.NoCell = no_cell
+reading_of cell.NoFrame = no_frame
+
+-- the data of a stack, with the newest first
+abbrev pub stack_of : Stack → List Datum
+stack_of stack.Empty = []
+stack_of (stack.One v) = v ∷ []
+stack_of (stack.Two v u) = v ∷ u ∷ []
+stack_of (stack.Three v u t) = v ∷ u ∷ t ∷ []
+
+abbrev pub outcome_of : Run → Outcome
+outcome_of (run.Leaves s) = leaves (stack_of s)
+outcome_of (run.Fails kind a) = fails kind a
+outcome_of run.HasNone = has_none
+outcome_of run.Misses = misses

@@ -17,11 +17,13 @@ use Rattle.fy_phrase.specs.Contexts.{op_1, op_l, op_r, if_c, case_c, arg_c, pick
 use Rattle.fy_phrase.specs.Copy.{Which, own, element, byte_or_end}
 use Rattle.pe_code.specs.declared.code.PeInsn.{PeInsn}
 use Rattle.pe_code.specs.declared.code.PeInsn.TheVariants as insn
+use Rattle.pe_code.specs.declared.code.StraightPart.{StraightPart}
 use Rattle.pe_code.specs.declared.code.PeItem.{PeItem}
 use Rattle.pe_code.specs.declared.code.SequenceShapes.{SequenceShapes}
 use Rattle.pe_code.specs.declared.code.PeCode.{PeCode}
 use Rattle.pe_code.specs.Code.{item_at, entry_of, picked_from}
-use Rattle.pe_machine.specs.States.{Pointer, Thunk, source, datum, cell_of, jump_of, sequence_of, Sequence, Binding, to_thunk, to_cell, to_escape, to_sequence, Frame, Focus, code_at, value, completed, Wanted, PeContext, Held, PeState, oldest, is_listed, frame_outside, sequence_at, value_of, with_value, handed_on}
+use Rattle.pe_code.specs.Straight.{Reading, no_frame, cell_read, Outcome, leaves, fails, has_none, misses, outcome_after}
+use Rattle.pe_machine.specs.States.{Pointer, Thunk, source, datum, cell_of, jump_of, sequence_of, Sequence, Binding, to_thunk, to_cell, to_escape, to_sequence, Frame, Focus, code_at, value, completed, Wanted, PeContext, Held, PeState, oldest, is_listed, frame_outside, datum_in, sequence_at, value_of, with_value, handed_on}
 
 -- where a step leads
 pub data PeMove : Type 0 where
@@ -292,6 +294,39 @@ abbrev pub with_variable : Option Frame → (Thunk → PeMove) → PeMove
 with_variable (Some f) go = go (handed_on f.number f.binding)
 with_variable None go = loses
 
+-- ---- straight code
+
+-- a variable's own cell is the one that its frame holds
+abbrev pub own_cell : Option Frame → Reading
+own_cell (Some f) = cell_read (datum_in f.binding)
+own_cell None = no_frame
+
+-- it takes a datum, and the load is that of an assignment by a context
+abbrev pub cell_set : Option Datum → ℕ → Datum → PeState → PeMove
+cell_set (Some u) n v s = focused completed (record s { frames = with_value own n v s.frames; load = s.load + 8 })
+cell_set None n v s = sticks
+
+abbrev pub own_cell_set : Option Frame → Datum → PeState → PeMove
+own_cell_set (Some f) v s = cell_set (datum_in f.binding) f.number v s
+own_cell_set None v s = loses
+
+-- a fault at the place of an item
+abbrev pub faults_at : FaultKind → Option PeItem → PeMove
+faults_at kind (Some i) = faults kind i.place
+faults_at kind None = sticks
+
+-- the one datum that is left goes on
+abbrev pub outcome_move : PeCode → Outcome → (Datum → PeMove) → PeMove
+outcome_move code (leaves (v ∷ [])) go = go v
+outcome_move code (leaves stack) go = sticks
+outcome_move code (fails kind a) go = faults_at kind (item_at code a)
+outcome_move code has_none go = sticks
+outcome_move code misses go = loses
+
+-- straight code is run in a frame
+abbrev pub straight_run : PeCode → List StraightPart → Option ℕ → PeState → (Datum → PeMove) → PeMove
+straight_run code ss r s go = outcome_move code (outcome_after (λ k. own_cell (frame_outside s.frames k r)) ss []) go
+
 -- ---- one step, by the focus
 
 -- an instruction that stands at an address and is executed in a frame
@@ -325,6 +360,8 @@ executed code (insn.Escape y) d at here s = bound d to_escape y here.frame (push
 executed code (insn.Accept y) d at here s = taken (accept_meets d y here.frame) s.contexts s
 executed code (insn.Put kind x) d at here s = pushed (put_c kind) (record here { address = x }) s
 executed code (insn.Read x) d at here s = takes (λ byte. focus_on (code_at (record here { address = x })) (push (store_c (byte_or_end byte)) s))
+executed code (insn.Eval ss) d at here s = straight_run code ss here.frame s (λ v. focused (value v) s)
+executed code (insn.Set k ss) d at here s = straight_run code ss here.frame s (λ v. own_cell_set (frame_outside s.frames k here.frame) v s)
 
 -- where no item stands at the address, no step is defined
 abbrev pub item_executed : PeCode → Option PeItem → Pointer → PeState → PeMove

@@ -18,12 +18,16 @@ use Rattle.pe_machine.specs.declared.contexts.Filling.{Filling}
 use Rattle.pe_machine.specs.declared.core_state.Core.{Core}
 use Rattle.pe_machine.specs.declared.turns.Kept.{Kept}
 use Rattle.pe_machine.specs.declared.turns.Change.{Change}
-use Rattle.pe_machine.specs.declared.turns.Change.TheVariants.{Focus, Push, PushValue, Bind, NewCell, NewEscape, SetCell, SetElement}
+use Rattle.pe_machine.specs.declared.turns.Change.TheVariants.{Focus, Push, PushValue, Bind, NewCell, NewEscape, SetCell, SetElement, Assign}
 use Rattle.pe_machine.specs.declared.turns.Turn.{Turn}
 use Rattle.pe_machine.specs.declared.turns.Turn.TheVariants.{On, Fill, Put, Read, Fault, Stuck, Gone}
 use Rattle.pe_machine.specs.declared.turns.Plan.{Plan}
 use Rattle.pe_machine.specs.declared.turns.Demand.{Demand}
 use Rattle.pe_machine.specs.declared.turns.Demand.TheVariants.{Argument, Selection, Assigned, Cell, Length}
+use Rattle.std.specs.declared.result.Result.{Result}
+use Rattle.std.specs.declared.result.Result.TheVariants.{Ok, Err}
+use Rattle.pe_machine.specs.declared.lookup.OwnCell.{OwnCell}
+use Rattle.pe_machine.specs.declared.lookup.OwnCell.TheVariants.{Reads, NoCell, NoFrame}
 use Rattle.pe_machine.specs.declared.turns.Act.{Act}
 use Rattle.pe_machine.specs.declared.turns.Act.TheVariants.{Now, Use, Pass, Let, Ask}
 
@@ -67,6 +71,7 @@ change_move (NewCell d v p) s = stored v d (pointer_of p) s
 change_move (NewEscape d p) s = bound d to_escape p.address (number_of p.frame) (push (esc_c s.next) s)
 change_move (SetCell name v) s = goes (focus_on completed (record s { frames = with_value own name.number v s.frames }))
 change_move (SetElement name i v) s = goes (focus_on completed (record s { frames = with_value (element i) name.number v s.frames }))
+change_move (Assign name v) s = goes (focus_on completed (record s { frames = with_value own name.number v s.frames; load = s.load + 8 }))
 
 -- all cells are there, and the body runs
 abbrev pub filled_move : Filling → PeState → PeMove
@@ -108,3 +113,14 @@ act_move code (Use k shape frame) s = with_variable (frame_outside s.frames k (n
 act_move code (Pass k p) s = with_variable (frame_outside s.frames k (number_of p.frame)) (λ t. pushed (arg_c t) (pointer_of p) s)
 act_move code (Let d k p) s = with_variable (frame_outside s.frames k (number_of p.frame)) (λ t. bound d (to_thunk t) p.address (number_of p.frame) s)
 act_move code (Ask demand) s = taken (demand_move demand) s.contexts s
+
+-- what a datum, or what straight code comes to in its place, leads to
+abbrev pub result_move : Result Datum Turn → PeState → (Datum → PeMove) → PeMove
+result_move (Ok v) s go = go v
+result_move (Err turn) s go = turn_move turn s
+
+-- what a variable's own cell leads to where it takes a datum
+abbrev pub set_move : OwnCell → Datum → PeState → PeMove
+set_move (Reads name u) v s = focused completed (record s { frames = with_value own name.number v s.frames; load = s.load + 8 })
+set_move NoCell v s = sticks
+set_move NoFrame v s = loses

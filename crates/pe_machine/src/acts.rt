@@ -1,10 +1,10 @@
 //! What instructions do.
 
-ghost use Rattle.std.specs.Prelude.{◌≡◌};
+ghost use Rattle.std.specs.Prelude.{◌≡◌, None};
 ghost use Rattle.pe_code.specs.declared.code.PeCode.{PeCode};
 ghost use Rattle.pe_machine.specs.States.{PeState, to_thunk};
 ghost use Rattle.pe_machine.specs.Step.{bound, executed, item_executed, pe_step, pushed};
-ghost use Rattle.pe_code.specs.Code.{item_at};
+ghost use Rattle.pe_code.specs.Code.{item_at, straight_of};
 ghost use Rattle.pe_machine.specs.Shown.{context_of, number_of, pointer_of, thunk_of};
 ghost use Rattle.pe_machine.specs.Names.{Frames, IsPlacedAct, IsPlacedContext, IsPlacedPointer, IsPlacedThunk, IsPlacedTurn};
 ghost use Rattle.pe_machine.specs.Turns.{IsFair, act_move, frames_of, plan_move, state_of};
@@ -16,9 +16,10 @@ use crate::demands::enter;
 use crate::frames::Thunk;
 use crate::lookup::variable;
 use crate::plans::{answer, ask, finish, stay};
+use crate::straight::{assign, evaluate};
 use crate::turns::{Act, Change, Demand, Plan, Turn};
 use fy_base::Place;
-use pe_code::{PeCode, PeInsn};
+use pe_code::{PeCode, PeInsn, PeItem};
 
 // Code at another address, in the same frame.
 fn beside(here: Pointer, address: u32) -> Pointer
@@ -47,8 +48,9 @@ fn bind(depth: u32, thunk: Thunk, body: Pointer) -> Act
     Act::Now(Turn::On(Change::Bind(depth, thunk, body)))
 }
 
-// What an instruction does that stands under so many binders at a place.
+// What an instruction does that stands under so many binders at a place, where it runs no straight code.
 fn act_of(insn: &PeInsn, depth: u32, at: Place, here: Pointer) -> Act
+    requires { straight_of insn.now ≡ None }
     ensures moves { (code : PeCode) (s : PeState) → act_move code result s ≡ executed code insn.now depth at (pointer_of here) s }
     ensures placed { (frames : Frames) → IsPlacedPointer frames here → IsPlacedAct frames result }
 {
@@ -80,6 +82,8 @@ fn act_of(insn: &PeInsn, depth: u32, at: Place, here: Pointer) -> Act
         PeInsn::Accept(y) => Act::Ask(Demand::Assigned(depth, beside(here, *y))),
         PeInsn::Put(kind, x) => go_in(Context::Put(*kind), here, *x),
         PeInsn::Read(x) => Act::Now(Turn::Read(beside(here, *x))),
+        PeInsn::Eval(_) => unreachable!(),
+        PeInsn::Set(..) => unreachable!(),
     }
 }
 
@@ -108,6 +112,22 @@ fn plan_of(code: &PeCode, act: Act, core: &Core) -> Plan
     }
 }
 
+// What an item does.
+fn execute_item(code: &PeCode, item: &PeItem, here: Pointer, core: &Core) -> Plan
+    requires { IsPlacedPointer (frames_of core.now) here }
+    ensures moves { plan_move result (state_of core.now) ≡ executed code.now item.now.insn item.now.depth item.now.place (pointer_of here) (state_of core.now) }
+    ensures fair { IsFair core.now.limit (state_of core.now) result.kept }
+    ensures placed { IsPlacedTurn (frames_of core.now) result.turn }
+{
+    match &item.insn {
+        PeInsn::Eval(parts) => evaluate(code, parts.as_slice(), here.frame, core),
+        PeInsn::Set(variable, parts) => {
+            assign(code, *variable, parts.as_slice(), here.frame, core)
+        }
+        insn => plan_of(code, act_of(insn, item.depth, item.place, here), core),
+    }
+}
+
 // What the instruction at an address does.
 fn execute(code: &PeCode, here: Pointer, core: &Core) -> Plan
     requires { IsPlacedPointer (frames_of core.now) here }
@@ -116,7 +136,7 @@ fn execute(code: &PeCode, here: Pointer, core: &Core) -> Plan
     ensures placed { IsPlacedTurn (frames_of core.now) result.turn }
 {
     match item_at(code, here.address) {
-        Some(item) => plan_of(code, act_of(&item.insn, item.depth, item.place, here), core),
+        Some(item) => execute_item(code, item, here, core),
         None => stay(core, Turn::Stuck),
     }
 }

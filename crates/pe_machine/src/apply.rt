@@ -205,6 +205,16 @@ fn set_element(core: &mut Core, name: FrameName, i: u32, v: Datum)
     }
 }
 
+// The load grows alone.
+fn add_to_load(core: &mut Core, words: u64)
+    requires { core.old.load + words ≤ core.old.limit }
+    ensures state { state_of core.new ≡ record (state_of core.old) { load = core.old.load + words } }
+    ensures limit { core.new.limit ≡ core.old.limit }
+    ensures next { core.new.next ≡ core.old.next }
+{
+    core.load += words;
+}
+
 /// What a change adds to the load.
 pub fn cost_of(change: Change) -> u64
     ensures cost { (s : PeState) → load_after (change_move change s) ≡ s.load + result }
@@ -219,6 +229,7 @@ pub fn cost_of(change: Change) -> u64
         Change::NewEscape(depth, _) => 16 + u64::from(depth),
         Change::SetCell(..) => 0,
         Change::SetElement(..) => 0,
+        Change::Assign(..) => 8,
     }
 }
 
@@ -260,6 +271,11 @@ pub fn make(core: &mut Core, change: Change)
         }
         Change::SetElement(name, i, v) => {
             set_element(core, name, i, v);
+            set_focus(core, Focus::Completed);
+        }
+        Change::Assign(name, v) => {
+            set_cell(core, name, v);
+            add_to_load(core, 8);
             set_focus(core, Focus::Completed);
         }
     }

@@ -15,6 +15,7 @@ mod machine;
 mod plans;
 mod run;
 mod sequences;
+mod straight;
 mod turns;
 
 pub use events::PeEvent;

@@ -3,11 +3,13 @@
 ghost use Rattle.std.specs.Prelude.{◌≡◌, ◌+◌, ◌<◌, ◌≤◌, ◌^◌, List, IfSome, MatchOption, None, Some, drop, length, take};
 ghost use Rattle.fy_base.specs.declared.data.Datum.{Datum};
 ghost use Rattle.std.specs.Option.{option_map};
-ghost use Rattle.pe_machine.specs.States.{datum_of, frame_outside, is_listed, oldest, sequence_at};
-ghost use Rattle.pe_machine.specs.Shown.{frame_of, number_of, thunk_of};
-ghost use Rattle.pe_machine.specs.Names.{Frames, IsPlacedBinding, IsPlacedLink, IsPlacedName, IsPlacedThunk};
+ghost use Rattle.pe_machine.specs.States.{PeState, datum_in as datum_bound, datum_of, frame_outside, is_listed, oldest, sequence_at};
+ghost use Rattle.pe_code.specs.Straight.{cell_read};
+ghost use Rattle.pe_machine.specs.Step.{cell_set, own_cell as own_cell_of, own_cell_set};
+ghost use Rattle.pe_machine.specs.Shown.{frame_of, number_of, reading_of, thunk_of};
+ghost use Rattle.pe_machine.specs.Names.{Frames, IsPlacedBinding, IsPlacedLink, IsPlacedName, IsPlacedOwnCell, IsPlacedThunk};
 ghost use Rattle.pe_machine.specs.Places.{IsOutside, IsPlace, handed_by};
-ghost use Rattle.pe_machine.specs.Turns.{frames_of, state_of};
+ghost use Rattle.pe_machine.specs.Turns.{frames_of, set_move, state_of};
 
 use crate::core_state::Core;
 use crate::frames::{Binding, Frame, FrameName, Thunk};
@@ -70,6 +72,47 @@ pub fn variable(core: &Core, links: u32, frame: Option<FrameName>) -> Option<Thu
 {
     let place = place_outside(core, links, frame)?;
     Some(handed_on(place, core.frames[place]))
+}
+
+/// What is found where a variable's own cell is looked for.
+#[derive(Clone, Copy, Debug)]
+pub enum OwnCell {
+    /// The frame that holds it, and its datum.
+    Reads(FrameName, Datum),
+    NoCell,
+    NoFrame,
+}
+
+// What the frame at a place holds itself.
+fn cell_at(place: usize, frame: Frame) -> OwnCell
+    requires { place < 2 ^ 32 }
+    ensures reading { (cells : List Datum) → reading_of result ≡ cell_read (datum_bound (frame_of cells frame).binding) }
+    ensures set { (cells : List Datum) (v : Datum) (s : PeState) → set_move result v s ≡ cell_set (datum_bound (frame_of cells frame).binding) frame.number v s }
+    ensures placed { (frames : Frames) → IsPlacedName frames (record { place = place; number = frame.number }) → IsPlacedOwnCell frames result }
+{
+    let name = FrameName {
+        place: place as u32,
+        number: frame.number,
+    };
+    match frame.binding {
+        Binding::ToThunk(_) => OwnCell::NoCell,
+        Binding::ToCell(v) => OwnCell::Reads(name, v),
+        Binding::ToEscape => OwnCell::NoCell,
+        Binding::ToSequence(..) => OwnCell::NoCell,
+    }
+}
+
+/// The cell of the frame so many links outside the one that is named.
+pub fn own_cell(core: &Core, links: u32, frame: Option<FrameName>) -> OwnCell
+    requires { IsPlacedLink (frames_of core.now) frame }
+    ensures reading { reading_of result ≡ own_cell_of (frame_outside (state_of core.now).frames links (number_of frame)) }
+    ensures set { (v : Datum) (s : PeState) → set_move result v s ≡ own_cell_set (frame_outside (state_of core.now).frames links (number_of frame)) v s }
+    ensures placed { IsPlacedOwnCell (frames_of core.now) result }
+{
+    match place_outside(core, links, frame) {
+        Some(place) => cell_at(place, core.frames[place]),
+        None => OwnCell::NoFrame,
+    }
 }
 
 /// Whether the frame that is named is there; where none is named, nothing is missing.

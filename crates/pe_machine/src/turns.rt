@@ -32,6 +32,8 @@ pub enum Change {
     SetCell(FrameName, Datum),
     /// The cell of an index in the sequence of a frame takes a datum.
     SetElement(FrameName, u32, Datum),
+    /// A cell takes a datum, and 8 are added to the load.
+    Assign(FrameName, Datum),
 }
 
 /// What a step comes to.

@@ -19,9 +19,10 @@ returns-then-is_below-2 c = elim c.if-is_below.branch [
             body = rw y.body.ensures at (y.has_sound_body.ensures.0 (sym y.value-is ∙ x.if-has_sound_body.true));
             variable = rw x.variable.ensures at (x.is_below.ensures.0 (sym x.value-is ∙ w.if-is_below.true));
             shape = rw w.shape.ensures at (w.is_below-then-is_below.ensures.0 (sym w.value-is ∙ c.if-is_below-2.true));
-            thunk = rw c.node.ensures at (c.has_sound_node.ensures.0 t);
+            thunk = (c.has_sound_rest.ensures.0 t).0;
+            straight = (c.has_sound_rest.ensures.0 t).1;
           },
-          λ sound. c.has_sound_node.ensures.1 (rw c.node.ensures sound.thunk),
+          λ sound. c.has_sound_rest.ensures.1 (sound.thunk, sound.straight),
         )
       ]
     ]
