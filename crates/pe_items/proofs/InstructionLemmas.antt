@@ -24,6 +24,7 @@ use Rattle.pe_items.proofs.Standing.{at-listed, name-listed, kept-context, names
 use Rattle.pe_items.proofs.VariableLemmas.{variable-at}
 use Rattle.pe_items.proofs.SequenceLemmas.{sequence-found}
 use Rattle.pe_items.proofs.CellLemmas.{cell-alike}
+use Rattle.pe_items.proofs.StraightLemmas.{straight-alike, assignment-alike}
 use Rattle.pe_items.proofs.JumpLemmas.{leaves}
 use Rattle.pe_items.proofs.Alike.{Alike, both_go, both_take, one_sticks, one_loses, focused-alike, pushed-under, pushed-alike, bound-alike, listed-alike, variable-alike, if_alike, answered-alike, datum_focused-alike, TakenAlike, taken-alike}
 use Rattle.pe_items.proofs.MeetingLemmas.{datum-alike, filling-alike, completion-alike, bind-alike, field-alike, accept-alike}
@@ -165,6 +166,8 @@ module _ (code : PeCode) where
         focus = at_code (names-kept (kept-context s.frames t.items (store_c (byte_or_end byte)) t.newest) r x k);
         under = pushed-under (store_c (byte_or_end byte)) (store_c (byte_or_end byte)) s t at_store u;
       })
+  executed-alike (insn.Eval ss) d at a r x s t k u = straight-alike code ss r x s t _ _ k u (λ v. focused-alike (value v) (value v) s t at_value u)
+  executed-alike (insn.Set j ss) d at a r x s t k u = assignment-alike code j ss r x s t k u
 
   item-alike : (o : Option PeItem) (a : ℕ) (r x : Option ℕ) (s : PeState) (t : ItemState) → AreAt s.frames t.items r x → UnderState s t →
       Alike (machine.item_executed code o (record { address = a; frame = r }) s) (moves.item_executed code o (record { address = a; frame = x }) t)

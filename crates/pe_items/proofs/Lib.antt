@@ -6,6 +6,7 @@ pub mod SequenceLemmas
 pub mod JumpLemmas
 pub mod Alike
 pub mod CellLemmas
+pub mod StraightLemmas
 pub mod MeetingLemmas
 pub mod InstructionLemmas
 pub mod RunSteps

@@ -1,5 +1,5 @@
 -- A step of the machine of items keeps the links.
-use Rattle.std.proofs.Common.{ℕ, ◌+◌, ◌≡◌, Bool, true, false, cond, List, ◌∷◌, length, replicate, Option, Some, None, refl, inl, inr, arith, slice_get, nat_eq, nat_lt}
+use Rattle.std.proofs.Common.{ℕ, ◌+◌, ◌≡◌, Bool, true, false, cond, List, [], ◌∷◌, length, replicate, Option, Some, None, refl, inl, inr, arith, slice_get, nat_eq, nat_lt}
 use Rattle.std.specs.Prelude.{pos, negsuc}
 use Rattle.fy_base.specs.declared.data.Place.{Place}
 use Rattle.fy_base.specs.declared.data.Datum.{Datum}
@@ -19,10 +19,11 @@ use Rattle.pe_code.specs.declared.code.PeInsn.TheVariants as insn
 use Rattle.pe_code.specs.declared.code.PeItem.{PeItem}
 use Rattle.pe_code.specs.declared.code.PeCode.{PeCode}
 use Rattle.pe_code.specs.Code.{item_at, entry_of}
+use Rattle.pe_code.specs.Straight.{Outcome, leaves, fails, has_none, misses, outcome_after}
 use Rattle.pe_machine.specs.States.{Pointer, Thunk, source, datum, cell_of, jump_of, sequence_of, Sequence, Focus, code_at, value, completed, Wanted, PeContext}
 use Rattle.pe_machine.specs.Step.{is_assignment, parts_at, Asked, a_cell, a_length, no_part, asked_at}
-use Rattle.pe_items.specs.Items.{ItemBinding, to_thunk, to_cell, to_escape, Item, frame, context, sequence, address_on, FoundContext, context_at, FoundFrame, frame_from, handed_by, escape_at, sequence_at, value_at, ItemState}
-use Rattle.pe_items.specs.Step.{ItemMove, goes, puts, takes, faults, sticks, focused, push, pushed, bound, answered, taken, newest_of, operated, left_meets, chosen, focused_if_some, indexed, written, loaded, assigned, assignment_meets, cell_entered, element_picked, with_cells, counted, one_more, bound_filled, filled, datum_meets, completion_meets, bind_meets, field_meets, accept_meets, left_by, jumped, at_entry, entered_plain, index_entered, index_meets, length_meets, sequence_asked, entered, with_variable, executed, item_executed, step_at, item_step}
+use Rattle.pe_items.specs.Items.{ItemBinding, to_thunk, to_cell, to_escape, Item, frame, context, sequence, address_on, FoundContext, context_at, FoundFrame, frame_from, datum_in, handed_by, escape_at, sequence_at, value_at, ItemState}
+use Rattle.pe_items.specs.Step.{ItemMove, goes, puts, takes, faults, sticks, focused, push, pushed, bound, answered, taken, newest_of, operated, left_meets, chosen, focused_if_some, indexed, written, loaded, assigned, assignment_meets, cell_entered, element_picked, with_cells, counted, one_more, bound_filled, filled, datum_meets, completion_meets, bind_meets, field_meets, accept_meets, left_by, jumped, at_entry, entered_plain, index_entered, index_meets, length_meets, sequence_asked, entered, with_variable, own_cell, cell_set, own_cell_set, faults_at, outcome_move, executed, item_executed, step_at, item_step}
 use Rattle.pe_items.specs.Links.{LeadsToFrame, LeadsToContext, HasSequence, IsThunkLinked, IsBindingLinked, IsContextLinked, AreLinked, IsFocusLinked, IsLinked}
 use Rattle.pe_items.proofs.LinkLemmas.{extends-newer, extends-both, has-pushed, has-laid, name-extends, foot-extends, thunk-extends, content-extends, linked-with_cell, foot-with_cell, linked-with_element, foot-with_element, FoundLinked, found-linked, IsVariableLinked, variable-linked}
 
@@ -291,6 +292,28 @@ with-variable : (is : List Item) (o : Option FoundFrame) (go : Thunk → ItemMov
 with-variable is (Some f) go h g = g (handed_by f) h
 with-variable is None go h g = tt
 
+-- ---- straight code
+
+set-linked : (o : Option Datum) (x : ℕ) (v : Datum) (s : ItemState) → IsRooted s → IsMoveLinked (cell_set o x v s)
+set-linked (Some w) x v s u = record { focus = tt; newest = foot-with_cell s.newest x v s.items u.newest_is; items = linked-with_cell x v s.items u.items }
+set-linked None x v s u = tt
+
+own-set-linked : (o : Option FoundFrame) (v : Datum) (s : ItemState) → IsRooted s → IsMoveLinked (own_cell_set o v s)
+own-set-linked (Some f) v s u = set-linked (datum_in f.binding) f.address v s u
+own-set-linked None v s u = tt
+
+faults-linked : (kind : FaultKind) (o : Option PeItem) → IsMoveLinked (faults_at kind o)
+faults-linked kind (Some i) = tt
+faults-linked kind None = tt
+
+outcome-linked : (code : PeCode) (o : Outcome) (go : Datum → ItemMove) → ((v : Datum) → IsMoveLinked (go v)) → IsMoveLinked (outcome_move code o go)
+outcome-linked code (leaves []) go h = tt
+outcome-linked code (leaves (v ∷ [])) go h = h v
+outcome-linked code (leaves (v ∷ u ∷ stack)) go h = tt
+outcome-linked code (fails kind a) go h = faults-linked kind (item_at code a)
+outcome-linked code has_none go h = tt
+outcome-linked code misses go h = tt
+
 -- ---- instructions
 
 module _ (code : PeCode) where
@@ -331,6 +354,10 @@ module _ (code : PeCode) where
   executed-linked (insn.Accept y) d at p s k u = taken-linked (accept_meets d y p.frame) s (accept-linked d y p.frame s k) u
   executed-linked (insn.Put kind y) d at p s k u = pushed-linked (put_c kind) (record p { address = y }) s tt k u
   executed-linked (insn.Read y) d at p s k u = λ byte. pushed-linked (store_c (byte_or_end byte)) (record p { address = y }) s tt k u
+  executed-linked (insn.Eval ss) d at p s k u =
+      outcome-linked code (outcome_after (λ j. own_cell (frame_from s.items j p.frame)) ss []) (λ v. focused (value v) s) (λ v. focused-linked (value v) s tt u)
+  executed-linked (insn.Set j ss) d at p s k u =
+      outcome-linked code (outcome_after (λ i. own_cell (frame_from s.items i p.frame)) ss []) (λ v. own_cell_set (frame_from s.items j p.frame) v s) (λ v. own-set-linked (frame_from s.items j p.frame) v s u)
 
   item-linked : (o : Option PeItem) (p : Pointer) (s : ItemState) → LeadsToFrame s.items p.frame → IsRooted s → IsMoveLinked (item_executed code o p s)
   item-linked (Some i) p s k u = executed-linked i.insn i.depth i.place p s k u

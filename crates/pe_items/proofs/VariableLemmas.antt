@@ -64,7 +64,7 @@ variable-at b k (Some n) None h a (newer_frame s o l) = absurd a
 
 -- ---- cells
 
-binding-datum : {fs : List Frame} {is : List Item} {cs : List Held} {newest n : ℕ} {b : Binding} {u : ItemBinding} → BindingStands fs is cs newest n b u →
+pub binding-datum : {fs : List Frame} {is : List Item} {cs : List Held} {newest n : ℕ} {b : Binding} {u : ItemBinding} → BindingStands fs is cs newest n b u →
     datum_in b ≡ items.datum_in u
 binding-datum (thunk_bound t) = refl
 binding-datum cell_bound = refl

@@ -1,6 +1,6 @@
 -- The steps of the push-enter machine on items. An answer and a jump cut the items back to those below the context; a context that is taken stays among the items until such a cut.
 -- The cells of a sequence that is not complete stand on its context, which is written anew with each.
-use Rattle.std.specs.Prelude.{ℕ, ◌+◌, Bool, true, false, nat_eq, nat_lt, if◌then◌else◌, List, ◌∷◌, length, replicate, slice_get, Some, None, pos, negsuc}
+use Rattle.std.specs.Prelude.{ℕ, ◌+◌, Bool, true, false, nat_eq, nat_lt, if◌then◌else◌, List, [], ◌∷◌, length, replicate, slice_get, Some, None, pos, negsuc}
 use Rattle.std.specs.declared.option.Option.{Option}
 use Rattle.fy_base.specs.declared.data.Place.{Place}
 use Rattle.fy_base.specs.declared.data.Datum.{Datum}
@@ -17,12 +17,14 @@ use Rattle.fy_phrase.specs.Contexts.{op_1, op_l, op_r, if_c, case_c, arg_c, pick
 use Rattle.fy_phrase.specs.Copy.{Which, own, element, byte_or_end}
 use Rattle.pe_code.specs.declared.code.PeInsn.{PeInsn}
 use Rattle.pe_code.specs.declared.code.PeInsn.TheVariants as insn
+use Rattle.pe_code.specs.declared.code.StraightPart.{StraightPart}
 use Rattle.pe_code.specs.declared.code.PeItem.{PeItem}
 use Rattle.pe_code.specs.declared.code.PeCode.{PeCode}
 use Rattle.pe_code.specs.Code.{item_at, entry_of}
+use Rattle.pe_code.specs.Straight.{Reading, no_frame, cell_read, Outcome, leaves, fails, has_none, misses, outcome_after}
 use Rattle.pe_machine.specs.States.{Pointer, Thunk, source, datum, cell_of, jump_of, sequence_of, Sequence, Focus, code_at, value, completed, Wanted, PeContext}
 use Rattle.pe_machine.specs.Step.{is_assignment, parts_at, Asked, a_cell, a_length, no_part, asked_at}
-use Rattle.pe_items.specs.Items.{ItemBinding, to_thunk, to_cell, to_escape, frame, context, sequence, address_on, FoundContext, context_at, FoundFrame, frame_from, handed_by, escape_at, sequence_at, value_at, with_value, ItemState}
+use Rattle.pe_items.specs.Items.{ItemBinding, to_thunk, to_cell, to_escape, frame, context, sequence, address_on, FoundContext, context_at, FoundFrame, frame_from, datum_in, handed_by, escape_at, sequence_at, value_at, with_value, ItemState}
 
 -- where a step leads, as the push-enter machine's does
 pub data ItemMove : Type 0 where
@@ -236,6 +238,35 @@ abbrev pub with_variable : Option FoundFrame → (Thunk → ItemMove) → ItemMo
 with_variable (Some f) go = go (handed_by f)
 with_variable None go = sticks
 
+-- ---- straight code
+
+abbrev pub own_cell : Option FoundFrame → Reading
+own_cell (Some f) = cell_read (datum_in f.binding)
+own_cell None = no_frame
+
+-- no item is made for the assignment
+abbrev pub cell_set : Option Datum → ℕ → Datum → ItemState → ItemMove
+cell_set (Some u) x v s = focused completed (record s { items = with_value own x v s.items })
+cell_set None x v s = sticks
+
+abbrev pub own_cell_set : Option FoundFrame → Datum → ItemState → ItemMove
+own_cell_set (Some f) v s = cell_set (datum_in f.binding) f.address v s
+own_cell_set None v s = sticks
+
+abbrev pub faults_at : FaultKind → Option PeItem → ItemMove
+faults_at kind (Some i) = faults kind i.place
+faults_at kind None = sticks
+
+abbrev pub outcome_move : PeCode → Outcome → (Datum → ItemMove) → ItemMove
+outcome_move code (leaves (v ∷ [])) go = go v
+outcome_move code (leaves stack) go = sticks
+outcome_move code (fails kind a) go = faults_at kind (item_at code a)
+outcome_move code has_none go = sticks
+outcome_move code misses go = sticks
+
+abbrev pub straight_run : PeCode → List StraightPart → Option ℕ → ItemState → (Datum → ItemMove) → ItemMove
+straight_run code ss x s go = outcome_move code (outcome_after (λ k. own_cell (frame_from s.items k x)) ss []) go
+
 -- ---- one step, by the focus
 
 abbrev pub executed : PeCode → PeInsn → ℕ → Place → Pointer → ItemState → ItemMove
@@ -268,6 +299,8 @@ executed code (insn.Escape y) d at here s = bound d (to_escape (address_on s.ite
 executed code (insn.Accept y) d at here s = taken (accept_meets d y here.frame) (newest_of s) s
 executed code (insn.Put kind x) d at here s = pushed (put_c kind) (record here { address = x }) s
 executed code (insn.Read x) d at here s = takes (λ byte. focus_on (code_at (record here { address = x })) (push (store_c (byte_or_end byte)) s))
+executed code (insn.Eval ss) d at here s = straight_run code ss here.frame s (λ v. focused (value v) s)
+executed code (insn.Set k ss) d at here s = straight_run code ss here.frame s (λ v. own_cell_set (frame_from s.items k here.frame) v s)
 
 abbrev pub item_executed : PeCode → Option PeItem → Pointer → ItemState → ItemMove
 item_executed code (Some i) here s = executed code i.insn i.depth i.place here s
