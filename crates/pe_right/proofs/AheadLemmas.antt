@@ -1,5 +1,5 @@
 -- Runs of code that hands constants as data, by those of the code that hands thunks.
-use Rattle.std.proofs.Common.{ℕ, zero, suc, ◌+◌, ◌-◌, ◌*◌, ◌≤◌, ◌≡◌, ◌≢◌, List, [], ◌∷◌, ◌++◌, drop, Option, slice_get, refl, sym, ap, ap₂, ◌∙◌, subst, arith, append-nil, append_assoc}
+use Rattle.std.proofs.Common.{ℕ, zero, suc, ◌+◌, ◌-◌, ◌*◌, ◌≤◌, ◌≡◌, ◌≢◌, false, List, [], ◌∷◌, ◌++◌, drop, Option, slice_get, refl, sym, ap, ap₂, ◌∙◌, subst, arith, append-nil, append_assoc}
 use Rattle.fy_base.specs.declared.data.Datum.{Datum}
 use Rattle.fy_base.specs.Outside.{Bytes}
 use Rattle.fy_phrase.specs.Copy.{CopyState}
@@ -129,9 +129,9 @@ module _ (known : ℕ → Option Datum) where
   settled-swap sticks r = refl
   settled-swap loses r = refl
 
-module _ (g : Compiled) (made : PeCode) (direct : IsDirectOf g.phrase g.code made) where
+module _ (g : Compiled) (made : PeCode) (direct : IsDirectOf g.phrase g.code made) (by_each : (k : ℕ) → g.straight k ≡ false) where
   abbrev Known : ℕ → Option Datum
-  Known k = cv g made direct k
+  Known k = cv g made direct by_each k
 
   -- one step of the code that hands data is some steps of the other
   record Covers (n : PeRun) (r : PeRun) : Type 0 where
@@ -150,12 +150,12 @@ module _ (g : Compiled) (made : PeCode) (direct : IsDirectOf g.phrase g.code mad
 
   covers-going : (k : ℕ) (r : PeRun) (c : CopyState) → r.standing ≡ going → Follows g k r.state c → (tick g.code r).standing ≢ gone → (tick g.code r).standing ≢ stuck →
       Covers (settled (pe_step made (swap_state Known r.state)) (swap_run Known r)) r
-  covers-going k r c up t here moves = by (step-hands g made direct k r.state c t)
+  covers-going k r c up t here moves = by (step-hands g made direct by_each k r.state c t)
     where
       now : {m : PeMove} → pe_step g.code r.state ≡ m → tick g.code r ≡ settled m r
       now e = ap (λ (st : Standing). ticked g.code st r) up ∙ ap (λ (m : PeMove). settled m r) e
 
-      by : Hands g made direct (pe_step made (swap_state Known r.state)) (pe_step g.code r.state) → Covers (settled (pe_step made (swap_state Known r.state)) (swap_run Known r)) r
+      by : Hands g made direct by_each (pe_step made (swap_state Known r.state)) (pe_step g.code r.state) → Covers (settled (pe_step made (swap_state Known r.state)) (swap_run Known r)) r
       by (locked e) = record {
         count = 1;
         some = omega arith;
@@ -176,13 +176,13 @@ module _ (g : Compiled) (made : PeCode) (direct : IsDirectOf g.phrase g.code mad
                 ∙ ap (λ (x : PeRun). swap_run Known x) (sym (after_first g.code j r ∙ ap (λ (x : PeRun). after_more g.code j x) (now e) ∙ through path next refl refl));
           }
 
-  covers : (k : ℕ) (st : Standing) (r : PeRun) (c : CopyState) → r.standing ≡ st → Follows g k r.state c → (tick g.code r).standing ≢ gone → (tick g.code r).standing ≢ stuck →
+  covers : (st : Standing) (r : PeRun) → r.standing ≡ st → (r.standing ≡ going → (k : ℕ) × (c : CopyState) × Follows g k r.state c) → (tick g.code r).standing ≢ gone → (tick g.code r).standing ≢ stuck →
       Covers (ticked made st (swap_run Known r)) r
-  covers k going r c e t here moves = covers-going k r c e t here moves
-  covers k ended r c e t here moves = covers-over _ r e (λ f. cc)
-  covers k (faulted kind at) r c e t here moves = covers-over _ r e (λ f. cc)
-  covers k stuck r c e t here moves = covers-over _ r e (λ f. cc)
-  covers k gone r c e t here moves = covers-over _ r e (λ f. cc)
+  covers going r e t here moves = let x = t e in covers-going x.0 r x.1 e x.2 here moves
+  covers ended r e t here moves = covers-over _ r e (λ f. cc)
+  covers (faulted kind at) r e t here moves = covers-over _ r e (λ f. cc)
+  covers stuck r e t here moves = covers-over _ r e (λ f. cc)
+  covers gone r e t here moves = covers-over _ r e (λ f. cc)
 
   -- after n steps
   record Matched (input : Bytes) (n : ℕ) : Type 0 where
@@ -201,11 +201,11 @@ module _ (g : Compiled) (made : PeCode) (direct : IsDirectOf g.phrase g.code mad
   matched input (suc n) =
       let h = matched input n in
       let r = pe_after g.code input h.count in
-      let t = simulated g input h.count in
+      let t : r.standing ≡ going → (k : ℕ) × (c : CopyState) × Follows g k r.state c = simulated g input h.count in
       let one : pe_after g.code input (suc h.count) ≡ tick g.code r = after_suc g.code h.count (start_run input) in
       let f : FollowsCopyRule g.handed g.phrase g.code = follows g in
       let x : Covers (ticked made r.standing (swap_run Known r)) r =
-      covers t.0 r.standing r t.1 refl t.2 (λ e. f.never_gone input (suc h.count) (ap (λ (y : PeRun). y.standing) one ∙ e))
+      covers r.standing r refl t (λ e. f.never_gone input (suc h.count) (ap (λ (y : PeRun). y.standing) one ∙ e))
       (λ e. f.never_stuck input (suc h.count) (ap (λ (y : PeRun). y.standing) one ∙ e)) in
       record {
         count = h.count + x.count;

@@ -117,7 +117,7 @@ IsUse false X P = P ≡ end (data_atom X)
 module _ (g : Compiled) where
   -- ---- a cell is read
 
-  reads-under : (which : Which) (X : DataTy) (n : ℕ) (at : Place) (P : PlainPath) (fs : List Frame) (cs : List Held) (xs : List (Pushed CopyContext)) (c : CopyState) →
+  pub reads-under : (which : Which) (X : DataTy) (n : ℕ) (at : Place) (P : PlainPath) (fs : List Frame) (cs : List Held) (xs : List (Pushed CopyContext)) (c : CopyState) →
       P ≡ end (data_atom X) → ContextsTake g fs cs xs P → copy.cell_under which n at xs c ≡ copy.loaded (value_of which n c.store) at c
   reads-under which X n at P fs [] [] c e t = refl
   reads-under which X n at P fs (k ∷ cs) (x ∷ xs) c e t = not_assigned which x.context n at xs c (sym (value_asked X e) ∙ held-asked g t.3.1)

@@ -1,5 +1,5 @@
 -- The code of a constant comes to its value in fewer steps of the machine than twice its nodes, and nothing but the focus changes.
-use Rattle.std.proofs.Common.{ℕ, suc, true, false, ◌+◌, ◌*◌, ◌≤◌, ◌≡◌, ◌⊎◌, List, length, Option, Some, refl, ap, ◌∙◌, subst, inl, inr, arith}
+use Rattle.std.proofs.Common.{ℕ, suc, true, false, ◌+◌, ◌*◌, ◌≤◌, ◌≡◌, ◌⊎◌, List, [], length, Option, Some, refl, ap, ◌∙◌, subst, inl, inr, arith}
 use Rattle.fy_base.specs.declared.data.Place.{Place}
 use Rattle.fy_base.specs.declared.data.Datum.{Datum}
 use Rattle.fy_base.specs.declared.data.Datum.TheVariants as datum_kind
@@ -21,13 +21,14 @@ use Rattle.pe_code.specs.Code.{item_at}
 use Rattle.pe_machine.specs.States.{Pointer, Frame, code_at, value, PeState, oldest}
 use Rattle.pe_machine.specs.Step.{PeMove, goes, focus_on, push, focused, pushed, operated, left_meets, executed, item_executed, pe_step}
 use Rattle.pe_right.specs.Constants.{value_of}
-use Rattle.pe_right.specs.Right.{IsNodeUnder, itself, in_first, in_later, Enters, IsItemOf}
+use Rattle.pe_right.specs.Entered.{BinderKind, IsEntered, is_entered, within_first, within_later}
+use Rattle.pe_right.specs.Right.{Enters, IsItemAt}
 use Rattle.pe_right.proofs.ConstantLemmas.{unary-of, binary-of}
 use Rattle.pe_right.proofs.Evaluating.{nodes-some}
 use Rattle.pe_right.proofs.FrameLemmas.{oldest-all}
 use Rattle.pe_right.proofs.Invariants.{Compiled}
-use Rattle.pe_right.proofs.NodeLemmas.{under-part}
-use Rattle.pe_right.proofs.EntryLemmas.{insn-is}
+use Rattle.pe_right.proofs.NodeLemmas.{part-entered}
+use Rattle.pe_right.proofs.EntryLemmas.{insn-is, plain-insn}
 
 -- steps of the machine that neither put nor take
 pub data CodeSteps (code : PeCode) : ℕ → PeState → PeState → Type 0 where
@@ -139,23 +140,25 @@ module _ (g : Compiled) where
       ]
 
   -- a form that is no merge has its item
-  abbrev Item : (d k : ℕ) → Tree → PlainShape → ℕ → Type 0
-  Item d k q t a = (item : PeItem) × (item_at g.code a ≡ Some item) × IsItemOf g.handed g.table g.code d k q t item
+  abbrev Item : (d : List BinderKind) (k : ℕ) → Tree → PlainShape → ℕ → Type 0
+  Item d k q t a = (item : PeItem) × (item_at g.code a ≡ Some item) × IsItemAt g.handed g.straight g.table g.code d k q t item
 
-  pub code-evaluated : (q : Tree) (v : Datum) (d k a : ℕ) (t : PlainShape) → value_of q ≡ Some v → IsNodeUnder 0 0 g.phrase d k q → Enters g.table g.code k t a → Evaluates a q v
-  code-evaluated (lit u at) v d k a t e node en =
+  -- in code that evaluates no node in one step
+  pub code-evaluated : (none : (k : ℕ) → g.straight k ≡ false) (q : Tree) (v : Datum) (d : List BinderKind) (k a : ℕ) (t : PlainShape) → value_of q ≡ Some v → IsEntered g.straight [] 0 g.phrase d k q → Enters g.table g.code k t a →
+      Evaluates a q v
+  code-evaluated none (lit u at) v d k a t e node en =
       let f : u ≡ v = cc in
       let it : Item d k (lit u at) t a = g.right.right d k a (lit u at) t node en in
-      lit-evaluates a at u v it.0 it.1 (insn-is g.handed g.table g.code it.2.insn) f
-  code-evaluated (unary op p at) v d k a t e node en =
+      lit-evaluates a at u v it.0 it.1 (insn-is g.handed g.table g.code (plain-insn g (none k) it.2.insn)) f
+  code-evaluated none (unary op p at) v d k a t e node en =
       let x = unary-of op (value_of p) v e in
       let it : Item d k (unary op p at) t a = g.right.right d k a (unary op p at) t node en in
-      let y = insn-is g.handed g.table g.code it.2.insn in
-      unary-evaluates a y.0 op p at x.0 v it.0 it.1 y.2 x.2 (code-evaluated p x.0 d (k + 1) y.0 _ x.1 (under-part node (in_first itself)) y.1)
-  code-evaluated (binary op p q at) v d k a t e node en =
+      let y = insn-is g.handed g.table g.code (plain-insn g (none k) it.2.insn) in
+      unary-evaluates a y.0 op p at x.0 v it.0 it.1 y.2 x.2 (code-evaluated none p x.0 d (k + 1) y.0 _ x.1 (part-entered g.straight node (none k) (within_first is_entered)) y.1)
+  code-evaluated none (binary op p q at) v d k a t e node en =
       let x = binary-of op (value_of p) (value_of q) v e in
       let it : Item d k (binary op p q at) t a = g.right.right d k a (binary op p q at) t node en in
-      let y = insn-is g.handed g.table g.code it.2.insn in
-      binary-evaluates a y.0 y.1 op p q at x.0 x.1 v it.0 it.1 y.4 x.4 (code-evaluated p x.0 d (k + 1) y.0 _ x.2 (under-part node (in_first itself)) y.2)
-      (code-evaluated q x.1 d (k + 1 + nodes p) y.1 _ x.3 (under-part node (in_later (in_first itself))) y.3)
-  code-evaluated q v d k a t e node en = absurd cc
+      let y = insn-is g.handed g.table g.code (plain-insn g (none k) it.2.insn) in
+      binary-evaluates a y.0 y.1 op p q at x.0 x.1 v it.0 it.1 y.4 x.4 (code-evaluated none p x.0 d (k + 1) y.0 _ x.2 (part-entered g.straight node (none k) (within_first is_entered)) y.2)
+      (code-evaluated none q x.1 d (k + 1 + nodes p) y.1 _ x.3 (part-entered g.straight node (none k) (within_later (within_first is_entered))) y.3)
+  code-evaluated none q v d k a t e node en = absurd cc

@@ -10,9 +10,10 @@ use Rattle.fy_derive.specs.ShapeTables.{shape_at, HasPairOf}
 use Rattle.pe_code.specs.declared.code.PeInsn.{PeInsn}
 use Rattle.pe_code.specs.declared.code.PeInsn.TheVariants as insn
 use Rattle.pe_code.specs.declared.code.PeCode.{PeCode}
-use Rattle.pe_code.specs.Code.{entry_of}
+use Rattle.pe_code.specs.Code.{straight_of, entry_of}
 use Rattle.pe_machine.specs.Step.{is_assignment, a_cell, a_length, asked_at}
-use Rattle.pe_right.specs.Right.{is_variable, Enters, EachEnters, IsNumberOf, AreSequencesOf, IsInsnOf, of_var, of_lit, of_unary, of_binary, of_cond, of_case, of_lam, of_app, of_app_variable, of_app_datum, of_field, of_sel, of_let, of_let_variable, of_let_datum, of_rec, of_skip, of_seq, of_assign, of_while, of_forever, of_new, of_cells, of_escape, of_accept, of_put, of_read}
+use Rattle.pe_right.specs.Entered.{BinderKind}
+use Rattle.pe_right.specs.Right.{is_variable, Enters, EachEnters, IsNumberOf, AreSequencesOf, IsInsnAt, by_parts, at_once, IsInsnOf, of_var, of_lit, of_unary, of_binary, of_cond, of_case, of_lam, of_app, of_app_variable, of_app_datum, of_field, of_sel, of_let, of_let_variable, of_let_datum, of_rec, of_skip, of_seq, of_assign, of_while, of_forever, of_new, of_cells, of_escape, of_accept, of_put, of_read}
 use Rattle.pe_right.proofs.Invariants.{Compiled}
 
 -- ---- the instruction of a form
@@ -132,7 +133,42 @@ asked-length table code n h e = rw (
 
 -- ---- entries
 
+-- the instruction of a form runs no straight code
+pub form-plain : {handed : Tree → Option Datum} {table : ShapeTable} {code : PeCode} {k : ℕ} {q : Tree} {t : PlainShape} {i : PeInsn} → IsInsnOf handed table code k q t i → straight_of i ≡ None
+form-plain (of_var e) = refl
+form-plain of_lit = refl
+form-plain (of_unary e) = refl
+form-plain (of_binary e f) = refl
+form-plain (of_cond e f h) = refl
+form-plain (of_case e es) = refl
+form-plain (of_lam e) = refl
+form-plain (of_app n u e) = refl
+form-plain (of_app_variable n e) = refl
+form-plain (of_app_datum n e) = refl
+form-plain (of_field e) = refl
+form-plain (of_sel e) = refl
+form-plain (of_let n u e) = refl
+form-plain (of_let_variable n e) = refl
+form-plain (of_let_datum n e) = refl
+form-plain (of_rec e) = refl
+form-plain of_skip = refl
+form-plain (of_seq e f) = refl
+form-plain (of_assign e f) = refl
+form-plain (of_while e f) = refl
+form-plain (of_forever e) = refl
+form-plain (of_new e f) = refl
+form-plain (of_cells e f) = refl
+form-plain (of_escape e) = refl
+form-plain (of_accept e) = refl
+form-plain (of_put e) = refl
+form-plain (of_read e) = refl
+
 module _ (g : Compiled) where
+  -- where a node isn't evaluated in one step, its instruction is that of its form
+  pub plain-insn : {v : List BinderKind} {k : ℕ} {q : Tree} {t : PlainShape} {i : PeInsn} → g.straight k ≡ false → IsInsnAt g.handed g.straight g.table g.code v k q t i → IsInsnOf g.handed g.table g.code k q t i
+  plain-insn plain (by_parts e h) = h
+  plain-insn plain (at_once e h) = let f : true ≡ false = sym e ∙ plain in absurd cc
+
   -- a pair of the table has an entry, whatever number its shape goes by
   pub entry-found : (k n : ℕ) (s : PlainShape) → HasPairOf g.table k s → shape_at g.table n ≡ Some s → (a : ℕ) × (entry_of g.code k n ≡ Some a)
   entry-found k n s h e =

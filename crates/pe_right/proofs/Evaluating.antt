@@ -16,7 +16,7 @@ use Rattle.pe_right.specs.Constants.{value_of}
 use Rattle.pe_right.proofs.ConstantLemmas.{unary-of, binary-of}
 use Rattle.pe_right.proofs.Moves.{Steps, no_step, and_step}
 
-joined : {i j : ℕ} {c d e : CopyState} → Steps i c d → Steps j d e → Steps (i + j) c e
+pub joined : {i j : ℕ} {c d e : CopyState} → Steps i c d → Steps j d e → Steps (i + j) c e
 joined {j = j} {d = d} {e = e} no_step y = let z : j ≡ 0 + j = omega arith in subst (λ (n : ℕ). Steps n d e) z y
 joined {j = j} {c = c} {e = e} (and_step {j = i} h x) y = let z : suc (i + j) ≡ suc i + j = omega arith in subst (λ (n : ℕ). Steps n c e) z (and_step h (joined x y))
 

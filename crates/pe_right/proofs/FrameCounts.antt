@@ -11,14 +11,16 @@ use Rattle.fy_base.specs.Arithmetic.{unary_result, binary_result, written_text}
 use Rattle.fy_base.specs.Outside.{Bytes}
 use Rattle.fy_phrase.specs.Contexts.{op_1, op_l, op_r, if_c, case_c, arg_c, pick_c, then_c, assign_c, store_c, while_c, body_c, loop_c, new_c, drop_c, put_c, esc_c, cells_c, fill_c, element_c}
 use Rattle.fy_phrase.specs.Copy.{Which, own, element}
+use Rattle.fy_base.specs.declared.data.FaultKind.{FaultKind}
 use Rattle.fy_base.specs.declared.data.FaultKind.TheVariants.{Range}
 use Rattle.pe_code.specs.declared.code.PeInsn.{PeInsn}
 use Rattle.pe_code.specs.declared.code.PeInsn.TheVariants as insn
 use Rattle.pe_code.specs.declared.code.PeItem.{PeItem}
 use Rattle.pe_code.specs.declared.code.PeCode.{PeCode}
 use Rattle.pe_code.specs.Code.{item_at, entry_of}
-use Rattle.pe_machine.specs.States.{Pointer, Thunk, source, datum, cell_of, jump_of, sequence_of, to_thunk, Frame, Focus, code_at, value, completed, PeContext, Wanted, Sequence, Held, PeState, oldest, is_listed, frame_outside, sequence_at, value_of, handed_on}
-use Rattle.pe_machine.specs.Step.{PeMove, goes, puts, takes, faults, sticks, loses, focused, pushed, bound, answered, taken, operated, left_meets, chosen, parts_at, focused_if_some, indexed, written, element_picked, counted, datum_meets, one_more, bound_filled, filled, datum_under, datum_focused, completion_meets, bind_meets, field_meets, accept_meets, loaded, assigned, assignment_meets, cell_entered, is_target, jumped, at_entry, if_listed, is_assignment, push, entered_plain, index_entered, index_meets, length_meets, Asked, a_cell, a_length, no_part, asked_at, sequence_asked, entered, with_variable, executed, item_executed, step_at, pe_step}
+use Rattle.pe_machine.specs.States.{Pointer, Thunk, source, datum, cell_of, jump_of, sequence_of, to_thunk, Frame, Focus, code_at, value, completed, PeContext, Wanted, Sequence, Held, PeState, oldest, is_listed, frame_outside, datum_in, sequence_at, value_of, handed_on}
+use Rattle.pe_code.specs.Straight.{Outcome, leaves, fails, has_none, misses, outcome_after}
+use Rattle.pe_machine.specs.Step.{own_cell, cell_set, own_cell_set, faults_at, outcome_move, PeMove, goes, puts, takes, faults, sticks, loses, focused, pushed, bound, answered, taken, operated, left_meets, chosen, parts_at, focused_if_some, indexed, written, element_picked, counted, datum_meets, one_more, bound_filled, filled, datum_under, datum_focused, completion_meets, bind_meets, field_meets, accept_meets, loaded, assigned, assignment_meets, cell_entered, is_target, jumped, at_entry, if_listed, is_assignment, push, entered_plain, index_entered, index_meets, length_meets, Asked, a_cell, a_length, no_part, asked_at, sequence_asked, entered, with_variable, executed, item_executed, step_at, pe_step}
 
 -- the state that the move leads to has made at least n frames
 abbrev pub HasMade : ℕ → PeMove → Type 0
@@ -209,6 +211,26 @@ made-variable n (Some f) go h = h (handed_on f.number f.binding)
 
 -- ---- a step
 
+made-fault : (n : ℕ) (kind : FaultKind) (o : Option PeItem) → HasMade n (faults_at kind o)
+made-fault n kind (Some i) = tt
+made-fault n kind None = tt
+
+made-outcome : (code : PeCode) (n : ℕ) (o : Outcome) (go : Datum → PeMove) → ((v : Datum) → HasMade n (go v)) → HasMade n (outcome_move code o go)
+made-outcome code n (leaves []) go h = tt
+made-outcome code n (leaves (v ∷ [])) go h = h v
+made-outcome code n (leaves (v ∷ u ∷ stack)) go h = tt
+made-outcome code n (fails kind a) go h = made-fault n kind (item_at code a)
+made-outcome code n has_none go h = tt
+made-outcome code n misses go h = tt
+
+made-set : (o : Option Datum) (m : ℕ) (v : Datum) (s : PeState) → HasMade s.next (cell_set o m v s)
+made-set (Some u) m v s = omega arith
+made-set None m v s = tt
+
+made-own_set : (o : Option Frame) (v : Datum) (s : PeState) → HasMade s.next (own_cell_set o v s)
+made-own_set (Some f) v s = made-set (datum_in f.binding) f.number v s
+made-own_set None v s = tt
+
 made-executed : (code : PeCode) (i : PeInsn) (d : ℕ) (at : Place) (here : Pointer) (s : PeState) → HasMade s.next (executed code i d at here s)
 made-executed code (insn.UseVar k n) d at here s = made-variable s.next (frame_outside s.frames k here.frame) (λ t. entered code n t s) (λ t. made-entered code n t s)
 made-executed code (insn.Bind y) d at here s = made-taken (bind_meets d y here.frame) (made-bind d y here.frame) s.contexts s
@@ -219,6 +241,11 @@ made-executed code (insn.LetVar k y) d at here s =
     made-variable s.next (frame_outside s.frames k here.frame) (λ t. bound d (to_thunk t) y here.frame s) (λ t. omega arith)
 made-executed code (insn.Accept y) d at here s = made-taken (accept_meets d y here.frame) (made-accept d y here.frame) s.contexts s
 made-executed code (insn.Read x) d at here s = λ byte. omega arith
+made-executed code (insn.Eval ss) d at here s =
+    made-outcome code s.next (outcome_after (λ k. own_cell (frame_outside s.frames k here.frame)) ss []) (λ v. focused (value v) s) (λ v. omega arith)
+made-executed code (insn.Set j ss) d at here s =
+    made-outcome code s.next (outcome_after (λ k. own_cell (frame_outside s.frames k here.frame)) ss []) (λ v. own_cell_set (frame_outside s.frames j here.frame) v s)
+    (λ v. made-own_set (frame_outside s.frames j here.frame) v s)
 made-executed code i d at here s = omega arith
 
 made-item : (code : PeCode) (o : Option PeItem) (here : Pointer) (s : PeState) → HasMade s.next (item_executed code o here s)

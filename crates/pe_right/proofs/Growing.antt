@@ -15,13 +15,29 @@ use Rattle.fy_derive.proofs.StateTyping.{ints-set}
 use Rattle.pe_code.specs.Code.{picked_from}
 use Rattle.pe_machine.specs.States.{Pointer, Thunk, source, datum, cell_of, jump_of, sequence_of, Binding, to_thunk, to_cell, to_escape, to_sequence, Frame, PeContext, oldest, is_named, is_listed, from_frame, frame_outside, with_binding, handed_on}
 use Rattle.pe_right.specs.Closing.{phrase_at}
+use Rattle.pe_right.specs.Entered.{BinderKind, a_cell, another}
 use Rattle.pe_right.proofs.ConstantLemmas.{constant-value, value-shut}
 use Rattle.pe_right.proofs.ClosingLemmas.{Shut, AllShut, shut-closed_by}
 use Rattle.pe_right.proofs.FrameLemmas.{changed, written, Below, along_cut, HasFrame-newer, IsEscape, IsEscape-written, with_binding-newer, with_binding-here}
-use Rattle.pe_right.proofs.Invariants.{Compiled, Above, HoldsDatum, HasCell, HoldsInts, HasSequence, HasEscape, FramesAnswer, ThunkAnswers, BindingAnswers, CodeAnswers, BodyAnswers, EachCodeAnswers, ContextTakes, unary_operand, left_operand, right_operand, condition, index, procedure, selected, first_command, assigned_value, acceptor, loop_test, loop_body, endless_body, first_value, cells_wanted, element_wanted, cell_body, put_datum, escape_body}
+use Rattle.pe_right.proofs.Invariants.{Compiled, Above, IsBoundBy, AreBoundBy, IsNode, IsBody, HoldsDatum, HasCell, HoldsInts, HasSequence, HasEscape, FramesAnswer, ThunkAnswers, BindingAnswers, CodeAnswers, BodyAnswers, EachCodeAnswers, ContextTakes, unary_operand, left_operand, right_operand, condition, index, procedure, selected, first_command, assigned_value, acceptor, loop_test, loop_body, endless_body, first_value, cells_wanted, element_wanted, cell_body, put_datum, escape_body}
 
-named-itself : (r : Option ℕ) (n : ℕ) → r ≡ Some n → is_named r n ≡ true
+pub named-itself : (r : Option ℕ) (n : ℕ) → r ≡ Some n → is_named r n ≡ true
 named-itself r n e = ap (λ (x : Option ℕ). is_named x n) e ∙ eq-eqb n n refl
+
+-- a frame with too great a number isn't named
+bound-unnamed : (fs : List Frame) (b m : ℕ) (r : Option ℕ) (w : List BinderKind) → Below b fs → b ≤ m → AreBoundBy fs r w → is_named r m ≡ false
+bound-unnamed [] b m r w h le e = ap (λ (x : Option ℕ). is_named x m) e.0
+bound-unnamed (f ∷ fs) b m r w h le (inl e) = let l = h.0 in ap (λ (x : Option ℕ). is_named x m) e.0 ∙ ne_eqb f.number m (λ q. omega arith)
+bound-unnamed (f ∷ fs) b m r w h le (inr e) = let l = h.0 in bound-unnamed fs f.number m r w h.1 (omega arith) e.1
+
+-- what is bound so is so once a cell is written
+bound-written : (which : Which) (v : Datum) (y : BinderKind) (b : Binding) → IsBoundBy y b → IsBoundBy y (written which v b)
+bound-written which v another b h = tt
+bound-written which v a_cell (to_thunk t) h = absurd h
+bound-written own v a_cell (to_cell u) h = tt
+bound-written (element i) v a_cell (to_cell u) h = tt
+bound-written which v a_cell to_escape h = absurd h
+bound-written which v a_cell (to_sequence c) h = absurd h
 
 module _ (g : Compiled) where
   -- what stands in the first list stands in the second
@@ -30,9 +46,10 @@ module _ (g : Compiled) where
     pub cell : (which : Which) (X : DataTy) (n : ℕ) → HasCell which X n fs → HasCell which X n gs
     pub sequence : (n : ℕ) → HasSequence n fs → HasSequence n gs
     pub escape : (n : ℕ) → HasEscape n fs → HasEscape n gs
+    pub bound : (r : Option ℕ) (w : List BinderKind) → AreBoundBy fs r w → AreBoundBy gs r w
 
   pub extends-itself : (fs : List Frame) → Extends fs fs
-  extends-itself fs = record { env = λ r qs G e. e; cell = λ which X n h. h; sequence = λ n h. h; escape = λ n h. h }
+  extends-itself fs = record { env = λ r qs G e. e; cell = λ which X n h. h; sequence = λ n h. h; escape = λ n h. h; bound = λ r w h. h }
 
   extends-trans : {fs gs hs : List Frame} → Extends fs gs → Extends gs hs → Extends fs hs
   extends-trans a b =
@@ -41,6 +58,7 @@ module _ (g : Compiled) where
         cell = λ which X n h. b.cell which X n (a.cell which X n h);
         sequence = λ n h. b.sequence n (a.sequence n h);
         escape = λ n h. b.escape n (a.escape n h);
+        bound = λ r w h. b.bound r w (a.bound r w h);
       }
 
   -- a frame with too great a number isn't named
@@ -56,6 +74,7 @@ module _ (g : Compiled) where
     cell = λ which X n c. HasFrame-newer (λ b. HoldsDatum which X b) n f fs h c;
     sequence = λ n c. HasFrame-newer (λ b. HoldsInts b) n f fs h c;
     escape = λ n c. HasFrame-newer (λ b. IsEscape b) n f fs h c;
+    bound = λ r w e. inr (bound-unnamed fs f.number f.number r w h (omega arith) e, e);
   }
 
   pub extends-oldest : (k : ℕ) (fs : List Frame) (b : ℕ) → Below b fs → Extends (oldest k fs) fs
@@ -65,8 +84,14 @@ module _ (g : Compiled) where
 
   -- ---- thunks, code and contexts go along
 
+  node-extends : {fs gs : List Frame} → Extends fs gs → {r : Option ℕ} {d k : ℕ} {q : Tree} → IsNode g fs r d k q → IsNode g gs r d k q
+  node-extends x {r = r} n = record { binders = n.binders; stands = n.stands; many = n.many; bound = x.bound r n.binders n.bound; closed = n.closed; depths = n.depths }
+
+  body-node-extends : {fs gs : List Frame} → Extends fs gs → {r : Option ℕ} {y : BinderKind} {d k : ℕ} {q : Tree} → IsBody g fs r y d k q → IsBody g gs r y d k q
+  body-node-extends x {r = r} n = record { binders = n.binders; stands = n.stands; many = n.many; bound = x.bound r n.binders n.bound; closed = n.closed; depths = n.depths }
+
   pub thunk-extends : {fs gs : List Frame} → Extends fs gs → (t : Thunk) (q : Tree) (D : PlainPaths) → ThunkAnswers g fs t q D → ThunkAnswers g gs t q D
-  thunk-extends x (source k r) q D h = (h.0, h.1, h.2, h.3, h.4, x.env r h.1 h.2 h.5, h.6, h.7)
+  thunk-extends x (source k r) q D h = (h.0, h.1, h.2, node-extends x h.3, h.4, x.env r h.1 h.2 h.5, h.6, h.7)
   thunk-extends x (datum v) q D h = h
   thunk-extends x (cell_of n) q D h = (h.0, h.1, h.2, x.cell own h.1 n h.3, h.4)
   thunk-extends x (jump_of n) q D h = (h.0, h.1, x.escape n h.2, h.3)
@@ -79,10 +104,10 @@ module _ (g : Compiled) where
   binding-extends x n (to_sequence c) q D h = h
 
   pub code-extends : {fs gs : List Frame} → Extends fs gs → (c : Pointer) (q : Tree) (P : PlainPath) → CodeAnswers g fs c q P → CodeAnswers g gs c q P
-  code-extends x c q P h = (h.0, h.1, h.2, h.3, h.4, h.5, h.6, x.env c.frame h.2 h.3 h.7, h.8)
+  code-extends x c q P h = (h.0, h.1, h.2, h.3, node-extends x h.4, h.5, h.6, x.env c.frame h.2 h.3 h.7, h.8)
 
-  body-extends : {fs gs : List Frame} → Extends fs gs → (c : Pointer) (b : Tree) (D : PlainPaths) (P : PlainPath) → BodyAnswers g fs c b D P → BodyAnswers g gs c b D P
-  body-extends x c b D P h = (h.0, h.1, h.2, h.3, h.4, h.5, h.6, x.env c.frame h.2 h.3 h.7, h.8)
+  body-extends : {fs gs : List Frame} → Extends fs gs → (y : BinderKind) (c : Pointer) (b : Tree) (D : PlainPaths) (P : PlainPath) → BodyAnswers g y fs c b D P → BodyAnswers g y gs c b D P
+  body-extends x y c b D P h = (h.0, h.1, h.2, h.3, body-node-extends x h.4, h.5, h.6, x.env c.frame h.2 h.3 h.7, h.8)
 
   each-extends : {fs gs : List Frame} → Extends fs gs → (r : Option ℕ) (ys : List ℕ) (qs : Trees) (P : PlainPath) → EachCodeAnswers g fs r ys qs P → EachCodeAnswers g gs r ys qs P
   each-extends x r [] no_trees P h = tt
@@ -104,8 +129,8 @@ module _ (g : Compiled) where
   held-extends x (loop_test {c = c} {d = d} {q = q} {r = r} h k) = loop_test (code-extends x c q _ h) (code-extends x d r _ k)
   held-extends x (loop_body {c = c} {q = q} h) = loop_body (code-extends x c q _ h)
   held-extends x (endless_body {c = c} {q = q} {P = P} h) = endless_body (code-extends x c q P h)
-  held-extends x (first_value {c = c} {b = b} {P = P} D is h) = first_value D is (body-extends x c b (paths (cell_type D)) P h)
-  held-extends x (cells_wanted {c = c} {b = b} {P = P} is known h) = cells_wanted is known (body-extends x c b (paths sequence_type) P h)
+  held-extends x (first_value {c = c} {b = b} {P = P} D is h) = first_value D is (body-extends x a_cell c b (paths (cell_type D)) P h)
+  held-extends x (cells_wanted {c = c} {b = b} {P = P} is known h) = cells_wanted is known (body-extends x another c b (paths sequence_type) P h)
   held-extends x (element_wanted {w = w} h) = element_wanted (x.sequence w.number h)
   held-extends x (cell_body is) = cell_body is
   held-extends x put_datum = put_datum
@@ -147,8 +172,12 @@ module _ (g : Compiled) where
   -- the newest frame holds the cell
   written-here : (which : Which) (E : DataTy) (v : Datum) (f : Frame) (fs : List Frame) → HoldsDatum which E f.binding → datum_atom v ≡ data_atom E →
       Extends (f ∷ fs) (changed (written which v) f ∷ fs)
-  written-here which E v f fs is e = record { env = env; cell = cell; sequence = sequence; escape = escape }
+  written-here which E v f fs is e = record { env = env; cell = cell; sequence = sequence; escape = escape; bound = bound }
     where
+      bound : (r : Option ℕ) (w : List BinderKind) → AreBoundBy (f ∷ fs) r w → AreBoundBy (changed (written which v) f ∷ fs) r w
+      bound r w (inl h) = inl (h.0, (h.1.0, h.1.1, h.1.2, bound-written which v h.1.0 f.binding h.1.3, h.1.4))
+      bound r w (inr h) = inr h
+
       env : (r : Option ℕ) (qs : List Tree) (G : List PlainPaths) → FramesAnswer g (f ∷ fs) r qs G → FramesAnswer g (changed (written which v) f ∷ fs) r qs G
       env r qs G (inl h) =
           inl (h.0, (h.1.0, h.1.1, h.1.2, h.1.3, h.1.4, h.1.5, written-binding (extends-itself fs) which E v f.number f.binding h.1.0 h.1.2 is e h.1.6, h.1.7))
@@ -168,8 +197,12 @@ module _ (g : Compiled) where
 
   -- an older one does
   extends-behind : (f : Frame) {fs gs : List Frame} → Extends fs gs → Extends (f ∷ fs) (f ∷ gs)
-  extends-behind f {fs = fs} {gs = gs} x = record { env = env; cell = cell; sequence = sequence; escape = escape }
+  extends-behind f {fs = fs} {gs = gs} x = record { env = env; cell = cell; sequence = sequence; escape = escape; bound = bound }
     where
+      bound : (r : Option ℕ) (w : List BinderKind) → AreBoundBy (f ∷ fs) r w → AreBoundBy (f ∷ gs) r w
+      bound r w (inl h) = inl (h.0, (h.1.0, h.1.1, h.1.2, h.1.3, x.bound f.around h.1.1 h.1.4))
+      bound r w (inr h) = inr (h.0, x.bound r w h.1)
+
       env : (r : Option ℕ) (qs : List Tree) (G : List PlainPaths) → FramesAnswer g (f ∷ fs) r qs G → FramesAnswer g (f ∷ gs) r qs G
       env r qs G (inl h) =
           inl (h.0, (h.1.0, h.1.1, h.1.2, h.1.3, h.1.4, h.1.5, binding-extends x f.number f.binding h.1.0 h.1.2 h.1.6, x.env f.around h.1.1 h.1.3 h.1.7))

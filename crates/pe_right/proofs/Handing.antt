@@ -1,5 +1,5 @@
 -- One step of code that hands constants as data, and the steps of the code that hands thunks which it stands for.
-use Rattle.std.proofs.Common.{ℕ, zero, suc, ◌+◌, ◌≤◌, ◌≡◌, Bool, true, false, cond, leb, List, [], ◌∷◌, length, Option, Some, None, slice_get, refl, sym, ap, ap₂, ◌∙◌, subst₂, inl, inr, arith, pos, nat_eq}
+use Rattle.std.proofs.Common.{ℕ, zero, suc, ◌+◌, ◌≤◌, ◌≡◌, Bool, true, false, cond, leb, List, [], ◌∷◌, length, Option, Some, None, slice_get, refl, sym, ap, ap₂, ◌∙◌, subst, subst₂, inl, inr, arith, pos, nat_eq}
 use Rattle.std.proofs.lemmas.Bool.{leb-true}
 use Rattle.fy_base.specs.declared.data.Place.{Place}
 use Rattle.fy_base.specs.declared.data.Datum.{Datum}
@@ -23,9 +23,11 @@ use Rattle.pe_machine.specs.States.{Pointer, Thunk, source, datum, cell_of, jump
 use Rattle.pe_machine.specs.Step.{PeMove, goes, takes, sticks, loses, push, focused, pushed, bound, taken, bind_meets, field_meets, accept_meets, parts_at, at_entry, if_listed, entered_plain, index_entered, index_meets, length_meets, Asked, a_cell, a_length, no_part, asked_at, sequence_asked, entered, with_variable, executed, item_executed, step_at, pe_step}
 use Rattle.pe_right.specs.Constants.{value_of, constant}
 use Rattle.pe_right.specs.Direct.{IsConstantAt, IsHanded, passed, bound as let_bound, same, IsDirectOf}
-use Rattle.pe_right.specs.Right.{IsNodeUnder, in_first, in_later, itself, Enters, IsInsnOf, of_var, of_lit, of_unary, of_binary, of_cond, of_case, of_lam, of_app, of_app_variable, of_app_datum, of_field, of_sel, of_let, of_let_variable, of_let_datum, of_rec, of_skip, of_seq, of_assign, of_while, of_forever, of_new, of_cells, of_escape, of_accept, of_put, of_read, IsItemOf}
+use Rattle.pe_right.specs.Right.{IsNodeUnder, in_first, in_later, itself, Enters, IsInsnOf, of_var, of_lit, of_unary, of_binary, of_cond, of_case, of_lam, of_app, of_app_variable, of_app_datum, of_field, of_sel, of_let, of_let_variable, of_let_datum, of_rec, of_skip, of_seq, of_assign, of_while, of_forever, of_new, of_cells, of_escape, of_accept, of_put, of_read, IsItemAt}
 use Rattle.pe_right.proofs.ConstantLemmas.{constant-value}
-use Rattle.pe_right.proofs.NodeLemmas.{under-part}
+use Rattle.pe_right.proofs.NodeLemmas.{under-part, entered-node, part-entered}
+use Rattle.pe_right.proofs.EntryLemmas.{plain-insn}
+use Rattle.pe_right.specs.Entered.{BinderKind, IsEntered, is_entered, within_first, within_later}
 use Rattle.pe_right.proofs.Invariants.{Compiled, FramesAnswer, ThunkAnswers, ContextTakes, procedure, escape_body, ContextsTake, FocusAnswers, Fills, Follows}
 use Rattle.pe_right.proofs.FrameLemmas.{Below}
 use Rattle.pe_right.proofs.Growing.{env-listed, extends-oldest, thunk-extends, variable-found}
@@ -71,7 +73,8 @@ picks-same (passed c) = refl
 picks-same (let_bound c) = refl
 picks-same (same none) = refl
 
-module _ (g : Compiled) (made : PeCode) (direct : IsDirectOf g.phrase g.code made) where
+-- in code that evaluates no node in one step
+module _ (g : Compiled) (made : PeCode) (direct : IsDirectOf g.phrase g.code made) (by_each : (k : ℕ) → g.straight k ≡ false) where
   abbrev pub cv : ℕ → Option Datum
   cv k = known g.phrase k
 
@@ -182,7 +185,7 @@ module _ (g : Compiled) (made : PeCode) (direct : IsDirectOf g.phrase g.code mad
   entered-hand code None n k r s = refl
   entered-hand code (Some v) n k r s = refl
 
-  source-hands : (k n : ℕ) (r : Option ℕ) (node : Tree) (d : ℕ) (t : PlainShape) (s : PeState) → IsNodeUnder 0 0 g.phrase d k node → is_listed r s.frames ≡ true →
+  source-hands : (k n : ℕ) (r : Option ℕ) (node : Tree) (d : List BinderKind) (t : PlainShape) (s : PeState) → IsEntered g.straight [] 0 g.phrase d k node → is_listed r s.frames ≡ true →
       shape_at g.table n ≡ Some t → Hands (entered_plain made n (swap cv (source k r)) (swap_state cv s)) (entered_plain g.code n (source k r) s)
   source-hands k n r node d t s stands listed sh = by (constant node) refl (entry_of g.code k n) refl
     where
@@ -191,17 +194,17 @@ module _ (g : Compiled) (made : PeCode) (direct : IsDirectOf g.phrase g.code mad
 
       by : (o : Option Datum) → constant node ≡ o → (x : Option ℕ) → entry_of g.code k n ≡ x →
           Hands (entered_plain made n (swap cv (source k r)) (swap_state cv s)) (entered_plain g.code n (source k r) s)
-      by None e x f = locked (entered-swap cv made g.code entries-same direct.assignment n (source k r) s (sym (plain-thunk k r (known-is stands ∙ e))))
+      by None e x f = locked (entered-swap cv made g.code entries-same direct.assignment n (source k r) s (sym (plain-thunk k r (known-is (entered-node g.straight stands) ∙ e))))
       by (Some v) e None f = stopped (into None f)
       by (Some v) e (Some a) f =
-          let y = code-evaluated g node v d k a t (constant-value node v e) stands (n, sh, f) r s in
+          let y = code-evaluated g by_each node v d k a t (constant-value node v e) stands (n, sh, f) r s in
           evaluates (let few = constant-small node v e in omega (arith, y.1)) (into (Some a) f) y.2
-          (ap (λ (u : Thunk). entered_plain made n u (swap_state cv s)) (sym (datum-thunk k r v (known-is stands ∙ e))))
+          (ap (λ (u : Thunk). entered_plain made n u (swap_state cv s)) (sym (datum-thunk k r v (known-is (entered-node g.straight stands) ∙ e))))
 
   -- a thunk that isn't a sequence; where it is one, nothing is entered
   plain-hands : (u : Thunk) (q : Tree) (D : PlainPaths) (n : ℕ) (t : PlainShape) (s : PeState) → ThunkAnswers g s.frames u q D → shape_at g.table n ≡ Some t →
       Hands (entered_plain made n (swap cv u) (swap_state cv s)) (entered_plain g.code n u s)
-  plain-hands (source k r) q D n t s h sh = source-hands k n r h.0 (length h.2) t s h.3.stands (env-listed g s.frames r h.1 h.2 h.5) sh
+  plain-hands (source k r) q D n t s h sh = source-hands k n r h.0 h.3.binders t s h.3.stands (env-listed g s.frames r h.1 h.2 h.5) sh
   plain-hands (datum v) q D n t s h sh = locked (entered-swap cv made g.code entries-same direct.assignment n (datum v) s refl)
   plain-hands (cell_of m) q D n t s h sh = locked (entered-swap cv made g.code entries-same direct.assignment n (cell_of m) s refl)
   plain-hands (jump_of m) q D n t s h sh = locked (entered-swap cv made g.code entries-same direct.assignment n (jump_of m) s refl)
@@ -284,18 +287,18 @@ module _ (g : Compiled) (made : PeCode) (direct : IsDirectOf g.phrase g.code mad
   -- ---- the item at an address
 
   -- what stands where a node is entered: the item of the node, or of the operand that a merge gives way to
-  abbrev ItemHere : (d a : ℕ) → PlainShape → Type 0
-  ItemHere d a t =
-      (k : ℕ) × (q : Tree) × IsNodeUnder 0 0 g.phrase d k q × IsClosedUnder d q × (item : PeItem) × (item_at g.code a ≡ Some item) × IsItemOf g.handed g.table g.code d k q t item
+  abbrev ItemHere : (w : List BinderKind) (d a : ℕ) → PlainShape → Type 0
+  ItemHere w d a t =
+      (k : ℕ) × (q : Tree) × IsEntered g.straight [] 0 g.phrase w k q × IsClosedUnder d q × (item : PeItem) × (item_at g.code a ≡ Some item) × IsItemAt g.handed g.straight g.table g.code w k q t item
 
-  item-here : (q : Tree) (d k a : ℕ) (t : PlainShape) → IsNodeUnder 0 0 g.phrase d k q → IsClosedUnder d q → Enters g.table g.code k t a → ItemHere d a t
-  item-here (merge p q at) d k a t node closed en =
-      elim (g.right.right d k a (merge p q at) t node en).2 [
-        | inl x ↦ item-here q d (k + 1 + nodes p) a t (under-part node (in_later (in_first itself))) closed.1 x.1
-        | inr x ↦ item-here p d (k + 1) a t (under-part node (in_first itself)) closed.0 x.1
+  item-here : (q : Tree) (w : List BinderKind) (d k a : ℕ) (t : PlainShape) → IsEntered g.straight [] 0 g.phrase w k q → IsClosedUnder d q → Enters g.table g.code k t a → ItemHere w d a t
+  item-here (merge p q at) w d k a t node closed en =
+      elim (g.right.right w k a (merge p q at) t node en).3 [
+        | inl x ↦ item-here q w d (k + 1 + nodes p) a t (part-entered g.straight node (by_each k) (within_later (within_first is_entered))) closed.1 x.1
+        | inr x ↦ item-here p w d (k + 1) a t (part-entered g.straight node (by_each k) (within_first is_entered)) closed.0 x.1
       ]
-  item-here q d k a t node closed en =
-      let it : (item : PeItem) × (item_at g.code a ≡ Some item) × IsItemOf g.handed g.table g.code d k q t item = g.right.right d k a q t node en in
+  item-here q w d k a t node closed en =
+      let it : (item : PeItem) × (item_at g.code a ≡ Some item) × IsItemAt g.handed g.straight g.table g.code w k q t item = g.right.right w k a q t node en in
       (k, q, node, closed, it.0, it.1, it.2)
 
   item-hands : {k : ℕ} {i j : PeInsn} (q : Tree) (t : PlainShape) (d : ℕ) (at : Place) (here : Pointer) (s : PeState) (qs : List Tree) (G : List PlainPaths) →
@@ -309,7 +312,8 @@ module _ (g : Compiled) (made : PeCode) (direct : IsDirectOf g.phrase g.code mad
       Hands (step_at made f (swap_state cv s)) (step_at g.code f s)
   focus-hands k (code_at here) q P xs s a low w =
       let h = a.0 in
-      let x = item-here h.1 (length h.3) h.0 here.address (erase P) h.4.stands h.4.closed h.6 in
+      let x = item-here h.1 h.4.binders (length h.3) h.0 here.address (erase P) h.4.stands h.4.closed h.6 in
+      let node = subst (λ (d : ℕ). IsNodeUnder 0 0 g.phrase d x.0 x.1) h.4.many (entered-node g.straight x.2) in
       let item : PeItem = x.4 in
       let y = direct.items here.address item x.5 in
       let new : PeItem = y.0 in
@@ -317,7 +321,7 @@ module _ (g : Compiled) (made : PeCode) (direct : IsDirectOf g.phrase g.code mad
       (ap (λ (o : Option PeItem). item_executed made o here (swap_state cv s)) y.1
       ∙ ap₂ (λ (d : ℕ) (at : Place). executed made new.insn d at here (swap_state cv s)) y.2.depth y.2.place)
       (ap (λ (o : Option PeItem). item_executed g.code o here s) x.5)
-      (item-hands x.1 (erase P) item.depth item.place here s h.2 h.3 x.2 x.3 x.6.insn y.2.insn low h.7 xs P w)
+      (item-hands x.1 (erase P) item.depth item.place here s h.2 h.3 node x.3 (plain-insn g (by_each x.0) x.6.insn) y.2.insn low h.7 xs P w)
   focus-hands k (value v) q P xs s a low w = locked (value-swap cv made g.code parts-same v s)
   focus-hands k completed q P xs s a low w = locked (completed-swap cv s)
 

@@ -1,20 +1,22 @@
 -- An instruction is executed: what the code stands for takes as many steps as merges lie above the form, and one more, or two where a sequence takes an index.
-use Rattle.std.proofs.Common.{ℕ, suc, ◌+◌, ◌<◌, ◌≤◌, ◌≡◌, ◌⊎◌, List, ◌∷◌, length, Option, Some, None, refl, sym, ap, ◌∙◌, subst, inl, inr, arith}
+use Rattle.std.proofs.Common.{ℕ, Bool, true, false, suc, ◌+◌, ◌<◌, ◌≤◌, ◌≡◌, ◌⊎◌, List, ◌∷◌, length, Option, Some, None, refl, sym, ap, ◌∙◌, subst, inl, inr, arith}
 use Rattle.fy_base.specs.declared.data.Place.{Place}
 use Rattle.fy_base.specs.declared.data.Datum.{Datum}
+use Rattle.fy_types.specs.declared.types.Atom.{Atom}
 use Rattle.fy_types.specs.declared.types.Atom.TheVariants as atoms
 use Rattle.fy_types.specs.Paths.{PlainPath, PlainPaths, end, call, pick, paths}
 use Rattle.fy_types.specs.PathOrder.{HasBelow, here, there}
+use Rattle.fy_phrase.specs.declared.phrase.DataTy.{DataTy}
 use Rattle.fy_phrase.specs.declared.phrase.DataTy.TheVariants as data_type
 use Rattle.fy_phrase.specs.declared.phrase.MarkKind.TheVariants as marks
 use Rattle.fy_phrase.specs.Tree.{Tree, Trees, var, lit, unary, binary, cond as conditional, case, lam, app, field, sel, merge, let_in, rec, skip, seq, assign, while_do, forever, new, cells, escape, accept, put, read, mark}
 use Rattle.fy_phrase.specs.Sizes.{nodes}
 use Rattle.fy_phrase.specs.WellMade.{IsClosedUnder, AreClosedUnder, HasDepthsUnder, HaveDepthsUnder}
 use Rattle.fy_phrase.specs.Contexts.{CopyContext, op_1, op_l, if_c, case_c, arg_c, pick_c, then_c, assign_c, store_c, while_c, loop_c, new_c, cells_c, put_c, esc_c}
-use Rattle.fy_phrase.specs.Copy.{CopyState, CopyMove, copy_step, byte_or_end}
+use Rattle.fy_phrase.specs.Copy.{CopyState, copy_step, byte_or_end}
 use Rattle.fy_phrase.specs.Copy as copy
 use Rattle.fy_derive.specs.Atoms.{data_atom, acceptor_atom, datum_atom, operand_atom, unary_atom, binary_atom, put_atom}
-use Rattle.fy_derive.specs.Shapes.{PlainShape, at_end, a_call, a_field, a_value, an_assignment, a_run, erase}
+use Rattle.fy_derive.specs.Shapes.{PlainShape, at_end, a_call, a_field, a_value, an_assignment, a_run, end_shape, erase}
 use Rattle.fy_derive.specs.ShapeTables.{HasPairOf}
 use Rattle.fy_derive.proofs.PathTyping.{paths_at, EachPath, IsRun, only}
 use Rattle.pe_code.specs.declared.code.PeInsn.{PeInsn}
@@ -24,19 +26,22 @@ use Rattle.pe_code.specs.Code.{item_at, picked_from}
 use Rattle.pe_machine.specs.States.{Pointer, source, datum, to_thunk, to_escape, Frame, PeContext, PeState, frame_outside, handed_on}
 use Rattle.pe_machine.specs.Step.{push, pushed, bound, bind_meets, field_meets, accept_meets, with_variable, entered, executed, item_executed}
 use Rattle.pe_right.specs.Closing.{phrase_at, closed_by, all_closed_by}
-use Rattle.pe_right.specs.Right.{IsItemOf, IsRightAt, with_depth, IsNodeAmongUnder, itself, in_first, in_later, is_variable, Enters, EachEnters, no_parts, and_part}
+use Rattle.pe_right.specs.Entered.{BinderKind, another, with_binders, IsEnteredAmong, is_entered, within_first, within_later}
+use Rattle.pe_right.specs.Straight.{IsStraightOf, of_value, of_assignment}
+use Rattle.pe_right.specs.Right.{IsInsnAt, by_parts, at_once, IsItemAt, IsRightAt, is_variable, Enters, EachEnters, no_parts, and_part}
 use Rattle.pe_right.proofs.Demanding.{EachAnswers}
 use Rattle.pe_right.proofs.ClosingLemmas.{closed_with-more, closed_by-var, kind-closed}
 use Rattle.pe_right.proofs.FrameLemmas.{Below, oldest-itself, marks_in}
 use Rattle.pe_right.proofs.AnswerLemmas.{erase-below, run-up, data-erase, acceptor-erase, operand-erase, put-erase, run-erase, in_scope, answers-above, merge-left, merge-right, begins-shape}
-use Rattle.pe_right.proofs.Invariants.{Compiled, IndexKnown, Above, marked, rank_of, Answered, IsNode, FramesAnswer, ThunkAnswers, CodeAnswers, EachCodeAnswers, ContextTakes, unary_operand, left_operand, condition, index, procedure, selected, first_command, assigned_value, acceptor, loop_test, endless_body, first_value, cells_wanted, put_datum, escape_body, Behind}
+use Rattle.pe_right.proofs.Invariants.{Compiled, IndexKnown, Above, marked, rank_of, Answered, IsNode, IsBody, FramesAnswer, ThunkAnswers, CodeAnswers, EachCodeAnswers, ContextTakes, unary_operand, left_operand, condition, index, procedure, selected, first_command, assigned_value, acceptor, loop_test, endless_body, first_value, cells_wanted, put_datum, escape_body, Behind}
 use Rattle.pe_right.proofs.ConstantLemmas.{constant-value, value-closed, value-path}
 use Rattle.pe_right.proofs.Merges.{merges, value-merges}
-use Rattle.pe_right.proofs.NodeLemmas.{constant-spare, part, body}
-use Rattle.pe_right.proofs.EntryLemmas.{insn-is}
+use Rattle.pe_right.proofs.NodeLemmas.{constant-spare, under, part, body, body-bound}
+use Rattle.pe_right.proofs.StraightSteps.{eval-followed, set-followed}
+use Rattle.pe_right.proofs.EntryLemmas.{insn-is, plain-insn}
 use Rattle.pe_right.proofs.Growing.{env-shut, variable-found, thunk-above}
 use Rattle.pe_right.proofs.ContextLemmas.{demanded-left, demanded-right, contexts-pushed}
-use Rattle.pe_right.proofs.Moves.{focus-step, no_step, rank-two, MovesIn, extra, takes_byte, one_move, no_move, earlier, moves-weaker, pushed-simulates, bound-simulates}
+use Rattle.pe_right.proofs.Moves.{focus-step, no_step, rank-two, MovesIn, extra, takes_byte, one_move, no_move, IsExecuted, by_steps, executed-weaker, executed-earlier, moves-weaker, pushed-simulates, bound-simulates}
 use Rattle.pe_right.proofs.TakingLemmas.{call-apart, pick-apart, acceptor-apart, taken-followed, lam-meets, field-meets, accept-meets}
 use Rattle.pe_right.proofs.EnteringLemmas.{entered-followed}
 
@@ -49,6 +54,10 @@ byte-typed None = refl
 above-escape : Above (only atoms.Compl) (λ P. IsRun P)
 above-escape P (here low) = run-up (atoms.Compl, refl, refl) low
 above-escape P (there some) = elim some [ ]
+
+abbrev is_merge : Tree → Bool
+is_merge (merge p q at) = true
+is_merge q = false
 
 variable-is : (q : Tree) (j : ℕ) → is_variable q ≡ Some j → (at : Place) × (q ≡ var j at)
 variable-is (var k at) j e = let f : k ≡ j = cc in (at, ap (λ (i : ℕ). var i at) f)
@@ -69,6 +78,9 @@ module _ (g : Compiled) where
     abbrev pub At : ℕ → ℕ → CopyState → Type 0
     At r b c = MovesIn g (extra g) r b c (item_executed g.code (item_at g.code at_here.address) at_here s)
 
+    abbrev pub Executed : ℕ → ℕ → CopyState → Type 0
+    Executed r b c = IsExecuted g (extra g) r b c (item_executed g.code (item_at g.code at_here.address) at_here s)
+
     abbrev pub Here : ℕ → Pointer
     Here a = record at_here { address = a }
 
@@ -81,7 +93,7 @@ module _ (g : Compiled) where
         (subst (λ (p : Place). MovesIn g (extra g) r b c (executed g.code i d p at_here s)) (sym l) m)))
 
     -- a part that is entered at the shape t
-    code-as : (a j : ℕ) (q : Tree) (P : PlainPath) (t : PlainShape) → erase P ≡ t → IsNode g (length G) j q → Answered g G j q P → Enters g.table g.code j t a →
+    code-as : (a j : ℕ) (q : Tree) (P : PlainPath) (t : PlainShape) → erase P ≡ t → IsNode g s.frames at_here.frame (length G) j q → Answered g G j q P → Enters g.table g.code j t a →
         CodeAnswers g s.frames (Here a) (closed_by 0 qs q) P
     code-as a j q P t e n h en = (j, q, qs, G, n, h, subst (λ (u : PlainShape). Enters g.table g.code j u a) (sym e) en, env, refl)
 
@@ -104,113 +116,113 @@ module _ (g : Compiled) where
               (λ R some. (subst (λ (p : Tree). Answered g G m p R) v.1 (above R some)).1) x.2),
         )
 
-    own-thunk : (q : Tree) (m : ℕ) (D : PlainPaths) → is_variable q ≡ None → IsNode g (length G) m q → EachPath (λ R. Answered g G m q R) D →
+    own-thunk : (q : Tree) (m : ℕ) (D : PlainPaths) → is_variable q ≡ None → IsNode g s.frames at_here.frame (length G) m q → EachPath (λ R. Answered g G m q R) D →
         ThunkAnswers g s.frames (source m at_here.frame) (closed_by 0 qs q) D
     own-thunk q m D e n each = (q, qs, G, n, e, env, λ R some. answers-above (HasPairOf g.table) q G m some each, refl)
 
     -- a constant's datum
-    datum-thunk : (q : Tree) (v : Datum) (m : ℕ) (D : PlainPaths) → g.handed q ≡ Some v → IsNode g (length G) m q → EachPath (λ R. Answered g G m q R) D →
+    datum-thunk : (q : Tree) (v : Datum) (m : ℕ) (D : PlainPaths) → g.handed q ≡ Some v → IsNode g s.frames at_here.frame (length G) m q → EachPath (λ R. Answered g G m q R) D →
         ThunkAnswers g s.frames (datum v) (closed_by 0 qs q) D
     datum-thunk q v m D e n each =
         let is = g.constants q v e in
         let x = constant-value q v is in
         subst (λ (p : Tree). ThunkAnswers g s.frames (datum v) p D) (sym (value-closed q v 0 qs x))
-        (is, constant-spare n.stands (value-merges q v x), (λ R some. value-path (HasPairOf g.table) q v G m R x (answers-above (HasPairOf g.table) q G m some each)), inr e)
+        (is, constant-spare (under g n) (value-merges q v x), (λ R some. value-path (HasPairOf g.table) q v G m R x (answers-above (HasPairOf g.table) q G m some each)), inr e)
 
     -- the parts that an index picks from
-    each-code : (j : ℕ) (ps : Trees) (t : PlainShape) (ys : List ℕ) (P : PlainPath) → EachEnters g.table g.code j ps t ys → erase P ≡ t →
-        ((i : ℕ) (q : Tree) → IsNodeAmongUnder j (with_depth (length G) ps) (length G) i q → IsClosedUnder (length G) q → HasDepthsUnder (length G) q → IsNode g (length G) i q) →
+    each-code : (v : List BinderKind) (j : ℕ) (ps : Trees) (t : PlainShape) (ys : List ℕ) (P : PlainPath) → EachEnters g.table g.code j ps t ys → erase P ≡ t →
+        ((i : ℕ) (q : Tree) → IsEnteredAmong g.straight j (with_binders v ps) v i q → IsClosedUnder (length G) q → HasDepthsUnder (length G) q → IsNode g s.frames at_here.frame (length G) i q) →
         AreClosedUnder (length G) ps → HaveDepthsUnder (length G) ps → EachAnswers (HasPairOf g.table) G j ps P → EachCodeAnswers g s.frames at_here.frame ys (all_closed_by 0 qs ps) P
-    each-code j ps t ys P no_parts e node closed depths each = tt
-    each-code j ps t ys P (and_part {y = y} {p = p} {ps = more} {ys = rest} en ens) e node closed depths each = (
-      code-as y j p P t e (node j p (in_first itself) closed.0 depths.0) each.0 en,
-      each-code (j + nodes p) more t rest P ens e (λ i q a. node i q (in_later a)) closed.1 depths.1 each.1,
+    each-code v j ps t ys P no_parts e node closed depths each = tt
+    each-code v j ps t ys P (and_part {y = y} {p = p} {ps = more} {ys = rest} en ens) e node closed depths each = (
+      code-as y j p P t e (node j p (within_first is_entered) closed.0 depths.0) each.0 en,
+      each-code v (j + nodes p) more t rest P ens e (λ i q a. node i q (within_later a)) closed.1 depths.1 each.1,
     )
 
-    app-followed : (p q : Tree) (at : Place) (k y : ℕ) (i : PeInsn) (d b : ℕ) (D : PlainPaths) (P : PlainPath) (c : CopyState) → IsNode g (length G) k (app p q at) →
+    app-followed : (p q : Tree) (at : Place) (k y : ℕ) (i : PeInsn) (d b : ℕ) (D : PlainPaths) (P : PlainPath) (c : CopyState) → IsNode g s.frames at_here.frame (length G) k (app p q at) → g.straight k ≡ false →
         ((is_variable q ≡ None) × (i ≡ insn.Pass (k + 1 + nodes p) y)) ⊎ (((j : ℕ) × (is_variable q ≡ Some j) × (i ≡ insn.PassVar j y)) ⊎ ((v : Datum) × (g.handed q ≡ Some v) × (i ≡ insn.PassData v y))) →
         Answered g G (k + 1) p (call D P) → EachPath (λ R. Answered g G (k + 1 + nodes p) q R) D → Enters g.table g.code (k + 1) (a_call (erase P)) y →
         c.focus ≡ closed_by 0 qs (app p q at) → Behind g s c P → 1 ≤ b → MovesIn g (extra g) 0 b c (executed g.code i d at at_here s)
-    app-followed p q at k y i d b D P c n (inl v) a each en f w l =
+    app-followed p q at k y i d b D P c n plain (inl v) a each en f w l =
         subst (λ (j : PeInsn). MovesIn g (extra g) 0 b c (executed g.code j d at at_here s)) (sym v.1)
         (starts c y (closed_by 0 qs p) (call D P) P (arg_c (source (k + 1 + nodes p) at_here.frame)) (arg_c (closed_by 0 qs q)) l refl
         (focus-step c (app (closed_by 0 qs p) (closed_by 0 qs q) at) f)
-        (code-as y (k + 1) p (call D P) (a_call (erase P)) refl (part g n (in_first itself) n.closed.0 n.depths.0) a en)
-        (procedure (own-thunk q (k + 1 + nodes p) D v.0 (part g n (in_later (in_first itself)) n.closed.1 n.depths.1) each)) w)
-    app-followed p q at k y i d b D P c n (inr (inl v)) a each en f w l =
+        (code-as y (k + 1) p (call D P) (a_call (erase P)) refl (part g n plain (within_first is_entered) n.closed.0 n.depths.0) a en)
+        (procedure (own-thunk q (k + 1 + nodes p) D v.0 (part g n plain (within_later (within_first is_entered)) n.closed.1 n.depths.1) each)) w)
+    app-followed p q at k y i d b D P c n plain (inr (inl v)) a each en f w l =
         let x = variable-thunk q v.0 (k + 1 + nodes p) D v.1 n.closed.1 w.2 (λ R some. answers-above (HasPairOf g.table) q G (k + 1 + nodes p) some each) in
         subst (λ (j : PeInsn). MovesIn g (extra g) 0 b c (executed g.code j d at at_here s)) (sym v.2)
         (subst (λ (o : Option Frame). MovesIn g (extra g) 0 b c (with_variable o (λ t. pushed (arg_c t) (Here y) s))) (sym x.1)
         (starts c y (closed_by 0 qs p) (call D P) P (arg_c (handed_on x.0.number x.0.binding)) (arg_c (closed_by 0 qs q)) l refl
         (focus-step c (app (closed_by 0 qs p) (closed_by 0 qs q) at) f)
-        (code-as y (k + 1) p (call D P) (a_call (erase P)) refl (part g n (in_first itself) n.closed.0 n.depths.0) a en) (procedure x.2) w))
-    app-followed p q at k y i d b D P c n (inr (inr v)) a each en f w l =
+        (code-as y (k + 1) p (call D P) (a_call (erase P)) refl (part g n plain (within_first is_entered) n.closed.0 n.depths.0) a en) (procedure x.2) w))
+    app-followed p q at k y i d b D P c n plain (inr (inr v)) a each en f w l =
         subst (λ (j : PeInsn). MovesIn g (extra g) 0 b c (executed g.code j d at at_here s)) (sym v.2)
         (starts c y (closed_by 0 qs p) (call D P) P (arg_c (datum v.0)) (arg_c (closed_by 0 qs q)) l refl
         (focus-step c (app (closed_by 0 qs p) (closed_by 0 qs q) at) f)
-        (code-as y (k + 1) p (call D P) (a_call (erase P)) refl (part g n (in_first itself) n.closed.0 n.depths.0) a en)
-        (procedure (datum-thunk q v.0 (k + 1 + nodes p) D v.1 (part g n (in_later (in_first itself)) n.closed.1 n.depths.1) each)) w)
+        (code-as y (k + 1) p (call D P) (a_call (erase P)) refl (part g n plain (within_first is_entered) n.closed.0 n.depths.0) a en)
+        (procedure (datum-thunk q v.0 (k + 1 + nodes p) D v.1 (part g n plain (within_later (within_first is_entered)) n.closed.1 n.depths.1) each)) w)
 
-    let-followed : (d : ℕ) (p r : Tree) (at : Place) (k y : ℕ) (i : PeInsn) (b : ℕ) (D : PlainPaths) (P : PlainPath) (c : CopyState) → IsNode g (length G) k (let_in d p r at) →
+    let-followed : (d : ℕ) (p r : Tree) (at : Place) (k y : ℕ) (i : PeInsn) (b : ℕ) (D : PlainPaths) (P : PlainPath) (c : CopyState) → IsNode g s.frames at_here.frame (length G) k (let_in d p r at) → g.straight k ≡ false →
         ((is_variable p ≡ None) × (i ≡ insn.Let (k + 1) y)) ⊎ (((j : ℕ) × (is_variable p ≡ Some j) × (i ≡ insn.LetVar j y)) ⊎ ((v : Datum) × (g.handed p ≡ Some v) × (i ≡ insn.LetData v y))) →
         EachPath (λ R. Answered g G (k + 1) p R) D → Answered g (D ∷ G) (k + 1 + nodes p) r P → Enters g.table g.code (k + 1 + nodes p) (erase P) y →
         c.focus ≡ closed_by 0 qs (let_in d p r at) → Behind g s c P → 1 ≤ b → MovesIn g (extra g) 0 b c (executed g.code i d at at_here s)
-    let-followed d p r at k y i b D P c n (inl v) each a en f w l =
+    let-followed d p r at k y i b D P c n plain (inl v) each a en f w l =
         subst (λ (j : PeInsn). MovesIn g (extra g) 0 b c (executed g.code j d at at_here s)) (sym v.1)
         (one_move g (focus-step c (let_in d (closed_by 0 qs p) (closed_by 1 qs r) at) f) l
         (bound-simulates g s c d y at_here.frame (source (k + 1) at_here.frame) (closed_by 0 qs p) D r (k + 1 + nodes p) qs G P
-        (own-thunk p (k + 1) D v.0 (part g n (in_first itself) n.closed.0 n.depths.1) each) env
-        (body g n (in_later (in_first itself)) n.closed.1 n.depths.2) a en w))
-    let-followed d p r at k y i b D P c n (inr (inl v)) each a en f w l =
+        (own-thunk p (k + 1) D v.0 (part g n plain (within_first is_entered) n.closed.0 n.depths.1) each) env
+        (body g n plain (within_later (within_first is_entered)) n.closed.1 n.depths.2) a en w))
+    let-followed d p r at k y i b D P c n plain (inr (inl v)) each a en f w l =
         let x = variable-thunk p v.0 (k + 1) D v.1 n.closed.0 w.2 (λ R some. answers-above (HasPairOf g.table) p G (k + 1) some each) in
         subst (λ (j : PeInsn). MovesIn g (extra g) 0 b c (executed g.code j d at at_here s)) (sym v.2)
         (subst (λ (o : Option Frame). MovesIn g (extra g) 0 b c (with_variable o (λ t. bound d (to_thunk t) y at_here.frame s))) (sym x.1)
         (one_move g (focus-step c (let_in d (closed_by 0 qs p) (closed_by 1 qs r) at) f) l
         (bound-simulates g s c d y at_here.frame (handed_on x.0.number x.0.binding) (closed_by 0 qs p) D r (k + 1 + nodes p) qs G P x.2 env
-        (body g n (in_later (in_first itself)) n.closed.1 n.depths.2) a en w)))
-    let-followed d p r at k y i b D P c n (inr (inr v)) each a en f w l =
+        (body g n plain (within_later (within_first is_entered)) n.closed.1 n.depths.2) a en w)))
+    let-followed d p r at k y i b D P c n plain (inr (inr v)) each a en f w l =
         subst (λ (j : PeInsn). MovesIn g (extra g) 0 b c (executed g.code j d at at_here s)) (sym v.2)
         (one_move g (focus-step c (let_in d (closed_by 0 qs p) (closed_by 1 qs r) at) f) l
         (bound-simulates g s c d y at_here.frame (datum v.0) (closed_by 0 qs p) D r (k + 1 + nodes p) qs G P
-        (datum-thunk p v.0 (k + 1) D v.1 (part g n (in_first itself) n.closed.0 n.depths.1) each) env
-        (body g n (in_later (in_first itself)) n.closed.1 n.depths.2) a en w))
+        (datum-thunk p v.0 (k + 1) D v.1 (part g n plain (within_first is_entered) n.closed.0 n.depths.1) each) env
+        (body g n plain (within_later (within_first is_entered)) n.closed.1 n.depths.2) a en w))
 
     -- what stands at the address of a form that is no merge
-    abbrev Item : ℕ → Tree → PlainPath → Type 0
-    Item k q P = (item : PeItem) × (item_at g.code at_here.address ≡ Some item) × IsItemOf g.handed g.table g.code (length G) k q (erase P) item
+    abbrev Item : List BinderKind → ℕ → Tree → PlainPath → Type 0
+    Item v k q P = (item : PeItem) × (item_at g.code at_here.address ≡ Some item) × IsItemAt g.handed g.straight g.table g.code v k q (erase P) item
 
     -- the code itself, as what stands at its address
-    itself-again : (k : ℕ) (node : Tree) (P R : PlainPath) → P ≡ R → IsNode g (length G) k node → Answered g G k node P → Enters g.table g.code k (erase P) at_here.address →
+    itself-again : (k : ℕ) (node : Tree) (P R : PlainPath) → P ≡ R → IsNode g s.frames at_here.frame (length G) k node → Answered g G k node P → Enters g.table g.code k (erase P) at_here.address →
         CodeAnswers g s.frames at_here (closed_by 0 qs node) R
     itself-again k node P R e n a en = subst (λ (S : PlainPath). CodeAnswers g s.frames at_here (closed_by 0 qs node) S) e (k, node, qs, G, n, a, en, env, refl)
 
     -- of a merge the operand that the shape asks for
-    merge-followed : (p q : Tree) (at : Place) (k : ℕ) (P : PlainPath) (c : CopyState) → IsNode g (length G) k (merge p q at) → Answered g G k (merge p q at) P →
-        IsRightAt g.handed g.table g.code (length G) k (merge p q at) (erase P) at_here.address → c.focus ≡ closed_by 0 qs (merge p q at) → Behind g s c P →
-        ((j : ℕ) (d : CopyState) → IsNode g (length G) j p → Answered g G j p P → Enters g.table g.code j (erase P) at_here.address → d.focus ≡ closed_by 0 qs p →
-        Behind g s d P → At (rank_of p) (suc (suc (merges p))) d) →
-        ((j : ℕ) (d : CopyState) → IsNode g (length G) j q → Answered g G j q P → Enters g.table g.code j (erase P) at_here.address → d.focus ≡ closed_by 0 qs q →
-        Behind g s d P → At (rank_of q) (suc (suc (merges q))) d) →
-        At 0 (suc (suc (merges (merge p q at)))) c
-    merge-followed p q at k P c n a (kind, is, inl (b, en)) f w left right =
-        moves-weaker g {r = 0} (omega arith) (omega arith)
-        (earlier g
+    merge-followed : (p q : Tree) (at : Place) (k : ℕ) (P : PlainPath) (c : CopyState) (n : IsNode g s.frames at_here.frame (length G) k (merge p q at)) → Answered g G k (merge p q at) P →
+        IsRightAt g.handed g.straight g.table g.code n.binders k (merge p q at) (erase P) at_here.address → c.focus ≡ closed_by 0 qs (merge p q at) → Behind g s c P →
+        ((j : ℕ) (d : CopyState) → IsNode g s.frames at_here.frame (length G) j p → Answered g G j p P → Enters g.table g.code j (erase P) at_here.address → d.focus ≡ closed_by 0 qs p →
+        Behind g s d P → Executed (rank_of p) (suc (suc (merges p))) d) →
+        ((j : ℕ) (d : CopyState) → IsNode g s.frames at_here.frame (length G) j q → Answered g G j q P → Enters g.table g.code j (erase P) at_here.address → d.focus ≡ closed_by 0 qs q →
+        Behind g s d P → Executed (rank_of q) (suc (suc (merges q))) d) →
+        Executed 0 (suc (suc (merges (merge p q at)))) c
+    merge-followed p q at k P c n a (kind, is, plain, inl (b, en)) f w left right =
+        executed-weaker g {r = 0} (omega arith) (omega arith)
+        (executed-earlier g
         (focus-step c (merge (closed_by 0 qs p) (closed_by 0 qs q) at) f
         ∙ ap (λ (t : Tree). copy.focused t c)
-        (demanded-right g s.frames s.contexts c.contexts P (closed_by 0 qs p) (closed_by 0 qs q) kind (kind-closed q 0 qs kind is) (begins-shape kind P ∙ b) w.0))
-        (right (k + 1 + nodes p) (copy.focus_on (closed_by 0 qs q) c) (part g n (in_later (in_first itself)) n.closed.1 n.depths.1)
+        (demanded-right g s.frames s.contexts c.contexts P (closed_by 0 qs p) (closed_by 0 qs q) kind (kind-closed q 0 qs kind is) (begins-shape kind P ∙ b) w.0)) (omega arith)
+        (right (k + 1 + nodes p) (copy.focus_on (closed_by 0 qs q) c) (part g n plain (within_later (within_first is_entered)) n.closed.1 n.depths.1)
         (merge-right (HasPairOf g.table) p q at kind G k P is b a) en refl w))
-    merge-followed p q at k P c n a (kind, is, inr (b, en)) f w left right =
-        moves-weaker g {r = 0} (omega arith) (omega arith)
-        (earlier g
+    merge-followed p q at k P c n a (kind, is, plain, inr (b, en)) f w left right =
+        executed-weaker g {r = 0} (omega arith) (omega arith)
+        (executed-earlier g
         (focus-step c (merge (closed_by 0 qs p) (closed_by 0 qs q) at) f
         ∙ ap (λ (t : Tree). copy.focused t c)
-        (demanded-left g s.frames s.contexts c.contexts P (closed_by 0 qs p) (closed_by 0 qs q) kind (kind-closed q 0 qs kind is) (begins-shape kind P ∙ b) w.0))
-        (left (k + 1) (copy.focus_on (closed_by 0 qs p) c) (part g n (in_first itself) n.closed.0 n.depths.0)
+        (demanded-left g s.frames s.contexts c.contexts P (closed_by 0 qs p) (closed_by 0 qs q) kind (kind-closed q 0 qs kind is) (begins-shape kind P ∙ b) w.0)) (omega arith)
+        (left (k + 1) (copy.focus_on (closed_by 0 qs p) c) (part g n plain (within_first is_entered) n.closed.0 n.depths.0)
         (merge-left (HasPairOf g.table) p q at kind G k P is b a) en refl w))
 
     -- an escape's frame and its context
-    escape-followed : (d x : ℕ) (b : Tree) (at : Place) (k : ℕ) (c : CopyState) (n : ℕ) → IsNode g (suc (length G)) k b → Answered g (only atoms.Compl ∷ G) k b (end atoms.Comm) →
+    escape-followed : (d x : ℕ) (b : Tree) (at : Place) (k : ℕ) (c : CopyState) (n : ℕ) → IsBody g s.frames at_here.frame another (length G) k b → Answered g (only atoms.Compl ∷ G) k b (end atoms.Comm) →
         Enters g.table g.code k (at_end a_run) x → copy_step c ≡ copy.step_at (escape d (closed_by 1 qs b) at) c → Behind g s c (end atoms.Comm) → 1 ≤ n →
         MovesIn g (extra g) 0 n c (bound d to_escape x at_here.frame (push (esc_c s.next) s))
     escape-followed d x b at k c n node a en step w l =
@@ -220,7 +232,7 @@ module _ (g : Compiled) where
         inl (refl, (m, qs, only atoms.Compl, G, refl, refl, (at, ap (λ (j : ℕ). mark (marks.Jump j) at) w.3, above-escape), env)) in
         one_move g step l (
           end atoms.Comm,
-          ((k, b, m ∷ qs, only atoms.Compl ∷ G, node, a, en, around, closed_with-more b m qs (env-shut g s.frames at_here.frame qs G env)), rank-two b),
+          ((k, b, m ∷ qs, only atoms.Compl ∷ G, body-bound g frame tt node, a, en, around, closed_with-more b m qs (env-shut g s.frames at_here.frame qs G env)), rank-two b),
           (
             contexts-pushed g (frame ∷ s.frames) s.frames (length s.frames) (esc_c s.next) (esc_c c.next) s.load c.load s.contexts c.contexts (end atoms.Comm) (end atoms.Comm)
                 (oldest-itself frame s.frames) (omega arith) refl w.4
@@ -232,77 +244,77 @@ module _ (g : Compiled) where
           ),
         )
 
-    pub executed-followed : (node : Tree) (k : ℕ) (P : PlainPath) (c : CopyState) → IsNode g (length G) k node → Answered g G k node P → Enters g.table g.code k (erase P) at_here.address →
+    plain-followed : (node : Tree) (k : ℕ) (P : PlainPath) (c : CopyState) (n : IsNode g s.frames at_here.frame (length G) k node) → g.straight k ≡ false → is_merge node ≡ false → Answered g G k node P → Enters g.table g.code k (erase P) at_here.address →
         c.focus ≡ closed_by 0 qs node → Behind g s c P → At (rank_of node) (suc (suc (merges node))) c
-    executed-followed (var j at) k P c n a e f w =
-        let it : Item k (var j at) P = g.right.right (length G) k at_here.address (var j at) (erase P) n.stands e in
-        let v = insn-is g.handed g.table g.code it.2.insn in
+    plain-followed (var j at) k P c n plain apart a e f w =
+        let it : Item n.binders k (var j at) P = g.right.right n.binders k at_here.address (var j at) (erase P) n.stands e in
+        let v = insn-is g.handed g.table g.code (plain-insn g plain it.2.insn) in
         let x = variable-found g s.frames s.next j at_here.frame qs G at w.2 env (in_scope G j P a.1) in
         executes it.0 (insn.UseVar j v.0) it.0.depth it.0.place it.1 v.2 refl refl
         (subst (λ (o : Option Frame). MovesIn g (extra g) 2 2 c (with_variable o (λ t. entered g.code v.0 t s))) (sym x.1)
         (entered-followed g (handed_on x.0.number x.0.binding) (phrase_at qs j at) (paths_at G j) v.0 P s c v.1 a.1 x.2 (f ∙ closed_by-var qs j at) w))
-    executed-followed (lit u at) k P c n a e f w =
-        let it : Item k (lit u at) P = g.right.right (length G) k at_here.address (lit u at) (erase P) n.stands e in
-        executes it.0 (insn.Answer u) it.0.depth it.0.place it.1 (insn-is g.handed g.table g.code it.2.insn) refl refl (no_move g 0 (omega arith) (omega arith) (P, (at, f, a.1), w))
-    executed-followed (unary op p at) k P c n a e f w =
-        let it : Item k (unary op p at) P = g.right.right (length G) k at_here.address (unary op p at) (erase P) n.stands e in
-        let v = insn-is g.handed g.table g.code it.2.insn in
+    plain-followed (lit u at) k P c n plain apart a e f w =
+        let it : Item n.binders k (lit u at) P = g.right.right n.binders k at_here.address (lit u at) (erase P) n.stands e in
+        executes it.0 (insn.Answer u) it.0.depth it.0.place it.1 (insn-is g.handed g.table g.code (plain-insn g plain it.2.insn)) refl refl (no_move g 0 (omega arith) (omega arith) (P, (at, f, a.1), w))
+    plain-followed (unary op p at) k P c n plain apart a e f w =
+        let it : Item n.binders k (unary op p at) P = g.right.right n.binders k at_here.address (unary op p at) (erase P) n.stands e in
+        let v = insn-is g.handed g.table g.code (plain-insn g plain it.2.insn) in
         executes it.0 (insn.Op1 op v.0) it.0.depth at it.1 v.2 refl it.2.place
         (starts c v.0 (closed_by 0 qs p) (end (operand_atom op)) (end (unary_atom op)) (op_1 op at) (op_1 op at) (omega arith) refl
         (focus-step c (unary op (closed_by 0 qs p) at) f)
-        (code-as v.0 (k + 1) p (end (operand_atom op)) (at_end a_value) (operand-erase op) (part g n (in_first itself) n.closed n.depths) a.2 v.1)
+        (code-as v.0 (k + 1) p (end (operand_atom op)) (at_end a_value) (operand-erase op) (part g n plain (within_first is_entered) n.closed n.depths) a.2 v.1)
         unary_operand (subst (λ (R : PlainPath). Behind g s c R) a.1 w))
-    executed-followed (binary op p q at) k P c n a e f w =
-        let it : Item k (binary op p q at) P = g.right.right (length G) k at_here.address (binary op p q at) (erase P) n.stands e in
-        let v = insn-is g.handed g.table g.code it.2.insn in
+    plain-followed (binary op p q at) k P c n plain apart a e f w =
+        let it : Item n.binders k (binary op p q at) P = g.right.right n.binders k at_here.address (binary op p q at) (erase P) n.stands e in
+        let v = insn-is g.handed g.table g.code (plain-insn g plain it.2.insn) in
         let D = a.1.0 in
         executes it.0 (insn.Op2 op v.0 v.1) it.0.depth at it.1 v.4 refl it.2.place
         (starts c v.0 (closed_by 0 qs p) (end (data_atom D)) (end (binary_atom op)) (op_l op (Here v.1) at) (op_l op (closed_by 0 qs q) at) (omega arith) refl
         (focus-step c (binary op (closed_by 0 qs p) (closed_by 0 qs q) at) f)
-        (code-as v.0 (k + 1) p (end (data_atom D)) (at_end a_value) (data-erase D) (part g n (in_first itself) n.closed.0 n.depths.0) a.1.3 v.2)
+        (code-as v.0 (k + 1) p (end (data_atom D)) (at_end a_value) (data-erase D) (part g n plain (within_first is_entered) n.closed.0 n.depths.0) a.1.3 v.2)
         (left_operand D a.1.1
-        (code-as v.1 (k + 1 + nodes p) q (end (data_atom D)) (at_end a_value) (data-erase D) (part g n (in_later (in_first itself)) n.closed.1 n.depths.1) a.1.4 v.3))
+        (code-as v.1 (k + 1 + nodes p) q (end (data_atom D)) (at_end a_value) (data-erase D) (part g n plain (within_later (within_first is_entered)) n.closed.1 n.depths.1) a.1.4 v.3))
         (subst (λ (R : PlainPath). Behind g s c R) a.1.2 w))
-    executed-followed (conditional b p q at) k P c n a e f w =
-        let it : Item k (conditional b p q at) P = g.right.right (length G) k at_here.address (conditional b p q at) (erase P) n.stands e in
-        let v = insn-is g.handed g.table g.code it.2.insn in
+    plain-followed (conditional b p q at) k P c n plain apart a e f w =
+        let it : Item n.binders k (conditional b p q at) P = g.right.right n.binders k at_here.address (conditional b p q at) (erase P) n.stands e in
+        let v = insn-is g.handed g.table g.code (plain-insn g plain it.2.insn) in
         executes it.0 (insn.Cond v.0 v.1 v.2) it.0.depth it.0.place it.1 v.6 refl refl
         (starts c v.0 (closed_by 0 qs b) (end atoms.Bool) P (if_c (Here v.1) (Here v.2)) (if_c (closed_by 0 qs p) (closed_by 0 qs q)) (omega arith) refl
         (focus-step c (conditional (closed_by 0 qs b) (closed_by 0 qs p) (closed_by 0 qs q) at) f)
-        (code-as v.0 (k + 1) b (end atoms.Bool) (at_end a_value) refl (part g n (in_first itself) n.closed.0 n.depths.0) a.1 v.3)
+        (code-as v.0 (k + 1) b (end atoms.Bool) (at_end a_value) refl (part g n plain (within_first is_entered) n.closed.0 n.depths.0) a.1 v.3)
         (condition
-        (code-as v.1 (k + 1 + nodes b) p P (erase P) refl (part g n (in_later (in_first itself)) n.closed.1 n.depths.1) a.2 v.4)
-        (code-as v.2 (k + 1 + nodes b + nodes p) q P (erase P) refl (part g n (in_later (in_later (in_first itself))) n.closed.2 n.depths.2) a.3 v.5))
+        (code-as v.1 (k + 1 + nodes b) p P (erase P) refl (part g n plain (within_later (within_first is_entered)) n.closed.1 n.depths.1) a.2 v.4)
+        (code-as v.2 (k + 1 + nodes b + nodes p) q P (erase P) refl (part g n plain (within_later (within_later (within_first is_entered))) n.closed.2 n.depths.2) a.3 v.5))
         w)
-    executed-followed (case i parts at) k P c n a e f w =
-        let it : Item k (case i parts at) P = g.right.right (length G) k at_here.address (case i parts at) (erase P) n.stands e in
-        let v = insn-is g.handed g.table g.code it.2.insn in
-        let each = each-code (k + 1 + nodes i) parts (erase P) v.1 P v.3 refl (λ j q x closed depths. part g n (in_later x) closed depths) n.closed.1 n.depths.1 a.2 in
+    plain-followed (case i parts at) k P c n plain apart a e f w =
+        let it : Item n.binders k (case i parts at) P = g.right.right n.binders k at_here.address (case i parts at) (erase P) n.stands e in
+        let v = insn-is g.handed g.table g.code (plain-insn g plain it.2.insn) in
+        let each = each-code n.binders (k + 1 + nodes i) parts (erase P) v.1 P v.3 refl (λ j q x closed depths. part g n plain (within_later x) closed depths) n.closed.1 n.depths.1 a.2 in
         executes it.0 (insn.Case v.0 v.1) it.0.depth at it.1 v.4 refl it.2.place
         (starts c v.0 (closed_by 0 qs i) (end atoms.Int) P (case_c at_here at) (case_c (all_closed_by 0 qs parts) at) (omega arith) refl
         (focus-step c (case (closed_by 0 qs i) (all_closed_by 0 qs parts) at) f)
-        (code-as v.0 (k + 1) i (end atoms.Int) (at_end a_value) refl (part g n (in_first itself) n.closed.0 n.depths.0) a.1 v.2)
+        (code-as v.0 (k + 1) i (end atoms.Int) (at_end a_value) refl (part g n plain (within_first is_entered) n.closed.0 n.depths.0) a.1 v.2)
         (index (it.0, it.1, subst (λ (x : PeInsn). EachCodeAnswers g s.frames at_here.frame (picked_from x) (all_closed_by 0 qs parts) P) (sym v.4) each)) w)
-    executed-followed (lam d As b at) k P c n a e f w =
-        let it : Item k (lam d As b at) P = g.right.right (length G) k at_here.address (lam d As b at) (erase P) n.stands e in
-        let v = insn-is g.handed g.table g.code it.2.insn in
+    plain-followed (lam d As b at) k P c n plain apart a e f w =
+        let it : Item n.binders k (lam d As b at) P = g.right.right n.binders k at_here.address (lam d As b at) (erase P) n.stands e in
+        let v = insn-is g.handed g.table g.code (plain-insn g plain it.2.insn) in
         let path : P ≡ call a.1.0 a.1.1 = a.1.2 in
         let sh : erase P ≡ a_call (erase a.1.1) = ap erase path in
         let asked : erase P ≡ a_call v.1 = v.2 in
         let same : v.1 ≡ erase a.1.1 = cc in
-        executes it.0 (insn.Bind v.0) d it.0.place it.1 v.4 (it.2.depth ∙ sym n.depths.0) refl
+        executes it.0 (insn.Bind v.0) d it.0.place it.1 v.4 (it.2.depth ∙ n.many ∙ sym n.depths.0) refl
         (moves-weaker g {r = 0} {a = 1} (omega arith) (omega arith)
         (taken-followed g (copy.lam_meets d (closed_by 1 qs b)) (bind_meets d v.0 at_here.frame) P s c (focus-step c (lam d As (closed_by 1 qs b) at) f) (call-apart path) w
-        (lam-meets g d v.0 at_here.frame b (k + 1) qs G a.1.0 a.1.1 P s c path (body g n (in_first itself) n.closed n.depths.1) a.1.3
+        (lam-meets g d v.0 at_here.frame b (k + 1) qs G a.1.0 a.1.1 P s c path (body g n plain (within_first is_entered) n.closed n.depths.1) a.1.3
         (subst (λ (t : PlainShape). Enters g.table g.code (k + 1) t v.0) same v.3) env)))
-    executed-followed (app p q at) k P c n a e f w =
-        let it : Item k (app p q at) P = g.right.right (length G) k at_here.address (app p q at) (erase P) n.stands e in
-        let v = insn-is g.handed g.table g.code it.2.insn in
+    plain-followed (app p q at) k P c n plain apart a e f w =
+        let it : Item n.binders k (app p q at) P = g.right.right n.binders k at_here.address (app p q at) (erase P) n.stands e in
+        let v = insn-is g.handed g.table g.code (plain-insn g plain it.2.insn) in
         executes it.0 it.0.insn it.0.depth at it.1 refl refl it.2.place
-        (app-followed p q at k v.0 it.0.insn it.0.depth (suc (suc (merges (app p q at)))) a.1.0 P c n v.2 a.1.1 a.1.2 v.1 f w (omega arith))
-    executed-followed (field i p at) k P c n a e f w =
-        let it : Item k (field i p at) P = g.right.right (length G) k at_here.address (field i p at) (erase P) n.stands e in
-        let v = insn-is g.handed g.table g.code it.2.insn in
+        (app-followed p q at k v.0 it.0.insn it.0.depth (suc (suc (merges (app p q at)))) a.1.0 P c n plain v.2 a.1.1 a.1.2 v.1 f w (omega arith))
+    plain-followed (field i p at) k P c n plain apart a e f w =
+        let it : Item n.binders k (field i p at) P = g.right.right n.binders k at_here.address (field i p at) (erase P) n.stands e in
+        let v = insn-is g.handed g.table g.code (plain-insn g plain it.2.insn) in
         let path : P ≡ pick i a.1.0 = a.1.1 in
         let sh : erase P ≡ a_field i (erase a.1.0) = ap erase path in
         let asked : erase P ≡ a_field i v.1 = v.2 in
@@ -311,131 +323,215 @@ module _ (g : Compiled) where
         (moves-weaker g {r = 0} {a = 1} (omega arith) (omega arith)
         (taken-followed g (copy.field_meets i (closed_by 0 qs p)) (field_meets i (Here v.0)) P s c (focus-step c (field i (closed_by 0 qs p) at) f) (pick-apart path) w
         (field-meets g i (Here v.0) (closed_by 0 qs p) a.1.0 P s c path
-        (code-as v.0 (k + 1) p a.1.0 v.1 (sym same) (part g n (in_first itself) n.closed n.depths) a.1.2 v.3))))
-    executed-followed (sel p i at) k P c n a e f w =
-        let it : Item k (sel p i at) P = g.right.right (length G) k at_here.address (sel p i at) (erase P) n.stands e in
-        let v = insn-is g.handed g.table g.code it.2.insn in
+        (code-as v.0 (k + 1) p a.1.0 v.1 (sym same) (part g n plain (within_first is_entered) n.closed n.depths) a.1.2 v.3))))
+    plain-followed (sel p i at) k P c n plain apart a e f w =
+        let it : Item n.binders k (sel p i at) P = g.right.right n.binders k at_here.address (sel p i at) (erase P) n.stands e in
+        let v = insn-is g.handed g.table g.code (plain-insn g plain it.2.insn) in
         executes it.0 (insn.Pick i v.0) it.0.depth it.0.place it.1 v.2 refl refl
         (starts c v.0 (closed_by 0 qs p) (pick i P) P (pick_c i) (pick_c i) (omega arith) refl (focus-step c (sel (closed_by 0 qs p) i at) f)
-        (code-as v.0 (k + 1) p (pick i P) (a_field i (erase P)) refl (part g n (in_first itself) n.closed n.depths) a.1 v.1) selected w)
-    executed-followed (merge p q at) k P c n a e f w =
-        merge-followed p q at k P c n a (g.right.right (length G) k at_here.address (merge p q at) (erase P) n.stands e) f w
-        (λ j d m h en is v. executed-followed p j P d m h en is v) (λ j d m h en is v. executed-followed q j P d m h en is v)
-    executed-followed (let_in d p b at) k P c n a e f w =
-        let it : Item k (let_in d p b at) P = g.right.right (length G) k at_here.address (let_in d p b at) (erase P) n.stands e in
-        let v = insn-is g.handed g.table g.code it.2.insn in
-        executes it.0 it.0.insn d at it.1 refl (it.2.depth ∙ sym n.depths.0) it.2.place
-        (let-followed d p b at k v.0 it.0.insn (suc (suc (merges (let_in d p b at)))) a.1.0 P c n v.2 a.1.1 a.1.2 v.1 f w (omega arith))
-    executed-followed (rec d A b at) k P c n a e f w =
-        let it : Item k (rec d A b at) P = g.right.right (length G) k at_here.address (rec d A b at) (erase P) n.stands e in
-        let v = insn-is g.handed g.table g.code it.2.insn in
-        executes it.0 (insn.Knot k v.0) d it.0.place it.1 v.2 (it.2.depth ∙ sym n.depths.0) refl
+        (code-as v.0 (k + 1) p (pick i P) (a_field i (erase P)) refl (part g n plain (within_first is_entered) n.closed n.depths) a.1 v.1) selected w)
+    plain-followed (merge p q at) k P c n plain apart a e f w = absurd cc
+    plain-followed (let_in d p b at) k P c n plain apart a e f w =
+        let it : Item n.binders k (let_in d p b at) P = g.right.right n.binders k at_here.address (let_in d p b at) (erase P) n.stands e in
+        let v = insn-is g.handed g.table g.code (plain-insn g plain it.2.insn) in
+        executes it.0 it.0.insn d at it.1 refl (it.2.depth ∙ n.many ∙ sym n.depths.0) it.2.place
+        (let-followed d p b at k v.0 it.0.insn (suc (suc (merges (let_in d p b at)))) a.1.0 P c n plain v.2 a.1.1 a.1.2 v.1 f w (omega arith))
+    plain-followed (rec d A b at) k P c n plain apart a e f w =
+        let it : Item n.binders k (rec d A b at) P = g.right.right n.binders k at_here.address (rec d A b at) (erase P) n.stands e in
+        let v = insn-is g.handed g.table g.code (plain-insn g plain it.2.insn) in
+        executes it.0 (insn.Knot k v.0) d it.0.place it.1 v.2 (it.2.depth ∙ n.many ∙ sym n.depths.0) refl
         (one_move g (focus-step c (rec d A (closed_by 1 qs b) at) f) (omega arith)
         (bound-simulates g s c d v.0 at_here.frame (source k at_here.frame) (closed_by 0 qs (rec d A b at)) (paths A) b (k + 1) qs G P
         (rec d A b at, qs, G, n, refl, env, λ R some. (pair-above k some a.2, some, a.2, a.3), refl) env
-        (body g n (in_first itself) n.closed n.depths.1) (answers-above (HasPairOf g.table) b (paths A ∷ G) (k + 1) a.1 a.3) v.1 w))
-    executed-followed (skip at) k P c n a e f w =
-        let it : Item k (skip at) P = g.right.right (length G) k at_here.address (skip at) (erase P) n.stands e in
-        executes it.0 insn.Done it.0.depth it.0.place it.1 (insn-is g.handed g.table g.code it.2.insn) refl refl (no_move g 0 (omega arith) (omega arith) (P, (at, f, a.1), w))
-    executed-followed (seq p q at) k P c n a e f w =
-        let it : Item k (seq p q at) P = g.right.right (length G) k at_here.address (seq p q at) (erase P) n.stands e in
-        let v = insn-is g.handed g.table g.code it.2.insn in
+        (body g n plain (within_first is_entered) n.closed n.depths.1) (answers-above (HasPairOf g.table) b (paths A ∷ G) (k + 1) a.1 a.3) v.1 w))
+    plain-followed (skip at) k P c n plain apart a e f w =
+        let it : Item n.binders k (skip at) P = g.right.right n.binders k at_here.address (skip at) (erase P) n.stands e in
+        executes it.0 insn.Done it.0.depth it.0.place it.1 (insn-is g.handed g.table g.code (plain-insn g plain it.2.insn)) refl refl (no_move g 0 (omega arith) (omega arith) (P, (at, f, a.1), w))
+    plain-followed (seq p q at) k P c n plain apart a e f w =
+        let it : Item n.binders k (seq p q at) P = g.right.right n.binders k at_here.address (seq p q at) (erase P) n.stands e in
+        let v = insn-is g.handed g.table g.code (plain-insn g plain it.2.insn) in
         executes it.0 (insn.Seq v.0 v.1) it.0.depth it.0.place it.1 v.4 refl refl
         (starts c v.0 (closed_by 0 qs p) (end atoms.Comm) P (then_c (Here v.1)) (then_c (closed_by 0 qs q)) (omega arith) refl
         (focus-step c (seq (closed_by 0 qs p) (closed_by 0 qs q) at) f)
-        (code-as v.0 (k + 1) p (end atoms.Comm) (at_end a_run) refl (part g n (in_first itself) n.closed.0 n.depths.0) a.2 v.2)
-        (first_command (code-as v.1 (k + 1 + nodes p) q P (at_end a_run) (run-erase a.1) (part g n (in_later (in_first itself)) n.closed.1 n.depths.1) a.3 v.3)) w)
-    executed-followed (assign p q at) k P c n a e f w =
-        let it : Item k (assign p q at) P = g.right.right (length G) k at_here.address (assign p q at) (erase P) n.stands e in
-        let v = insn-is g.handed g.table g.code it.2.insn in
+        (code-as v.0 (k + 1) p (end atoms.Comm) (at_end a_run) refl (part g n plain (within_first is_entered) n.closed.0 n.depths.0) a.2 v.2)
+        (first_command (code-as v.1 (k + 1 + nodes p) q P (at_end a_run) (run-erase a.1) (part g n plain (within_later (within_first is_entered)) n.closed.1 n.depths.1) a.3 v.3)) w)
+    plain-followed (assign p q at) k P c n plain apart a e f w =
+        let it : Item n.binders k (assign p q at) P = g.right.right n.binders k at_here.address (assign p q at) (erase P) n.stands e in
+        let v = insn-is g.handed g.table g.code (plain-insn g plain it.2.insn) in
         let D = a.1.0 in
         executes it.0 (insn.Assign v.0 v.1) it.0.depth it.0.place it.1 v.4 refl refl
         (starts c v.1 (closed_by 0 qs q) (end (data_atom D)) (end atoms.Comm) (assign_c (Here v.0)) (assign_c (closed_by 0 qs p)) (omega arith) refl
         (focus-step c (assign (closed_by 0 qs p) (closed_by 0 qs q) at) f)
-        (code-as v.1 (k + 1 + nodes p) q (end (data_atom D)) (at_end a_value) (data-erase D) (part g n (in_later (in_first itself)) n.closed.1 n.depths.1) a.1.3 v.3)
-        (assigned_value D (code-as v.0 (k + 1) p (end (acceptor_atom D)) (at_end an_assignment) (acceptor-erase D) (part g n (in_first itself) n.closed.0 n.depths.0) a.1.2 v.2))
+        (code-as v.1 (k + 1 + nodes p) q (end (data_atom D)) (at_end a_value) (data-erase D) (part g n plain (within_later (within_first is_entered)) n.closed.1 n.depths.1) a.1.3 v.3)
+        (assigned_value D (code-as v.0 (k + 1) p (end (acceptor_atom D)) (at_end an_assignment) (acceptor-erase D) (part g n plain (within_first is_entered) n.closed.0 n.depths.0) a.1.2 v.2))
         (subst (λ (R : PlainPath). Behind g s c R) a.1.1 w))
-    executed-followed (while_do b i at) k P c n a e f w =
-        let it : Item k (while_do b i at) P = g.right.right (length G) k at_here.address (while_do b i at) (erase P) n.stands e in
-        let v = insn-is g.handed g.table g.code it.2.insn in
+    plain-followed (while_do b i at) k P c n plain apart a e f w =
+        let it : Item n.binders k (while_do b i at) P = g.right.right n.binders k at_here.address (while_do b i at) (erase P) n.stands e in
+        let v = insn-is g.handed g.table g.code (plain-insn g plain it.2.insn) in
         executes it.0 (insn.While v.0 v.1) it.0.depth it.0.place it.1 v.4 refl refl
         (starts c v.0 (closed_by 0 qs b) (end atoms.Bool) (end atoms.Comm) (while_c at_here (Here v.1)) (while_c (closed_by 0 qs (while_do b i at)) (closed_by 0 qs i)) (omega arith) refl
         (focus-step c (while_do (closed_by 0 qs b) (closed_by 0 qs i) at) f)
-        (code-as v.0 (k + 1) b (end atoms.Bool) (at_end a_value) refl (part g n (in_first itself) n.closed.0 n.depths.0) a.2 v.2)
+        (code-as v.0 (k + 1) b (end atoms.Bool) (at_end a_value) refl (part g n plain (within_first is_entered) n.closed.0 n.depths.0) a.2 v.2)
         (loop_test (itself-again k (while_do b i at) P (end atoms.Comm) a.1 n a e)
-        (code-as v.1 (k + 1 + nodes b) i (end atoms.Comm) (at_end a_run) refl (part g n (in_later (in_first itself)) n.closed.1 n.depths.1) a.3 v.3))
+        (code-as v.1 (k + 1 + nodes b) i (end atoms.Comm) (at_end a_run) refl (part g n plain (within_later (within_first is_entered)) n.closed.1 n.depths.1) a.3 v.3))
         (subst (λ (R : PlainPath). Behind g s c R) a.1 w))
-    executed-followed (forever i at) k P c n a e f w =
-        let it : Item k (forever i at) P = g.right.right (length G) k at_here.address (forever i at) (erase P) n.stands e in
-        let v = insn-is g.handed g.table g.code it.2.insn in
+    plain-followed (forever i at) k P c n plain apart a e f w =
+        let it : Item n.binders k (forever i at) P = g.right.right n.binders k at_here.address (forever i at) (erase P) n.stands e in
+        let v = insn-is g.handed g.table g.code (plain-insn g plain it.2.insn) in
         executes it.0 (insn.Loop v.0) it.0.depth it.0.place it.1 v.2 refl refl
         (starts c v.0 (closed_by 0 qs i) (end atoms.Comm) P (loop_c at_here) (loop_c (closed_by 0 qs (forever i at))) (omega arith) refl
         (focus-step c (forever (closed_by 0 qs i) at) f)
-        (code-as v.0 (k + 1) i (end atoms.Comm) (at_end a_run) refl (part g n (in_first itself) n.closed n.depths) a.2 v.1)
+        (code-as v.0 (k + 1) i (end atoms.Comm) (at_end a_run) refl (part g n plain (within_first is_entered) n.closed n.depths) a.2 v.1)
         (endless_body (itself-again k (forever i at) P P refl n a e)) w)
-    executed-followed (new d D i b at) k P c n a e f w =
-        let it : Item k (new d D i b at) P = g.right.right (length G) k at_here.address (new d D i b at) (erase P) n.stands e in
-        let v = insn-is g.handed g.table g.code it.2.insn in
-        executes it.0 (insn.New v.0 v.1) d it.0.place it.1 v.4 (it.2.depth ∙ sym n.depths.0) refl
+    plain-followed (new d D i b at) k P c n plain apart a e f w =
+        let it : Item n.binders k (new d D i b at) P = g.right.right n.binders k at_here.address (new d D i b at) (erase P) n.stands e in
+        let v = insn-is g.handed g.table g.code (plain-insn g plain it.2.insn) in
+        executes it.0 (insn.New v.0 v.1) d it.0.place it.1 v.4 (it.2.depth ∙ n.many ∙ sym n.depths.0) refl
         (starts c v.0 (closed_by 0 qs i) (end (data_atom D)) P (new_c d (Here v.1)) (new_c d (closed_by 1 qs b)) (omega arith) refl
         (focus-step c (new d D (closed_by 0 qs i) (closed_by 1 qs b) at) f)
-        (code-as v.0 (k + 1) i (end (data_atom D)) (at_end a_value) (data-erase D) (part g n (in_first itself) n.closed.0 n.depths.1) a.2 v.2)
+        (code-as v.0 (k + 1) i (end (data_atom D)) (at_end a_value) (data-erase D) (part g n plain (within_first is_entered) n.closed.0 n.depths.1) a.2 v.2)
         (first_value D a.1 (
           k + 1 + nodes i,
           b,
           qs,
           G,
-          body g n (in_later (in_first itself)) n.closed.1 n.depths.2,
+          body g n plain (within_later (within_first is_entered)) n.closed.1 n.depths.2,
           a.3,
           subst (λ (t : PlainShape). Enters g.table g.code (k + 1 + nodes i) t v.1) (sym (run-erase a.1)) v.3,
           env,
           refl,
         )) w)
-    executed-followed (escape d b at) k P c n a e f w =
-        let it : Item k (escape d b at) P = g.right.right (length G) k at_here.address (escape d b at) (erase P) n.stands e in
-        let v = insn-is g.handed g.table g.code it.2.insn in
-        executes it.0 (insn.Escape v.0) d it.0.place it.1 v.2 (it.2.depth ∙ sym n.depths.0) refl
-        (escape-followed d v.0 b at (k + 1) c (suc (suc (merges (escape d b at)))) (body g n (in_first itself) n.closed n.depths.1) a.2 v.1
+    plain-followed (escape d b at) k P c n plain apart a e f w =
+        let it : Item n.binders k (escape d b at) P = g.right.right n.binders k at_here.address (escape d b at) (erase P) n.stands e in
+        let v = insn-is g.handed g.table g.code (plain-insn g plain it.2.insn) in
+        executes it.0 (insn.Escape v.0) d it.0.place it.1 v.2 (it.2.depth ∙ n.many ∙ sym n.depths.0) refl
+        (escape-followed d v.0 b at (k + 1) c (suc (suc (merges (escape d b at)))) (body g n plain (within_first is_entered) n.closed n.depths.1) a.2 v.1
         (focus-step c (escape d (closed_by 1 qs b) at) f) (subst (λ (R : PlainPath). Behind g s c R) a.1 w) (omega arith))
-    executed-followed (accept d D b at) k P c n a e f w =
-        let it : Item k (accept d D b at) P = g.right.right (length G) k at_here.address (accept d D b at) (erase P) n.stands e in
-        let v = insn-is g.handed g.table g.code it.2.insn in
-        executes it.0 (insn.Accept v.0) d it.0.place it.1 v.2 (it.2.depth ∙ sym n.depths.0) refl
+    plain-followed (accept d D b at) k P c n plain apart a e f w =
+        let it : Item n.binders k (accept d D b at) P = g.right.right n.binders k at_here.address (accept d D b at) (erase P) n.stands e in
+        let v = insn-is g.handed g.table g.code (plain-insn g plain it.2.insn) in
+        executes it.0 (insn.Accept v.0) d it.0.place it.1 v.2 (it.2.depth ∙ n.many ∙ sym n.depths.0) refl
         (moves-weaker g {r = 0} {a = 1} (omega arith) (omega arith)
         (taken-followed g (copy.accept_meets d (closed_by 1 qs b) at) (accept_meets d v.0 at_here.frame) P s c
         (focus-step c (accept d D (closed_by 1 qs b) at) f) (acceptor-apart D a.1) w
-        (accept-meets g d v.0 at_here.frame b at (k + 1) qs G D P s c a.1 (body g n (in_first itself) n.closed n.depths.1) a.2 v.1 env)))
-    executed-followed (put kind p at) k P c n a e f w =
-        let it : Item k (put kind p at) P = g.right.right (length G) k at_here.address (put kind p at) (erase P) n.stands e in
-        let v = insn-is g.handed g.table g.code it.2.insn in
+        (accept-meets g d v.0 at_here.frame b at (k + 1) qs G D P s c a.1 (body g n plain (within_first is_entered) n.closed n.depths.1) a.2 v.1 env)))
+    plain-followed (put kind p at) k P c n plain apart a e f w =
+        let it : Item n.binders k (put kind p at) P = g.right.right n.binders k at_here.address (put kind p at) (erase P) n.stands e in
+        let v = insn-is g.handed g.table g.code (plain-insn g plain it.2.insn) in
         executes it.0 (insn.Put kind v.0) it.0.depth it.0.place it.1 v.2 refl refl
         (starts c v.0 (closed_by 0 qs p) (end (put_atom kind)) (end atoms.Comm) (put_c kind) (put_c kind) (omega arith) refl (focus-step c (put kind (closed_by 0 qs p) at) f)
-        (code-as v.0 (k + 1) p (end (put_atom kind)) (at_end a_value) (put-erase kind) (part g n (in_first itself) n.closed n.depths) a.2 v.1)
+        (code-as v.0 (k + 1) p (end (put_atom kind)) (at_end a_value) (put-erase kind) (part g n plain (within_first is_entered) n.closed n.depths) a.2 v.1)
         put_datum (subst (λ (R : PlainPath). Behind g s c R) a.1 w))
-    executed-followed (read p at) k P c n a e f w =
-        let it : Item k (read p at) P = g.right.right (length G) k at_here.address (read p at) (erase P) n.stands e in
-        let v = insn-is g.handed g.table g.code it.2.insn in
-        let h = code-as v.0 (k + 1) p (end atoms.IntAcc) (at_end an_assignment) refl (part g n (in_first itself) n.closed n.depths) a.2 v.1 in
+    plain-followed (read p at) k P c n plain apart a e f w =
+        let it : Item n.binders k (read p at) P = g.right.right n.binders k at_here.address (read p at) (erase P) n.stands e in
+        let v = insn-is g.handed g.table g.code (plain-insn g plain it.2.insn) in
+        let h = code-as v.0 (k + 1) p (end atoms.IntAcc) (at_end an_assignment) refl (part g n plain (within_first is_entered) n.closed n.depths) a.2 v.1 in
         executes it.0 (insn.Read v.0) it.0.depth it.0.place it.1 v.2 refl refl
         (takes_byte (λ byte. copy.focus_on (closed_by 0 qs p) (copy.push (store_c (byte_or_end byte)) c)) no_step (omega arith) (focus-step c (read (closed_by 0 qs p) at) f)
         (λ byte. pushed-simulates g s c (end atoms.IntAcc) (end atoms.Comm) (store_c (byte_or_end byte)) (store_c (byte_or_end byte)) (Here v.0) (closed_by 0 qs p) refl h
         (acceptor data_type.Int (byte-typed byte)) (subst (λ (R : PlainPath). Behind g s c R) a.1 w)))
-    executed-followed (cells d i b at) k P c n a e f w =
-        let it : Item k (cells d i b at) P = g.right.right (length G) k at_here.address (cells d i b at) (erase P) n.stands e in
-        let v = insn-is g.handed g.table g.code it.2.insn in
-        executes it.0 (insn.Cells v.0 v.1) d at it.1 v.4 (it.2.depth ∙ sym n.depths.0) it.2.place
+    plain-followed (cells d i b at) k P c n plain apart a e f w =
+        let it : Item n.binders k (cells d i b at) P = g.right.right n.binders k at_here.address (cells d i b at) (erase P) n.stands e in
+        let v = insn-is g.handed g.table g.code (plain-insn g plain it.2.insn) in
+        executes it.0 (insn.Cells v.0 v.1) d at it.1 v.4 (it.2.depth ∙ n.many ∙ sym n.depths.0) it.2.place
         (starts c v.0 (closed_by 0 qs i) (end atoms.Int) P (cells_c d (Here v.1) at) (cells_c d (closed_by 1 qs b) at) (omega arith) refl
         (focus-step c (cells d (closed_by 0 qs i) (closed_by 1 qs b) at) f)
-        (code-as v.0 (k + 1) i (end atoms.Int) (at_end a_value) refl (part g n (in_first itself) n.closed.0 n.depths.1) a.2 v.2)
+        (code-as v.0 (k + 1) i (end atoms.Int) (at_end a_value) refl (part g n plain (within_first is_entered) n.closed.0 n.depths.1) a.2 v.2)
         (cells_wanted a.1 (index-known v.0 (k + 1) v.2) (
           k + 1 + nodes i,
           b,
           qs,
           G,
-          body g n (in_later (in_first itself)) n.closed.1 n.depths.2,
+          body g n plain (within_later (within_first is_entered)) n.closed.1 n.depths.2,
           a.3,
           subst (λ (t : PlainShape). Enters g.table g.code (k + 1 + nodes i) t v.1) (sym (run-erase a.1)) v.3,
           env,
           refl,
         )) w)
+    plain-followed (mark m at) k P c n plain apart a e f w = absurd a
+
+    -- ---- a node that is evaluated in one step
+
+    atom-data : (A : Atom) → end_shape A ≡ a_value → (D : DataTy) × (A ≡ data_atom D)
+    atom-data atoms.Int e = (data_type.Int, refl)
+    atom-data atoms.Bool e = (data_type.Bool, refl)
+    atom-data atoms.Char e = (data_type.Char, refl)
+    atom-data A e = absurd cc
+
+    -- a path of the shape of a value
+    value-data : (P : PlainPath) → erase P ≡ at_end a_value → (D : DataTy) × (P ≡ end (data_atom D))
+    value-data (end A) e = let f : end_shape A ≡ a_value = cc in let x = atom-data A f in (x.0, ap end x.1)
+    value-data (call D P) e = absurd cc
+    value-data (pick i P) e = absurd cc
+
+    straight-executed : (node : Tree) (k : ℕ) (P : PlainPath) (c : CopyState) (n : IsNode g s.frames at_here.frame (length G) k node) (t : PlainShape) (i : PeInsn) (d : ℕ) (at : Place) → erase P ≡ t →
+        IsStraightOf g.code n.binders node t i → Below s.next s.frames → Answered g G k node P → c.focus ≡ closed_by 0 qs node → Behind g s c P → IsExecuted g (extra g) (rank_of node) 2 c (executed g.code i d at at_here s)
+    straight-executed node k P c n t i d at e (of_value {ss = ss} post height) lo a f w =
+        let x = value-data P e in
+        eval-followed g s at_here qs G env s.next lo node k x.0 P ss d at c n x.1 a post height f w
+    straight-executed node k P c n t i d at e (of_assignment {j = j} {e = q} {here = place} {at = spot} {ss = ss} is post height) lo a f w =
+        set-followed g s at_here qs G env s.next lo j q place spot k a.1.0 ss d at c n is a.1.2 a.1.3 post height f (subst (λ (R : PlainPath). Behind g s c R) a.1.1 w)
+
+    -- an item is executed
+    dispatch : (node : Tree) (k : ℕ) (P : PlainPath) (c : CopyState) (n : IsNode g s.frames at_here.frame (length G) k node) → Answered g G k node P → c.focus ≡ closed_by 0 qs node → Behind g s c P →
+        Item n.binders k node P → (g.straight k ≡ false → At (rank_of node) (suc (suc (merges node))) c) → Executed (rank_of node) (suc (suc (merges node))) c
+    dispatch node k P c n a f w it go = by it.2.insn
+      where
+        by : IsInsnAt g.handed g.straight g.table g.code n.binders k node (erase P) it.0.insn → Executed (rank_of node) (suc (suc (merges node))) c
+        by (by_parts plain h) = by_steps (go plain)
+        by (at_once is h) =
+            subst (λ (o : Option PeItem). IsExecuted g (extra g) (rank_of node) (suc (suc (merges node))) c (item_executed g.code o at_here s)) (sym it.1)
+            (executed-weaker g {r = rank_of node} {a = 2} (omega arith) (omega arith) (straight-executed node k P c n (erase P) it.0.insn it.0.depth it.0.place refl h w.2 a f w))
+
+    pub executed-followed : (node : Tree) (k : ℕ) (P : PlainPath) (c : CopyState) → IsNode g s.frames at_here.frame (length G) k node → Answered g G k node P → Enters g.table g.code k (erase P) at_here.address →
+        c.focus ≡ closed_by 0 qs node → Behind g s c P → Executed (rank_of node) (suc (suc (merges node))) c
+    executed-followed (merge p q at) k P c n a e f w =
+        merge-followed p q at k P c n a (g.right.right n.binders k at_here.address (merge p q at) (erase P) n.stands e) f w
+        (λ j d m h en is v. executed-followed p j P d m h en is v) (λ j d m h en is v. executed-followed q j P d m h en is v)
     executed-followed (mark m at) k P c n a e f w = absurd a
+    executed-followed (var j at) k P c n a e f w =
+        dispatch (var j at) k P c n a f w (g.right.right n.binders k at_here.address (var j at) (erase P) n.stands e) (λ plain. plain-followed (var j at) k P c n plain refl a e f w)
+    executed-followed (lit u at) k P c n a e f w =
+        dispatch (lit u at) k P c n a f w (g.right.right n.binders k at_here.address (lit u at) (erase P) n.stands e) (λ plain. plain-followed (lit u at) k P c n plain refl a e f w)
+    executed-followed (unary op p at) k P c n a e f w =
+        dispatch (unary op p at) k P c n a f w (g.right.right n.binders k at_here.address (unary op p at) (erase P) n.stands e) (λ plain. plain-followed (unary op p at) k P c n plain refl a e f w)
+    executed-followed (binary op p q at) k P c n a e f w =
+        dispatch (binary op p q at) k P c n a f w (g.right.right n.binders k at_here.address (binary op p q at) (erase P) n.stands e) (λ plain. plain-followed (binary op p q at) k P c n plain refl a e f w)
+    executed-followed (conditional b p q at) k P c n a e f w =
+        dispatch (conditional b p q at) k P c n a f w (g.right.right n.binders k at_here.address (conditional b p q at) (erase P) n.stands e) (λ plain. plain-followed (conditional b p q at) k P c n plain refl a e f w)
+    executed-followed (case i parts at) k P c n a e f w =
+        dispatch (case i parts at) k P c n a f w (g.right.right n.binders k at_here.address (case i parts at) (erase P) n.stands e) (λ plain. plain-followed (case i parts at) k P c n plain refl a e f w)
+    executed-followed (lam d As b at) k P c n a e f w =
+        dispatch (lam d As b at) k P c n a f w (g.right.right n.binders k at_here.address (lam d As b at) (erase P) n.stands e) (λ plain. plain-followed (lam d As b at) k P c n plain refl a e f w)
+    executed-followed (app p q at) k P c n a e f w =
+        dispatch (app p q at) k P c n a f w (g.right.right n.binders k at_here.address (app p q at) (erase P) n.stands e) (λ plain. plain-followed (app p q at) k P c n plain refl a e f w)
+    executed-followed (field i p at) k P c n a e f w =
+        dispatch (field i p at) k P c n a f w (g.right.right n.binders k at_here.address (field i p at) (erase P) n.stands e) (λ plain. plain-followed (field i p at) k P c n plain refl a e f w)
+    executed-followed (sel p i at) k P c n a e f w =
+        dispatch (sel p i at) k P c n a f w (g.right.right n.binders k at_here.address (sel p i at) (erase P) n.stands e) (λ plain. plain-followed (sel p i at) k P c n plain refl a e f w)
+    executed-followed (let_in d p b at) k P c n a e f w =
+        dispatch (let_in d p b at) k P c n a f w (g.right.right n.binders k at_here.address (let_in d p b at) (erase P) n.stands e) (λ plain. plain-followed (let_in d p b at) k P c n plain refl a e f w)
+    executed-followed (rec d A b at) k P c n a e f w =
+        dispatch (rec d A b at) k P c n a f w (g.right.right n.binders k at_here.address (rec d A b at) (erase P) n.stands e) (λ plain. plain-followed (rec d A b at) k P c n plain refl a e f w)
+    executed-followed (skip at) k P c n a e f w =
+        dispatch (skip at) k P c n a f w (g.right.right n.binders k at_here.address (skip at) (erase P) n.stands e) (λ plain. plain-followed (skip at) k P c n plain refl a e f w)
+    executed-followed (seq p q at) k P c n a e f w =
+        dispatch (seq p q at) k P c n a f w (g.right.right n.binders k at_here.address (seq p q at) (erase P) n.stands e) (λ plain. plain-followed (seq p q at) k P c n plain refl a e f w)
+    executed-followed (assign p q at) k P c n a e f w =
+        dispatch (assign p q at) k P c n a f w (g.right.right n.binders k at_here.address (assign p q at) (erase P) n.stands e) (λ plain. plain-followed (assign p q at) k P c n plain refl a e f w)
+    executed-followed (while_do b i at) k P c n a e f w =
+        dispatch (while_do b i at) k P c n a f w (g.right.right n.binders k at_here.address (while_do b i at) (erase P) n.stands e) (λ plain. plain-followed (while_do b i at) k P c n plain refl a e f w)
+    executed-followed (forever i at) k P c n a e f w =
+        dispatch (forever i at) k P c n a f w (g.right.right n.binders k at_here.address (forever i at) (erase P) n.stands e) (λ plain. plain-followed (forever i at) k P c n plain refl a e f w)
+    executed-followed (new d D i b at) k P c n a e f w =
+        dispatch (new d D i b at) k P c n a f w (g.right.right n.binders k at_here.address (new d D i b at) (erase P) n.stands e) (λ plain. plain-followed (new d D i b at) k P c n plain refl a e f w)
+    executed-followed (cells d i b at) k P c n a e f w =
+        dispatch (cells d i b at) k P c n a f w (g.right.right n.binders k at_here.address (cells d i b at) (erase P) n.stands e) (λ plain. plain-followed (cells d i b at) k P c n plain refl a e f w)
+    executed-followed (escape d b at) k P c n a e f w =
+        dispatch (escape d b at) k P c n a f w (g.right.right n.binders k at_here.address (escape d b at) (erase P) n.stands e) (λ plain. plain-followed (escape d b at) k P c n plain refl a e f w)
+    executed-followed (accept d D b at) k P c n a e f w =
+        dispatch (accept d D b at) k P c n a f w (g.right.right n.binders k at_here.address (accept d D b at) (erase P) n.stands e) (λ plain. plain-followed (accept d D b at) k P c n plain refl a e f w)
+    executed-followed (put kind p at) k P c n a e f w =
+        dispatch (put kind p at) k P c n a f w (g.right.right n.binders k at_here.address (put kind p at) (erase P) n.stands e) (λ plain. plain-followed (put kind p at) k P c n plain refl a e f w)
+    executed-followed (read p at) k P c n a e f w =
+        dispatch (read p at) k P c n a f w (g.right.right n.binders k at_here.address (read p at) (erase P) n.stands e) (λ plain. plain-followed (read p at) k P c n plain refl a e f w)

@@ -30,7 +30,8 @@ use Rattle.pe_code.specs.Code.{item_at, picked_from}
 use Rattle.pe_machine.specs.States.{Pointer, Thunk, source, datum, cell_of, jump_of, sequence_of, Binding, to_thunk, to_cell, to_escape, to_sequence, Frame, Focus, code_at, value, completed, Wanted, PeContext, Held, PeState, oldest, is_named}
 use Rattle.pe_right.specs.Closing.{closed_by}
 use Rattle.pe_right.specs.Constants.{constant}
-use Rattle.pe_right.specs.Right.{IsNodeUnder, is_variable, Enters, IsCodeOf}
+use Rattle.pe_right.specs.Entered.{BinderKind, a_cell, another, IsEntered}
+use Rattle.pe_right.specs.Right.{is_variable, Enters, IsCodeOf}
 use Rattle.pe_right.specs.Typed.{IsTableOf}
 use Rattle.pe_right.specs.ReadsBack.{cells_in}
 use Rattle.pe_right.proofs.Merges.{spare}
@@ -47,7 +48,8 @@ pub record Compiled : Type 0 where
   pub typed : IsTableOf phrase table
   pub handed : Tree → Option Datum
   pub constants : (q : Tree) (v : Datum) → handed q ≡ Some v → constant q ≡ Some v
-  pub right : IsCodeOf handed phrase table code
+  pub straight : ℕ → Bool
+  pub right : IsCodeOf handed straight phrase table code
 
 -- the fact holds of each path above one of the list
 abbrev pub Above : PlainPaths → (PlainPath → Type 0) → Type 0
@@ -114,6 +116,21 @@ marked (cells_c d c at) ms = ms
 marked (fill_c n v d c at) ms = ms
 marked (element_c n) ms = ms
 
+-- a frame binds as the binder says
+abbrev pub IsBoundBy : BinderKind → Binding → Type 0
+IsBoundBy a_cell (to_thunk t) = ⊥
+IsBoundBy a_cell (to_cell v) = Unit {0}
+IsBoundBy a_cell to_escape = ⊥
+IsBoundBy a_cell (to_sequence c) = ⊥
+IsBoundBy another b = Unit {0}
+
+-- the frame that is named, and those around it, bind as the binders say, of which the first is the innermost
+abbrev pub AreBoundBy : List Frame → Option ℕ → List BinderKind → Type 0
+AreBoundBy [] r w = (r ≡ None) × (w ≡ [])
+AreBoundBy (f ∷ fs) r w =
+    ((r ≡ Some f.number) × ((b : BinderKind) × (rest : List BinderKind) × (w ≡ b ∷ rest) × IsBoundBy b f.binding × AreBoundBy fs f.around rest))
+    ⊎ ((is_named r f.number ≡ false) × AreBoundBy fs r w)
+
 -- how many steps of the machine may follow, at most, before one that the copy rule makes too
 abbrev pub rank_of : Tree → ℕ
 rank_of (var k at) = 2
@@ -125,11 +142,23 @@ module _ (g : Compiled) where
   abbrev pub Answered : List PlainPaths → ℕ → Tree → PlainPath → Type 0
   Answered G k q P = Answers (HasPairOf g.table) G k q P
 
-  -- node k of the phrase, with d binders around it
-  pub record IsNode (d k : ℕ) (q : Tree) : Type 0 where
-    pub stands : IsNodeUnder 0 0 g.phrase d k q
+  -- node k of the phrase, which is entered, with d binders around it, as which the frame that is named and those around it bind
+  pub record IsNode (fs : List Frame) (r : Option ℕ) (d k : ℕ) (q : Tree) : Type 0 where
+    pub binders : List BinderKind
+    pub stands : IsEntered g.straight [] 0 g.phrase binders k q
+    pub many : length binders ≡ d
+    pub bound : AreBoundBy fs r binders
     pub closed : IsClosedUnder d q
     pub depths : HasDepthsUnder d q
+
+  -- the body of a binder, which stands before d others
+  pub record IsBody (fs : List Frame) (r : Option ℕ) (b : BinderKind) (d k : ℕ) (q : Tree) : Type 0 where
+    pub binders : List BinderKind
+    pub stands : IsEntered g.straight [] 0 g.phrase (b ∷ binders) k q
+    pub many : length binders ≡ d
+    pub bound : AreBoundBy fs r binders
+    pub closed : IsClosedUnder (suc d) q
+    pub depths : HasDepthsUnder (suc d) q
 
   -- the shape of an index has a number
   abbrev pub IndexKnown : Type 0
@@ -140,7 +169,7 @@ module _ (g : Compiled) where
   -- a thunk stands for a phrase that answers the paths D; E says what frames stand for
   abbrev pub ThunkAnswersIn : (Option ℕ → List Tree → List PlainPaths → Type 0) → List Frame → Thunk → Tree → PlainPaths → Type 0
   ThunkAnswersIn E fs (source k r) q D =
-      (node : Tree) × (qs : List Tree) × (G : List PlainPaths) × IsNode (length G) k node × (is_variable node ≡ None) × E r qs G × Above D (λ P. Answered G k node P)
+      (node : Tree) × (qs : List Tree) × (G : List PlainPaths) × IsNode fs r (length G) k node × (is_variable node ≡ None) × E r qs G × Above D (λ P. Answered G k node P)
       × (q ≡ closed_by 0 qs node)
   ThunkAnswersIn E fs (datum v) q D =
       (constant q ≡ Some v) × (nodes q ≤ spare g.phrase + 1) × Above D (λ P. P ≡ end (datum_atom v)) × (((at : Place) × (q ≡ lit v at)) ⊎ (g.handed q ≡ Some v))
@@ -177,13 +206,13 @@ module _ (g : Compiled) where
   -- code stands for a node that answers the path and is entered there at its shape
   abbrev pub CodeAnswers : List Frame → Pointer → Tree → PlainPath → Type 0
   CodeAnswers fs c q P =
-      (k : ℕ) × (node : Tree) × (qs : List Tree) × (G : List PlainPaths) × IsNode (length G) k node × Answered G k node P × Enters g.table g.code k (erase P) c.address
+      (k : ℕ) × (node : Tree) × (qs : List Tree) × (G : List PlainPaths) × IsNode fs c.frame (length G) k node × Answered G k node P × Enters g.table g.code k (erase P) c.address
       × FramesAnswer fs c.frame qs G × (q ≡ closed_by 0 qs node)
 
   -- the like for a body, whose own variable has the paths D
-  abbrev pub BodyAnswers : List Frame → Pointer → Tree → PlainPaths → PlainPath → Type 0
-  BodyAnswers fs c b D P =
-      (k : ℕ) × (node : Tree) × (qs : List Tree) × (G : List PlainPaths) × IsNode (suc (length G)) k node × Answered (D ∷ G) k node P
+  abbrev pub BodyAnswers : BinderKind → List Frame → Pointer → Tree → PlainPaths → PlainPath → Type 0
+  BodyAnswers y fs c b D P =
+      (k : ℕ) × (node : Tree) × (qs : List Tree) × (G : List PlainPaths) × IsBody fs c.frame y (length G) k node × Answered (D ∷ G) k node P
       × Enters g.table g.code k (erase P) c.address × FramesAnswer fs c.frame qs G × (b ≡ closed_by 1 qs node)
 
   abbrev pub EachCodeAnswers : List Frame → Option ℕ → List ℕ → Trees → PlainPath → Type 0
@@ -214,9 +243,9 @@ module _ (g : Compiled) where
         ContextTakes fs (while_c c d) (while_c q r) (end atoms.Bool) (end atoms.Comm)
     loop_body : {c : Pointer} {q : Tree} → CodeAnswers fs c q (end atoms.Comm) → ContextTakes fs (body_c c) (body_c q) (end atoms.Comm) (end atoms.Comm)
     endless_body : {c : Pointer} {q : Tree} {P : PlainPath} → CodeAnswers fs c q P → ContextTakes fs (loop_c c) (loop_c q) (end atoms.Comm) P
-    first_value : {d : ℕ} {c : Pointer} {b : Tree} {P : PlainPath} (D : DataTy) → IsRun P → BodyAnswers fs c b (paths (cell_type D)) P →
+    first_value : {d : ℕ} {c : Pointer} {b : Tree} {P : PlainPath} (D : DataTy) → IsRun P → BodyAnswers a_cell fs c b (paths (cell_type D)) P →
         ContextTakes fs (new_c d c) (new_c d b) (end (data_atom D)) P
-    cells_wanted : {d : ℕ} {c : Pointer} {b : Tree} {at : Place} {P : PlainPath} → IsRun P → IndexKnown → BodyAnswers fs c b (paths sequence_type) P →
+    cells_wanted : {d : ℕ} {c : Pointer} {b : Tree} {at : Place} {P : PlainPath} → IsRun P → IndexKnown → BodyAnswers another fs c b (paths sequence_type) P →
         ContextTakes fs (cells_c d c at) (cells_c d b at) (end atoms.Int) P
     element_wanted : {w : Wanted} → HasSequence w.number fs → ContextTakes fs (element_c w) (element_c w.number) (end atoms.Int) (end (wanted_atom w.is_written))
     cell_body : {n : ℕ} {P : PlainPath} → IsRun P → ContextTakes fs (drop_c n) (drop_c n) P P
@@ -269,7 +298,7 @@ module _ (g : Compiled) where
     pub path : PlainPath
     pub run : IsRun path
     pub known : IndexKnown
-    pub answers : BodyAnswers s.frames body phrase (paths sequence_type) path
+    pub answers : BodyAnswers another s.frames body phrase (paths sequence_type) path
     pub takes_path : ContextsTake s.frames behind copy_behind path
     pub store : c.store ≡ (record { number = s.next; content = several place (replicate made (datum_kind.Int (pos 0))) }) ∷ cells_in s.frames
     pub below : Below s.next s.frames

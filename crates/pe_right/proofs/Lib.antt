@@ -13,6 +13,8 @@ pub mod ContextLemmas
 pub mod Moves
 pub mod Evaluating
 pub mod CellLemmas
+pub mod StraightLemmas
+pub mod StraightSteps
 pub mod MeetingLemmas
 pub mod TakingLemmas
 pub mod EnteringLemmas

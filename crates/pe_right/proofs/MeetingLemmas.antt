@@ -37,6 +37,8 @@ use Rattle.pe_right.proofs.ClosingLemmas.{closed_with-more}
 use Rattle.pe_right.proofs.FrameLemmas.{Below, Below-oldest, oldest-itself}
 use Rattle.pe_right.proofs.AnswerLemmas.{end-same}
 use Rattle.pe_right.proofs.Invariants.{Compiled, FramesAnswer, CodeAnswers, BodyAnswers, EachCodeAnswers, ContextTakes, unary_operand, left_operand, right_operand, condition, index, first_command, assigned_value, acceptor, loop_test, loop_body, endless_body, first_value, cells_wanted, element_wanted, cell_body, put_datum, escape_body, ContextsTake, Behind, IndexKnown, HasSequence, HasCell, wanted_atom, Fills}
+use Rattle.pe_right.specs.Entered.{a_cell, another}
+use Rattle.pe_right.proofs.NodeLemmas.{body-bound}
 use Rattle.pe_right.proofs.Growing.{env-shut}
 use Rattle.pe_right.proofs.ContextLemmas.{held-asked, contexts-pushed, left_store}
 use Rattle.pe_right.proofs.CellLemmas.{IsUse, sequence-found, cell-followed}
@@ -111,7 +113,7 @@ module _ (g : Compiled) where
 
   -- a new cell
   stored-followed : (v : Datum) (n : ℕ) (p : Pointer) (body : Tree) (at : Place) (D : DataTy) (P : PlainPath) (s : PeState) (c d : CopyState) →
-      copy_step d ≡ copy.stored v n body at c → datum_atom v ≡ data_atom D → IsRun P → BodyAnswers g s.frames p body (paths (cell_type D)) P → Behind g s c P →
+      copy_step d ≡ copy.stored v n body at c → datum_atom v ≡ data_atom D → IsRun P → BodyAnswers g a_cell s.frames p body (paths (cell_type D)) P → Behind g s c P →
       IsFollowed g 0 2 d (stored v n p s)
   stored-followed v n p body at D P s c d e i is a b =
       let new : Frame = record { number = s.next; depth = n; binding = to_cell v; around = p.frame } in
@@ -122,7 +124,7 @@ module _ (g : Compiled) where
       ap (λ (q : Tree). closed_with q m) a.8 ∙ closed_with-more a.1 m a.2 (env-shut g s.frames p.frame a.2 a.3 a.7) in
       one_step g e (omega arith) (
         P,
-        ((a.0, a.1, m ∷ a.2, paths (cell_type D) ∷ a.3, a.4, a.5, a.6, env, shut), rank-two a.1),
+        ((a.0, a.1, m ∷ a.2, paths (cell_type D) ∷ a.3, body-bound g new tt a.4, a.5, a.6, env, shut), rank-two a.1),
         (
           contexts-pushed g (new ∷ s.frames) s.frames (length s.frames) (drop_c s.next) (drop_c c.next) s.load c.load s.contexts c.contexts P P (oldest-itself new s.frames)
               (omega arith) refl b.4 (subst (λ (k : ℕ). ContextTakes g s.frames (drop_c s.next) (drop_c k) P P) (sym b.3) (cell_body is)) b.0,
@@ -135,7 +137,7 @@ module _ (g : Compiled) where
 
   -- a new sequence, which has no cells yet
   counted-followed : (v : Datum) (n : ℕ) (p : Pointer) (body : Tree) (at : Place) (P : PlainPath) (s : PeState) (c d : CopyState) → copy_step d ≡ copy.counted v n body at c →
-      datum_atom v ≡ atoms.Int → IsRun P → IndexKnown g → BodyAnswers g s.frames p body (paths sequence_type) P → Behind g s c P → IsFollowed g 0 2 d (counted v n p at s)
+      datum_atom v ≡ atoms.Int → IsRun P → IndexKnown g → BodyAnswers g another s.frames p body (paths sequence_type) P → Behind g s c P → IsFollowed g 0 2 d (counted v n p at s)
   counted-followed (datum.Int (pos m)) n p body at P s c d e i is known a b = by_moves (fills (and_step e no_step) (omega arith) (omega arith) (record {
     made = 0;
     wanted = m;
@@ -359,7 +361,7 @@ module _ (g : Compiled) where
       ap (λ (q : Tree). closed_with q m) a.8 ∙ closed_with-more a.1 m a.2 (env-shut g s.frames h.body.frame a.2 a.3 a.7) in
       one_step g e (omega arith) (
         P,
-        ((a.0, a.1, m ∷ a.2, paths sequence_type ∷ a.3, a.4, a.5, a.6, env, shut), rank-two a.1),
+        ((a.0, a.1, m ∷ a.2, paths sequence_type ∷ a.3, body-bound g new tt a.4, a.5, a.6, env, shut), rank-two a.1),
         (
           contexts-pushed g (new ∷ s.frames) s.frames (length s.frames) (drop_c s.next) (drop_c s.next) h.base h.base h.behind h.copy_behind P P (oldest-itself new s.frames)
               (omega arith) refl refl (cell_body h.run) h.takes_path,

@@ -1,5 +1,5 @@
 -- How a step of the machine goes with steps of the copy rule.
-use Rattle.std.proofs.Common.{ℕ, suc, ◌+◌, ◌*◌, ◌<◌, ◌≤◌, ◌≡◌, List, ◌∷◌, length, Option, Some, None, refl, ap, inl, arith}
+use Rattle.std.proofs.Common.{ℕ, suc, ◌+◌, ◌*◌, ◌<◌, ◌≤◌, ◌≡◌, List, [], ◌∷◌, length, Option, Some, None, refl, ap, inl, arith}
 use Rattle.fy_base.specs.declared.data.Place.{Place}
 use Rattle.fy_base.specs.declared.data.FaultKind.{FaultKind}
 use Rattle.fy_base.specs.Outside.{Bytes}
@@ -10,15 +10,17 @@ use Rattle.fy_phrase.specs.Closing.{closed_with}
 use Rattle.fy_phrase.specs.Copy.{CopyState, copy_step}
 use Rattle.fy_phrase.specs.Copy as copy
 use Rattle.fy_derive.specs.Shapes.{erase}
-use Rattle.pe_machine.specs.States.{Pointer, Thunk, to_thunk, Focus, code_at, value, completed, PeContext, PeState}
+use Rattle.pe_machine.specs.States.{Pointer, Thunk, to_thunk, Frame, Focus, code_at, value, completed, PeContext, PeState}
 use Rattle.pe_machine.specs.Step.{PeMove, goes, puts, takes, faults, focus_on, push, bind}
 use Rattle.pe_right.specs.Closing.{closed_by}
 use Rattle.pe_right.specs.Right.{is_variable, Enters}
 use Rattle.pe_right.proofs.ClosingLemmas.{closed_with-more}
 use Rattle.pe_right.proofs.FrameLemmas.{marks_in, oldest-all}
 use Rattle.pe_right.proofs.Merges.{spare}
-use Rattle.pe_right.proofs.Invariants.{Compiled, marked, rank_of, Answered, IsNode, FramesAnswer, ThunkAnswers, ContextTakes, CodeAnswers, Behind, Simulates, Fills}
+use Rattle.pe_right.proofs.Invariants.{Compiled, marked, rank_of, Answered, IsBody, FramesAnswer, ThunkAnswers, ContextTakes, CodeAnswers, Behind, Simulates, Fills}
 use Rattle.pe_right.proofs.Growing.{env-shut}
+use Rattle.pe_right.proofs.NodeLemmas.{body-bound}
+use Rattle.pe_right.specs.Entered.{another}
 use Rattle.pe_right.proofs.ContextLemmas.{contexts-pushed, contexts-newer}
 
 pub rank-two : (q : Tree) → rank_of q ≤ 2
@@ -38,11 +40,12 @@ pub data Steps : ℕ → CopyState → CopyState → Type 0 where
   no_step : {c : CopyState} → Steps 0 c c
   and_step : {j : ℕ} {c d e : CopyState} → copy_step c ≡ copy.goes d → Steps j d e → Steps (suc j) c e
 
--- x at a datum, and else nothing
-abbrev pub at_datum : ℕ → Focus → ℕ
-at_datum x (code_at p) = 0
-at_datum x (value v) = x
-at_datum x completed = 0
+-- x at a datum, and where a command is finished in some frame; else nothing
+abbrev pub at_rest_in : ℕ → List Frame → Focus → ℕ
+at_rest_in x fs (code_at p) = 0
+at_rest_in x fs (value v) = x
+at_rest_in x [] completed = 0
+at_rest_in x (f ∷ fs) completed = x
 
 -- what a phrase in focus does
 pub focus-step : (c : CopyState) (q : Tree) → c.focus ≡ q → copy_step c ≡ copy.step_at q c
@@ -53,9 +56,9 @@ module _ (g : Compiled) where
   abbrev pub extra : ℕ
   extra = 2 * spare g.phrase
 
-  -- at most b steps of the copy rule go with the machine's, and x more where it comes to a datum; where none does, the rank falls below r
+  -- at most b steps of the copy rule go with the machine's, and x more where it comes to a datum or, in a frame, to a finished command; where none does, the rank falls below r
   pub data MovesIn (x : ℕ) : (r b : ℕ) → CopyState → PeMove → Type 0 where
-    goes_on : {r b j : ℕ} {m : PeState} {c d : CopyState} (s : ℕ) → Steps j c d → j ≤ b + at_datum x m.focus → (j ≡ 0 → s < r) → s ≤ 2 → Simulates g s m d → MovesIn x r b c (goes m)
+    goes_on : {r b j : ℕ} {m : PeState} {c d : CopyState} (s : ℕ) → Steps j c d → j ≤ b + at_rest_in x m.frames m.focus → (j ≡ 0 → s < r) → s ≤ 2 → Simulates g s m d → MovesIn x r b c (goes m)
     -- on to a state in which a sequence is filled
     fills : {r b j : ℕ} {m : PeState} {c d : CopyState} → Steps j c d → j ≤ b → 1 ≤ j → Fills g m d → MovesIn x r b c (goes m)
     takes_byte : {r b j : ℕ} {go : Option ℕ → PeState} {c d : CopyState} (to : Option ℕ → CopyState) → Steps j c d → suc j ≤ b → copy_step d ≡ copy.takes to →
@@ -64,10 +67,16 @@ module _ (g : Compiled) where
   abbrev pub Moves : (r b : ℕ) → CopyState → PeMove → Type 0
   Moves r b c m = MovesIn 0 r b c m
 
+  -- an instruction is executed: the machine faults before a phrase within which the copy rule faults
+  pub data IsExecuted (x : ℕ) : (r b : ℕ) → CopyState → PeMove → Type 0 where
+    by_steps : {r b : ℕ} {c : CopyState} {m : PeMove} → MovesIn x r b c m → IsExecuted x r b c m
+    fails_within : {r b j : ℕ} {kind : FaultKind} {at : Place} {c d : CopyState} → Steps j c d → suc j ≤ b + x → copy_step d ≡ copy.faults kind at → c.load ≤ d.load → IsExecuted x r b c (faults kind at)
+
   pub data IsFollowedIn (x : ℕ) : (r b : ℕ) → CopyState → PeMove → Type 0 where
     by_moves : {r b : ℕ} {c : CopyState} {m : PeMove} → MovesIn x r b c m → IsFollowedIn x r b c m
     puts_text : {r b : ℕ} {text : Bytes} {m : PeState} {c d : CopyState} → 1 ≤ b → copy_step c ≡ copy.puts text d → Simulates g 2 m d → IsFollowedIn x r b c (puts text m)
     faults_at : {r b : ℕ} {kind : FaultKind} {at : Place} {c : CopyState} → 1 ≤ b → copy_step c ≡ copy.faults kind at → IsFollowedIn x r b c (faults kind at)
+    faults_within : {r b j : ℕ} {kind : FaultKind} {at : Place} {c d : CopyState} → Steps j c d → suc j ≤ b + x → copy_step d ≡ copy.faults kind at → c.load ≤ d.load → IsFollowedIn x r b c (faults kind at)
 
   abbrev pub IsFollowed : (r b : ℕ) → CopyState → PeMove → Type 0
   IsFollowed r b c m = IsFollowedIn 0 r b c m
@@ -96,6 +105,19 @@ module _ (g : Compiled) where
   followed-weaker q l (by_moves x) = by_moves (moves-weaker q l x)
   followed-weaker q l (puts_text k e t) = puts_text (omega arith) e t
   followed-weaker q l (faults_at k e) = faults_at (omega arith) e
+  followed-weaker q l (faults_within x k e t) = faults_within x (omega arith) e t
+
+  pub executed-weaker : {x r s a b : ℕ} {m : PeMove} {c : CopyState} → r ≤ s → a ≤ b → IsExecuted x r a c m → IsExecuted x s b c m
+  executed-weaker q l (by_steps x) = by_steps (moves-weaker q l x)
+  executed-weaker q l (fails_within x k e t) = fails_within x (omega arith) e t
+
+  pub executed-earlier : {x r s b : ℕ} {m : PeMove} {c d : CopyState} → copy_step c ≡ copy.goes d → c.load ≤ d.load → IsExecuted x r b d m → IsExecuted x s (suc b) c m
+  executed-earlier e up (by_steps x) = by_steps (earlier e x)
+  executed-earlier e up (fails_within x k f t) = fails_within (and_step e x) (omega arith) f (omega arith)
+
+  pub executed-is : {x r b : ℕ} {m : PeMove} {c : CopyState} → IsExecuted x r b c m → IsFollowedIn x r b c m
+  executed-is (by_steps x) = by_moves x
+  executed-is (fails_within x k e t) = faults_within x k e t
 
   -- ---- words of the table
 
@@ -116,12 +138,12 @@ module _ (g : Compiled) where
 
   -- a thunk is bound
   pub bound-simulates : (s : PeState) (c : CopyState) (d y : ℕ) (r : Option ℕ) (t : Thunk) (q : Tree) (D : PlainPaths) (b : Tree) (k : ℕ) (qs : List Tree) (G : List PlainPaths) (P : PlainPath) →
-      ThunkAnswers g s.frames t q D → FramesAnswer g s.frames r qs G → IsNode g (suc (length G)) k b → Answered g (D ∷ G) k b P → Enters g.table g.code k (erase P) y → Behind g s c P →
+      ThunkAnswers g s.frames t q D → FramesAnswer g s.frames r qs G → IsBody g s.frames r another (length G) k b → Answered g (D ∷ G) k b P → Enters g.table g.code k (erase P) y → Behind g s c P →
       Simulates g 2 (focus_on (code_at (record { address = y; frame = Some s.next })) (bind d (to_thunk t) r s)) (copy.focus_on (closed_with (closed_by 1 qs b) q) (copy.bind d c))
   bound-simulates s c d y r t q D b k qs G P th env n a e h = (
     P,
     (
-      (k, b, q ∷ qs, D ∷ G, n, a, e, inl_here th env, closed_with-more b q qs (env-shut g s.frames r qs G env)),
+      (k, b, q ∷ qs, D ∷ G, body-bound g (record { number = s.next; depth = d; binding = to_thunk t; around = r }) tt n, a, e, inl_here th env, closed_with-more b q qs (env-shut g s.frames r qs G env)),
       rank-two b,
     ),
     (

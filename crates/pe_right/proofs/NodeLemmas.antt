@@ -1,12 +1,14 @@
 -- Nodes of a phrase: a part of a node is one, it is no larger, and each has its number in preorder.
-use Rattle.std.proofs.Common.{ℕ, suc, ◌+◌, ◌≤◌, ◌≡◌, List, [], ◌∷◌, refl, ap, subst, arith}
-use Rattle.fy_phrase.specs.Tree.{Tree, Trees, no_trees, and_tree, case}
+use Rattle.std.proofs.Common.{ℕ, suc, ◌+◌, ◌≤◌, ◌≡◌, Bool, true, false, List, [], ◌∷◌, length, Option, Some, None, refl, sym, ap, ◌∙◌, subst, inl, arith}
+use Rattle.fy_phrase.specs.Tree.{Tree, Trees, no_trees, and_tree, case, lam, let_in, rec, new, cells, escape, accept}
 use Rattle.fy_phrase.specs.Sizes.{nodes, all_nodes}
 use Rattle.fy_phrase.specs.WellMade.{IsClosedUnder, HasDepthsUnder}
 use Rattle.fy_derive.specs.Shapes.{of_trees, parts_of, IsNodeAt, IsNodeAmong, itself as itself_at, in_part as in_part_at, in_first as in_first_at, in_later as in_later_at}
 use Rattle.pe_right.specs.Right.{with_depth, parts_under, IsNodeUnder, IsNodeAmongUnder, itself, in_part, in_first, in_later}
 use Rattle.pe_right.proofs.Merges.{merges, all_merges, merges-few, spare}
-use Rattle.pe_right.proofs.Invariants.{Compiled, IsNode}
+use Rattle.pe_right.specs.Entered.{BinderKind, with_binders, parts_within, entered_parts, none_straight, IsEntered, is_entered, within_part, IsEnteredAmong, within_first, within_later}
+use Rattle.pe_machine.specs.States.{Frame}
+use Rattle.pe_right.proofs.Invariants.{Compiled, IsBoundBy, IsNode, IsBody}
 
 -- ---- parts of parts
 
@@ -107,22 +109,112 @@ mutual
 pub constant-spare : {d m e k : ℕ} {p q : Tree} → IsNodeUnder d m p e k q → merges q ≡ 0 → nodes q ≤ spare p + 1
 constant-spare {p = p} u z = let l = under-spare u in let h = merges-few p in omega arith
 
+-- ---- nodes that are entered
+
+abbrev lengths : List (List BinderKind × Tree) → List (ℕ × Tree)
+lengths [] = []
+lengths (x ∷ xs) = (length x.0, x.1) ∷ lengths xs
+
+one-more : (w : List BinderKind) → suc (length w) ≡ length w + 1
+one-more w = omega arith
+
+binders-lengths : (w : List BinderKind) (ps : Trees) → lengths (with_binders w ps) ≡ with_depth (length w) ps
+binders-lengths w no_trees = refl
+binders-lengths w (and_tree p ps) = ap (λ (xs : List (ℕ × Tree)). (length w, p) ∷ xs) (binders-lengths w ps)
+
+parts-lengths : (w : List BinderKind) (p : Tree) → lengths (parts_within w p) ≡ parts_under (length w) p
+parts-lengths w (case e parts at) = ap (λ (xs : List (ℕ × Tree)). (length w, e) ∷ xs) (binders-lengths w parts)
+parts-lengths w (lam n As b at) = ap (λ (d : ℕ). (d, b) ∷ []) (one-more w)
+parts-lengths w (let_in n p b at) = ap (λ (d : ℕ). (length w, p) ∷ (d, b) ∷ []) (one-more w)
+parts-lengths w (rec n T b at) = ap (λ (d : ℕ). (d, b) ∷ []) (one-more w)
+parts-lengths w (new n D e b at) = ap (λ (d : ℕ). (length w, e) ∷ (d, b) ∷ []) (one-more w)
+parts-lengths w (cells n e b at) = ap (λ (d : ℕ). (length w, e) ∷ (d, b) ∷ []) (one-more w)
+parts-lengths w (escape n b at) = ap (λ (d : ℕ). (d, b) ∷ []) (one-more w)
+parts-lengths w (accept n D b at) = ap (λ (d : ℕ). (d, b) ∷ []) (one-more w)
+parts-lengths w p = refl
+
+among-entered-parts : (b : Bool) (w : List BinderKind) (p : Tree) {m e k : ℕ} {q : Tree} → IsNodeAmongUnder m (lengths (entered_parts b w p)) e k q → IsNodeAmongUnder m (parts_under (length w) p) e k q
+among-entered-parts true w p a = elim a [ ]
+among-entered-parts false w p {m = m} {e = e} {k = k} {q = q} a = subst (λ (ps : List (ℕ × Tree)). IsNodeAmongUnder m ps e k q) (parts-lengths w p) a
+
+module _ (straight : ℕ → Bool) where
+  mutual
+    pub entered-node : {w v : List BinderKind} {m k : ℕ} {p q : Tree} → IsEntered straight w m p v k q → IsNodeUnder (length w) m p (length v) k q
+    entered-node is_entered = itself
+    entered-node (within_part {w = w} {m = m} {p = p} a) = in_part (among-entered-parts (straight m) w p (entered-among a))
+
+    entered-among : {v : List BinderKind} {m k : ℕ} {ps : List (List BinderKind × Tree)} {q : Tree} → IsEnteredAmong straight m ps v k q → IsNodeAmongUnder m (lengths ps) (length v) k q
+    entered-among (within_first u) = in_first (entered-node u)
+    entered-among (within_later a) = in_later (entered-among a)
+
+  -- parts of a node that is entered
+  mutual
+    within-node : {w v u : List BinderKind} {m k j : ℕ} {p q r : Tree} → IsEntered straight w m p v k q → IsEnteredAmong straight (k + 1) (entered_parts (straight k) v q) u j r → IsEntered straight w m p u j r
+    within-node is_entered a = within_part a
+    within-node (within_part b) a = within_part (within-among b a)
+
+    within-among : {v u : List BinderKind} {m k j : ℕ} {ps : List (List BinderKind × Tree)} {q r : Tree} → IsEnteredAmong straight m ps v k q → IsEnteredAmong straight (k + 1) (entered_parts (straight k) v q) u j r →
+        IsEnteredAmong straight m ps u j r
+    within-among (within_first n) a = within_first (within-node n a)
+    within-among (within_later b) a = within_later (within-among b a)
+
+  pub part-entered : {v u : List BinderKind} {k j : ℕ} {p q r : Tree} → IsEntered straight [] 0 p v k q → straight k ≡ false → IsEnteredAmong straight (k + 1) (parts_within v q) u j r →
+      IsEntered straight [] 0 p u j r
+  part-entered {v = v} {u = u} {k = k} {j = j} {q = q} {r = r} n plain a =
+      within-node n (subst (λ (b : Bool). IsEnteredAmong straight (k + 1) (entered_parts b v q) u j r) (sym plain) a)
+
+-- where no node is evaluated in one step, each is entered
+mutual
+  pub node-entered : {d m e k : ℕ} {p q : Tree} (w : List BinderKind) → length w ≡ d → IsNodeUnder d m p e k q → (v : List BinderKind) × (length v ≡ e) × IsEntered none_straight w m p v k q
+  node-entered w same itself = (w, same, is_entered)
+  node-entered w same (in_part {p = p} a) =
+      let x = among-entered (parts_within w p) (parts-lengths w p ∙ ap (λ (n : ℕ). parts_under n p) same) a in
+      (x.0, x.1, within_part x.2)
+
+  among-entered : {m e k : ℕ} {ps : List (ℕ × Tree)} {q : Tree} (xs : List (List BinderKind × Tree)) → lengths xs ≡ ps → IsNodeAmongUnder m ps e k q →
+      (v : List BinderKind) × (length v ≡ e) × IsEnteredAmong none_straight m xs v k q
+  among-entered [] same (in_first u) = absurd cc
+  among-entered [] same (in_later a) = absurd cc
+  among-entered {m = m} {k = k} {q = q} (x ∷ xs) same (in_first {d = d} {p = p} u) =
+      let first : ◌≡◌ {A = ℕ × Tree} (length x.0, x.1) (d, p) = cc in
+      let y = node-entered x.0 (ap (λ (z : ℕ × Tree). z.0) first) u in
+      (y.0, y.1, within_first (subst (λ (r : Tree). IsEntered none_straight x.0 m r y.0 k q) (sym (ap (λ (z : ℕ × Tree). z.1) first)) y.2))
+  among-entered {m = m} {k = k} {q = q} (x ∷ xs) same (in_later {d = d} {p = p} {ps = ps} a) =
+      let first : ◌≡◌ {A = ℕ × Tree} (length x.0, x.1) (d, p) = cc in
+      let rest : lengths xs ≡ ps = cc in
+      let y = among-entered xs rest a in
+      (y.0, y.1, within_later (subst (λ (r : Tree). IsEnteredAmong none_straight (m + nodes r) xs y.0 k q) (sym (ap (λ (z : ℕ × Tree). z.1) first)) y.2))
+
 -- ---- nodes of the phrase
 
 module _ (g : Compiled) where
-  pub node-size : {d k : ℕ} {q : Tree} → IsNode g d k q → nodes q ≤ nodes g.phrase
-  node-size n = under-size n.stands
+  -- by the number of the binders around it
+  pub under : {fs : List Frame} {r : Option ℕ} {d k : ℕ} {q : Tree} → IsNode g fs r d k q → IsNodeUnder 0 0 g.phrase d k q
+  under {d = d} {k = k} {q = q} n = subst (λ (e : ℕ). IsNodeUnder 0 0 g.phrase e k q) n.many (entered-node g.straight n.stands)
 
-  -- a part under no binder of the node's own
-  pub part : {d k j : ℕ} {q r : Tree} → IsNode g d k q → IsNodeAmongUnder (k + 1) (parts_under d q) d j r → IsClosedUnder d r → HasDepthsUnder d r → IsNode g d j r
-  part n a closed depths = record { stands = under-part n.stands a; closed = closed; depths = depths }
+  pub node-size : {fs : List Frame} {r : Option ℕ} {d k : ℕ} {q : Tree} → IsNode g fs r d k q → nodes q ≤ nodes g.phrase
+  node-size n = under-size (under n)
+
+  -- a part under no binder of the node's own, where the node is evaluated by parts
+  pub part : {fs : List Frame} {x : Option ℕ} {d k j : ℕ} {q r : Tree} (n : IsNode g fs x d k q) → g.straight k ≡ false → IsEnteredAmong g.straight (k + 1) (parts_within n.binders q) n.binders j r →
+      IsClosedUnder d r → HasDepthsUnder d r → IsNode g fs x d j r
+  part n plain a closed depths = record { binders = n.binders; stands = part-entered g.straight n.stands plain a; many = n.many; bound = n.bound; closed = closed; depths = depths }
 
   -- the body under its binder
-  pub body : {d k j : ℕ} {q r : Tree} → IsNode g d k q → IsNodeAmongUnder (k + 1) (parts_under d q) (d + 1) j r → IsClosedUnder (suc d) r →
-      HasDepthsUnder (suc d) r → IsNode g (suc d) j r
-  body {d = d} {j = j} {r = r} n a closed depths =
-      let e : d + 1 ≡ suc d = omega arith in
-      record { stands = subst (λ (i : ℕ). IsNodeUnder 0 0 g.phrase i j r) e (under-part n.stands a); closed = closed; depths = depths }
+  pub body : {fs : List Frame} {x : Option ℕ} {y : BinderKind} {d k j : ℕ} {q r : Tree} (n : IsNode g fs x d k q) → g.straight k ≡ false →
+      IsEnteredAmong g.straight (k + 1) (parts_within n.binders q) (y ∷ n.binders) j r → IsClosedUnder (suc d) r → HasDepthsUnder (suc d) r → IsBody g fs x y d j r
+  body n plain a closed depths = record { binders = n.binders; stands = part-entered g.straight n.stands plain a; many = n.many; bound = n.bound; closed = closed; depths = depths }
 
-  pub whole : IsNode g 0 0 g.phrase
-  whole = record { stands = itself; closed = g.closed; depths = g.depths }
+  -- a body in the frame of its binder
+  pub body-bound : {fs : List Frame} {y : BinderKind} {d k : ℕ} {q : Tree} (f : Frame) → IsBoundBy y f.binding → IsBody g fs f.around y d k q → IsNode g (f ∷ fs) (Some f.number) (suc d) k q
+  body-bound {y = y} f is n = record {
+    binders = y ∷ n.binders;
+    stands = n.stands;
+    many = ap suc n.many;
+    bound = inl (refl, (y, n.binders, refl, is, n.bound));
+    closed = n.closed;
+    depths = n.depths;
+  }
+
+  pub whole : IsNode g [] None 0 0 g.phrase
+  whole = record { binders = []; stands = is_entered; many = refl; bound = (refl, refl); closed = g.closed; depths = g.depths }

@@ -9,9 +9,10 @@ use Rattle.fy_derive.specs.Atoms.{cell_type, sequence_type}
 use Rattle.pe_code.specs.Code.{picked_from}
 use Rattle.pe_machine.specs.States.{Pointer, Thunk, source, datum, cell_of, jump_of, sequence_of, Binding, to_thunk, to_cell, to_escape, to_sequence, Frame, Focus, code_at, value, completed, PeContext, Held, PeState, oldest}
 use Rattle.pe_right.specs.ReadsBack.{ThunkStands, BindingStands, FramesStand, CodeStandsUnder, CodeStands, EachStands, ContextStands, ContextsStand, FocusStands, cells_in, filled_by, filled_under, filling, ReadsBack}
+use Rattle.pe_right.specs.Entered.{BinderKind, a_cell, another}
 use Rattle.pe_right.proofs.Invariants.{Compiled, FramesAnswer, ThunkAnswers, BindingAnswers, CodeAnswers, BodyAnswers, EachCodeAnswers, ContextTakes, unary_operand, left_operand, right_operand, condition, index, procedure, selected, first_command, assigned_value, acceptor, loop_test, loop_body, endless_body, first_value, cells_wanted, element_wanted, cell_body, put_datum, escape_body, ContextsTake, FocusAnswers, Simulates, Fills, Follows}
 use Rattle.pe_right.proofs.FrameLemmas.{oldest-all}
-use Rattle.pe_right.proofs.NodeLemmas.{under-at}
+use Rattle.pe_right.proofs.NodeLemmas.{under-at, entered-node}
 
 module _ (g : Compiled) where
   -- what the frames stand for
@@ -20,7 +21,7 @@ module _ (g : Compiled) where
 
   thunk-reads : (fs : List Frame) → ((r : Option ℕ) (qs : List Tree) (G : List PlainPaths) → FramesAnswer g fs r qs G → Frames fs r qs) →
       (t : Thunk) (q : Tree) (D : PlainPaths) → ThunkAnswers g fs t q D → ThunkStands g.handed g.phrase g.code (FramesStand g.handed g.phrase g.code fs) t q
-  thunk-reads fs ih (source k r) q D h = (h.0, h.1, under-at h.3.stands, ih r h.1 h.2 h.5, h.7)
+  thunk-reads fs ih (source k r) q D h = (h.0, h.1, under-at (entered-node g.straight h.3.stands), ih r h.1 h.2 h.5, h.7)
   thunk-reads fs ih (datum v) q D h = h.3
   thunk-reads fs ih (cell_of n) q D h = (h.0, h.2)
   thunk-reads fs ih (jump_of n) q D h = (h.0, h.1)
@@ -40,10 +41,10 @@ module _ (g : Compiled) where
   env-reads (f ∷ fs) r qs G (inr e) = inr (e.0, env-reads fs r qs G e.1)
 
   code-reads : (fs : List Frame) (c : Pointer) (q : Tree) (P : PlainPath) → CodeAnswers g fs c q P → CodeStands g.handed g.phrase g.code fs c q
-  code-reads fs c q P h = (h.0, h.6.0, h.1, h.2, under-at h.4.stands, h.6.2, env-reads fs c.frame h.2 h.3 h.7, h.8)
+  code-reads fs c q P h = (h.0, h.6.0, h.1, h.2, under-at (entered-node g.straight h.4.stands), h.6.2, env-reads fs c.frame h.2 h.3 h.7, h.8)
 
-  body-reads : (fs : List Frame) (c : Pointer) (b : Tree) (D : PlainPaths) (P : PlainPath) → BodyAnswers g fs c b D P → CodeStandsUnder g.handed g.phrase g.code 1 fs c b
-  body-reads fs c b D P h = (h.0, h.6.0, h.1, h.2, under-at h.4.stands, h.6.2, env-reads fs c.frame h.2 h.3 h.7, h.8)
+  body-reads : (y : BinderKind) (fs : List Frame) (c : Pointer) (b : Tree) (D : PlainPaths) (P : PlainPath) → BodyAnswers g y fs c b D P → CodeStandsUnder g.handed g.phrase g.code 1 fs c b
+  body-reads y fs c b D P h = (h.0, h.6.0, h.1, h.2, under-at (entered-node g.straight h.4.stands), h.6.2, env-reads fs c.frame h.2 h.3 h.7, h.8)
 
   each-reads : (fs : List Frame) (r : Option ℕ) (ys : List ℕ) (qs : Trees) (P : PlainPath) → EachCodeAnswers g fs r ys qs P → EachStands g.handed g.phrase g.code fs r ys qs
   each-reads fs r [] no_trees P h = tt
@@ -66,8 +67,8 @@ module _ (g : Compiled) where
   held-reads {fs = fs} (loop_test {c = c} {d = d} {q = q} {r = r} h k) = (q, r, refl, code-reads fs c q _ h, code-reads fs d r _ k)
   held-reads {fs = fs} (loop_body {c = c} {q = q} h) = (q, refl, code-reads fs c q _ h)
   held-reads {fs = fs} (endless_body {c = c} {q = q} {P = P} h) = (q, refl, code-reads fs c q P h)
-  held-reads {fs = fs} (first_value {c = c} {b = b} {P = P} D is h) = (b, refl, body-reads fs c b (paths (cell_type D)) P h)
-  held-reads {fs = fs} (cells_wanted {c = c} {b = b} {P = P} is known h) = (b, refl, body-reads fs c b (paths sequence_type) P h)
+  held-reads {fs = fs} (first_value {c = c} {b = b} {P = P} D is h) = (b, refl, body-reads a_cell fs c b (paths (cell_type D)) P h)
+  held-reads {fs = fs} (cells_wanted {c = c} {b = b} {P = P} is known h) = (b, refl, body-reads another fs c b (paths sequence_type) P h)
   held-reads (element_wanted h) = refl
   held-reads (cell_body is) = refl
   held-reads put_datum = refl
@@ -114,7 +115,7 @@ module _ (g : Compiled) where
       let x : Pushed CopyContext = record { base = h.base; context = fill_c s.next h.wanted h.depth h.phrase h.place } in
       let there : ContextsStand g.handed g.phrase g.code s.frames ((record { base = h.base; frames = length s.frames; context = fill }) ∷ h.behind) (x ∷ h.copy_behind) =
       subst (λ (fs : List Frame). ContextStands g.handed g.phrase g.code fs fill x.context × ContextsStand g.handed g.phrase g.code fs h.behind h.copy_behind) (sym all)
-      ((h.phrase, refl, body-reads s.frames h.body h.phrase (paths sequence_type) h.path h.answers), contexts-read s.frames h.behind h.copy_behind h.path h.takes_path) in
+      ((h.phrase, refl, body-reads another s.frames h.body h.phrase (paths sequence_type) h.path h.answers), contexts-read s.frames h.behind h.copy_behind h.path h.takes_path) in
       record {
         focus = subst (λ (f : Focus). FocusStands g.handed g.phrase g.code s.frames f c.focus) (sym h.focus) (h.here, h.copy_focus);
         contexts = subst₂ (λ (cs : List Held) (xs : List (Pushed CopyContext)). ContextsStand g.handed g.phrase g.code s.frames cs xs) (sym h.contexts) (sym h.copy_contexts) there;

@@ -1,12 +1,13 @@
 -- Runs: step by step, the machine is where the copy rule is.
-use Rattle.std.proofs.Common.{ℕ, zero, suc, ◌+◌, ◌-◌, ◌*◌, ◌<◌, ◌≤◌, ◌≡◌, ◌≢◌, List, [], ◌∷◌, ◌++◌, drop, Option, Some, None, slice_get, refl, sym, ap, ◌∙◌, subst, ◌⊎◌, inl, inr, arith, append-nil, append_assoc, le_of_eq}
+use Rattle.std.proofs.Common.{ℕ, zero, suc, ◌+◌, ◌-◌, ◌*◌, ◌<◌, ◌≤◌, ◌≡◌, ◌≢◌, List, [], ◌∷◌, ◌++◌, drop, Option, Some, None, slice_get, refl, sym, ap, ◌∙◌, subst, Bool, true, false, ◌⊎◌, inl, inr, arith, append-nil, append_assoc, le_of_eq}
 use Rattle.std.proofs.lemmas.Bool.{cases_lt}
 use Rattle.fy_base.specs.declared.data.Place.{Place}
 use Rattle.fy_base.specs.declared.data.Datum.{Datum}
 use Rattle.fy_base.specs.Outside.{Bytes}
 use Rattle.fy_types.specs.declared.types.Atom.TheVariants as atoms
 use Rattle.fy_types.specs.Paths.{PlainPath, end}
-use Rattle.fy_phrase.specs.Tree.{Tree, skip}
+use Rattle.fy_derive.specs.Shapes.{PlainShape, at_end, a_run}
+use Rattle.fy_phrase.specs.Tree.{Tree, merge, skip}
 use Rattle.fy_phrase.specs.Contexts.{CopyContext, Pushed}
 use Rattle.fy_phrase.specs.Sizes.{nodes}
 use Rattle.fy_phrase.specs.Copy.{CopyState, CopyMove, CopyRun, copy_step, copy_after}
@@ -18,18 +19,24 @@ use Rattle.pe_code.specs.declared.code.PeInsn.{PeInsn}
 use Rattle.pe_code.specs.declared.code.PeInsn.TheVariants as insn
 use Rattle.pe_code.specs.declared.code.PeItem.{PeItem}
 use Rattle.pe_code.specs.declared.code.PeCode.{PeCode}
-use Rattle.pe_code.specs.Code.{item_at}
+use Rattle.pe_code.specs.Code.{item_at, straight_of}
+use Rattle.pe_code.specs.Straight.{Outcome, leaves, fails, has_none, misses}
+use Rattle.fy_base.specs.declared.data.FaultKind.{FaultKind}
 use Rattle.pe_machine.specs.States.{Pointer, Frame, Focus, code_at, value, completed, Held, PeState}
-use Rattle.pe_machine.specs.Step.{PeMove, goes, puts, takes, faults, sticks, loses, focus_on, executed, item_executed, step_at, pe_step}
+use Rattle.pe_machine.specs.Step.{PeMove, goes, puts, takes, faults, sticks, loses, focus_on, focused, own_cell_set, faults_at as faults_there, outcome_move, executed, item_executed, step_at, pe_step}
 use Rattle.pe_machine.specs.Run.{Standing, going, ended, faulted, stuck, gone, standing_at, standing_of, PeRun, settled, ticked, start_run, pe_start, pe_after}
 use Rattle.pe_machine.proofs.RunLemmas.{after_zero as pe_zero, after_suc as pe_suc}
-use Rattle.pe_right.specs.Follows.{StandAlike, StandNearlyAlike, IsReached, IsAsFarAs, FollowsCopyRule}
+use Rattle.pe_right.specs.Entered.{IsEntered, is_entered, within_first, within_later}
+use Rattle.pe_right.specs.Straight.{IsStraightOf, of_value, of_assignment}
+use Rattle.pe_right.specs.Right.{Enters, IsInsnAt, by_parts, at_once, IsItemAt}
+use Rattle.pe_right.proofs.EntryLemmas.{form-plain}
+use Rattle.pe_right.specs.Follows.{StandAlike, StandNearlyAlike, HasFaulted, IsReached, IsAsFarAs, FollowsCopyRule}
 use Rattle.pe_right.proofs.ClosingLemmas.{closed_by-nothing}
 use Rattle.pe_right.proofs.DerivedLemmas.{table-answers}
 use Rattle.pe_right.proofs.Invariants.{Compiled, ContextsTake, FocusAnswers, Behind, Simulates, Fills, Follows}
 use Rattle.pe_right.proofs.Merges.{merges, merges-few, spare}
-use Rattle.pe_right.proofs.NodeLemmas.{under-merges, whole}
-use Rattle.pe_right.proofs.Moves.{Steps, no_step, and_step, at_datum, rank-two, extra, MovesIn, goes_on, fills, takes_byte, IsFollowedIn, by_moves, puts_text, faults_at, moves-weaker, followed-weaker}
+use Rattle.pe_right.proofs.NodeLemmas.{under, part-entered, under-merges, whole}
+use Rattle.pe_right.proofs.Moves.{Steps, no_step, and_step, at_rest_in, rank-two, extra, MovesIn, executed-is, executed-weaker, goes_on, fills, takes_byte, IsFollowedIn, by_moves, puts_text, faults_at, faults_within, followed-weaker}
 use Rattle.pe_right.proofs.MeetingLemmas.{value-followed, finished-followed, fills-followed}
 use Rattle.pe_right.proofs.InstructionLemmas.{executed-followed}
 use Rattle.pe_right.proofs.Reading.{state-reads}
@@ -157,14 +164,69 @@ focus_in (faults kind at) = None
 focus_in sticks = None
 focus_in loses = None
 
+-- straight code goes on with its datum
+outcome-goes : (code : PeCode) (o : Outcome) (go : Datum → PeMove) (m : PeMove) → outcome_move code o go ≡ m → ((kind : FaultKind) (at : Place) → m ≢ faults kind at) → m ≢ sticks → m ≢ loses →
+    (v : Datum) × (go v ≡ m)
+outcome-goes code (leaves []) go m e f k l = absurd (k (sym e))
+outcome-goes code (leaves (v ∷ [])) go m e f k l = (v, e)
+outcome-goes code (leaves (v ∷ u ∷ stack)) go m e f k l = absurd (k (sym e))
+outcome-goes code (fails kind a) go m e f k l = by (item_at code a) e
+  where
+    by : (o : Option PeItem) → faults_there kind o ≡ m → (v : Datum) × (go v ≡ m)
+    by (Some i) h = absurd (f kind i.place (sym h))
+    by None h = absurd (k (sym h))
+outcome-goes code has_none go m e f k l = absurd (k (sym e))
+outcome-goes code misses go m e f k l = absurd (l (sym e))
+
 -- where the first step comes to a datum, no context is there
 first-datum : (code : PeCode) (i : PeInsn) (d : ℕ) (at : Place) (here : Pointer) (s : PeState) (v : Datum) → executed code i d at here pe_start ≡ goes s → s.focus ≡ value v → s.contexts ≡ []
 first-datum code (insn.Answer w) d at here s v e f = let x : focus_on (value w) pe_start ≡ s = cc in ap (λ (t : PeState). t.contexts) (sym x)
+first-datum code (insn.Eval ss) d at here s v e f =
+    let y = outcome-goes code _ (λ w. focused (value w) pe_start) (goes s) e (λ kind there q. cc) (λ q. cc) (λ q. cc) in
+    let x : focus_on (value y.0) pe_start ≡ s = (let q = y.1 in cc) in
+    ap (λ (t : PeState). t.contexts) (sym x)
+first-datum code (insn.Set j ss) d at here s v e f =
+    let y = outcome-goes code _ (λ w. own_cell_set None w pe_start) (goes s) e (λ kind there q. cc) (λ q. cc) (λ q. cc) in
+    let x : loses ≡ goes s = y.1 in
+    absurd cc
 first-datum code i d at here s v e f = let x = sym (ap focus_in e ∙ ap Some f) in absurd cc
+
+-- and where it comes to a finished command, no frame is
+first-end : (code : PeCode) (i : PeInsn) (d : ℕ) (at : Place) (here : Pointer) (s : PeState) → executed code i d at here pe_start ≡ goes s → s.focus ≡ completed → s.frames ≡ []
+first-end code insn.Done d at here s e f = let x : focus_on completed pe_start ≡ s = cc in ap (λ (t : PeState). t.frames) (sym x)
+first-end code (insn.Eval ss) d at here s e f =
+    let y = outcome-goes code _ (λ w. focused (value w) pe_start) (goes s) e (λ kind there q. cc) (λ q. cc) (λ q. cc) in
+    let x : focus_on (value y.0) pe_start ≡ s = (let q = y.1 in cc) in
+    let z : value y.0 ≡ completed = ap (λ (t : PeState). t.focus) x ∙ f in
+    absurd cc
+first-end code (insn.Set j ss) d at here s e f =
+    let y = outcome-goes code _ (λ w. own_cell_set None w pe_start) (goes s) e (λ kind there q. cc) (λ q. cc) (λ q. cc) in
+    let x : loses ≡ goes s = y.1 in
+    absurd cc
+first-end code i d at here s e f = let x = sym (ap focus_in e ∙ ap Some f) in absurd cc
+
+first-item-end : (code : PeCode) (o : Option PeItem) (here : Pointer) (s : PeState) → item_executed code o here pe_start ≡ goes s → s.focus ≡ completed → s.frames ≡ []
+first-item-end code None here s e f = absurd cc
+first-item-end code (Some item) here s e f = first-end code item.insn item.depth item.place here s e f
 
 first-item : (code : PeCode) (o : Option PeItem) (here : Pointer) (s : PeState) (v : Datum) → item_executed code o here pe_start ≡ goes s → s.focus ≡ value v → s.contexts ≡ []
 first-item code None here s v e f = absurd cc
 first-item code (Some item) here s v e f = first-datum code item.insn item.depth item.place here s v e f
+
+-- an instruction of a form never faults at first
+abbrev is_fault : PeMove → Bool
+is_fault (faults kind at) = true
+is_fault m = false
+
+plain-starts : (code : PeCode) (i : PeInsn) (d : ℕ) (at : Place) (here : Pointer) (kind : FaultKind) (there : Place) → straight_of i ≡ None → executed code i d at here pe_start ≢ faults kind there
+plain-starts code (insn.Eval ss) d at here kind there n e = absurd cc
+plain-starts code (insn.Set j ss) d at here kind there n e = absurd cc
+plain-starts code i d at here kind there n e = let x : is_fault (executed code i d at here pe_start) ≡ true = ap is_fault e in absurd cc
+
+-- no command is evaluated in one step within no binder
+no-straight : (code : PeCode) (q : Tree) (t : PlainShape) (i : PeInsn) → t ≡ at_end a_run → IsStraightOf code [] q t i → ⊥
+no-straight code q t i e (of_value post height) = cc
+no-straight code q t i e (of_assignment is post height) = cc
 
 is_it_going : (st : Standing) → (st ≡ going) ⊎ (st ≢ going)
 is_it_going going = inl refl
@@ -201,20 +263,45 @@ module _ (g : Compiled) where
   all-nodes : spare g.phrase + merges g.phrase + 1 ≡ nodes g.phrase
   all-nodes = let h = merges-few g.phrase in omega arith
 
+  -- only of a run that goes on
+  abbrev gap_of : Standing → Focus → ℕ
+  gap_of going f = gap f
+  gap_of ended f = 0
+  gap_of (faulted kind at) f = 0
+  gap_of stuck f = 0
+  gap_of gone f = 0
+
+  gap-less : (st : Standing) (f : Focus) → gap_of st f ≤ gap f
+  gap-less going f = omega arith
+  gap-less ended f = omega arith
+  gap-less (faulted kind at) f = omega arith
+  gap-less stuck f = omega arith
+  gap-less gone f = omega arith
+
   -- a step's count is within one phrase's nodes and one more, with what was left before and what is left then
   abbrev Room : (x b h : ℕ) → PeMove → Type 0
-  Room x b h m = (n : ℕ) (s : PeState) (d : CopyState) → m ≡ goes s → Simulates g n s d → b + at_datum x s.focus + gap s.focus ≤ nodes g.phrase + 1 + h
+  Room x b h m =
+      ((n : ℕ) (s : PeState) (d : CopyState) → m ≡ goes s → Simulates g n s d → b + at_rest_in x s.frames s.focus + gap s.focus ≤ nodes g.phrase + 1 + h)
+      × ((kind : FaultKind) (at : Place) → m ≡ faults kind at → b + x ≤ nodes g.phrase + 1 + h)
 
-  room-between : (f e : Focus) → base f + at_datum (more f) e + gap e ≤ nodes g.phrase + 1 + gap f
-  room-between (code_at p) (code_at q) = let h = all-nodes in omega arith
-  room-between (code_at p) (value v) = let h = all-nodes in omega arith
-  room-between (code_at p) completed = let h = all-nodes in omega arith
-  room-between (value u) (code_at q) = let h = all-nodes in omega arith
-  room-between (value u) (value v) = let h = all-nodes in omega arith
-  room-between (value u) completed = let h = all-nodes in omega arith
-  room-between completed (code_at q) = let h = all-nodes in omega arith
-  room-between completed (value v) = let h = all-nodes in omega arith
-  room-between completed completed = let h = all-nodes in omega arith
+  room-between : (f : Focus) (fs : List Frame) (e : Focus) → base f + at_rest_in (more f) fs e + gap e ≤ nodes g.phrase + 1 + gap f
+  room-between (code_at p) fs (code_at q) = let h = all-nodes in omega arith
+  room-between (code_at p) fs (value v) = let h = all-nodes in omega arith
+  room-between (code_at p) [] completed = let h = all-nodes in omega arith
+  room-between (code_at p) (f ∷ fs) completed = let h = all-nodes in omega arith
+  room-between (value u) fs (code_at q) = let h = all-nodes in omega arith
+  room-between (value u) fs (value v) = let h = all-nodes in omega arith
+  room-between (value u) [] completed = let h = all-nodes in omega arith
+  room-between (value u) (f ∷ fs) completed = let h = all-nodes in omega arith
+  room-between completed fs (code_at q) = let h = all-nodes in omega arith
+  room-between completed fs (value v) = let h = all-nodes in omega arith
+  room-between completed [] completed = let h = all-nodes in omega arith
+  room-between completed (f ∷ fs) completed = let h = all-nodes in omega arith
+
+  room-faulting : (f : Focus) → base f + more f ≤ nodes g.phrase + 1 + gap f
+  room-faulting (code_at p) = let h = all-nodes in omega arith
+  room-faulting (value v) = let h = all-nodes in omega arith
+  room-faulting completed = let h = all-nodes in omega arith
 
   room-left : (f : Focus) → base f + spare g.phrase ≤ nodes g.phrase + 1
   room-left (code_at p) = let h = all-nodes in omega arith
@@ -225,23 +312,51 @@ module _ (g : Compiled) where
   no-contexts fs [] P v i k = let f = sym (datum_asked v i) ∙ run_asked k.0 in cc
   no-contexts fs (x ∷ xs) P v i k = k
 
+  -- nor does it fault: a phrase that is evaluated in one step is no command, or needs a cell
+  starts-well : (k : ℕ) (q : Tree) (i : PeInsn) (d : ℕ) (at : Place) (here : Pointer) (kind : FaultKind) (there : Place) → IsInsnAt g.handed g.straight g.table g.code [] k q (at_end a_run) i →
+      executed g.code i d at here pe_start ≢ faults kind there
+  starts-well k q i d at here kind there (by_parts plain h) e = plain-starts g.code i d at here kind there (form-plain h) e
+  starts-well k q i d at here kind there (at_once is h) e = no-straight g.code q (at_end a_run) i refl h
+
+  node-starts : (q : Tree) (k : ℕ) (kind : FaultKind) (at : Place) → IsEntered g.straight [] 0 g.phrase [] k q → Enters g.table g.code k (at_end a_run) 0 → pe_step g.code pe_start ≢ faults kind at
+  node-starts (merge p q place) k kind at n en e =
+      let r = g.right.right [] k 0 (merge p q place) (at_end a_run) n en in
+      elim r.3 [
+        | inl x ↦ node-starts q (k + 1 + nodes p) kind at (part-entered g.straight n r.2 (within_later (within_first is_entered))) x.1 e
+        | inr x ↦ node-starts p (k + 1) kind at (part-entered g.straight n r.2 (within_first is_entered)) x.1 e
+      ]
+  node-starts q k kind at n en e =
+      let it : (item : PeItem) × (item_at g.code 0 ≡ Some item) × IsItemAt g.handed g.straight g.table g.code [] k q (at_end a_run) item = g.right.right [] k 0 q (at_end a_run) n en in
+      starts-well k q it.0.insn it.0.depth it.0.place (record { address = 0; frame = None }) kind at it.2.insn
+      (sym (ap (λ (o : Option PeItem). item_executed g.code o (record { address = 0; frame = None }) pe_start) it.1) ∙ e)
+
+  first-fault : (kind : FaultKind) (at : Place) → pe_step g.code pe_start ≢ faults kind at
+  first-fault kind at = node-starts g.phrase 0 kind at is_entered g.right.program
+
   -- the first step comes to no datum
-  first-room : Room (more pe_start.focus) (base pe_start.focus) 0 (pe_step g.code pe_start)
-  first-room n s d e t = by s.focus refl
+  first-goes : (n : ℕ) (s : PeState) (d : CopyState) → pe_step g.code pe_start ≡ goes s → Simulates g n s d →
+      base pe_start.focus + at_rest_in (more pe_start.focus) s.frames s.focus + gap s.focus ≤ nodes g.phrase + 1 + 0
+  first-goes n s d e t = by s.focus refl
     where
-      by : (f : Focus) → s.focus ≡ f → base pe_start.focus + at_datum (more pe_start.focus) f + gap f ≤ nodes g.phrase + 1 + 0
+      by : (f : Focus) → s.focus ≡ f → base pe_start.focus + at_rest_in (more pe_start.focus) s.frames f + gap f ≤ nodes g.phrase + 1 + 0
       by (code_at p) i = let h = all-nodes in omega arith
-      by completed i = let h = all-nodes in omega arith
+      by completed i =
+          let none = first-item-end g.code (item_at g.code 0) (record { address = 0; frame = None }) s e i in
+          let h = all-nodes in
+          subst (λ (fs : List Frame). base pe_start.focus + at_rest_in (more pe_start.focus) fs completed + gap completed ≤ nodes g.phrase + 1 + 0) (sym none) (omega arith)
       by (value v) i =
           let none = first-item g.code (item_at g.code 0) (record { address = 0; frame = None }) s v e i in
           let a = subst (λ (f : Focus). FocusAnswers g n s.frames f d.focus t.0) i t.1 in
           absurd (no-contexts s.frames d.contexts t.0 v a.2 (subst (λ (cs : List Held). ContextsTake g s.frames cs d.contexts t.0) none t.2.0))
 
+  first-room : Room (more pe_start.focus) (base pe_start.focus) 0 (pe_step g.code pe_start)
+  first-room = ((λ n s d e t. first-goes n s d e t), λ kind at e. absurd (first-fault kind at e))
+
   -- a step from a state that simulates, where a command that is finished has a context
   step-followed : (k : ℕ) (f : Focus) (P : PlainPath) (s : PeState) (c : CopyState) → FocusAnswers g k s.frames f c.focus P → Behind g s c P → standing_at f s.contexts ≡ going →
       IsFollowedIn g (more f) k (base f) c (step_at g.code f s)
   step-followed k (code_at p) P s c a b up =
-      by_moves (moves-weaker g a.1 (let l = under-merges a.0.4.stands in omega arith) (executed-followed g s p a.0.2 a.0.3 a.0.7 a.0.1 a.0.0 P c a.0.4 a.0.5 a.0.6 a.0.8 b))
+      executed-is g (executed-weaker g a.1 (let l = under-merges (under g a.0.4) in omega arith) (executed-followed g s p a.0.2 a.0.3 a.0.7 a.0.1 a.0.0 P c a.0.4 a.0.5 a.0.6 a.0.8 b))
   step-followed k (value v) P s c a b up = followed-weaker g (omega arith) (omega arith) (value-followed g v a.0 s c P a.1 a.2 b)
   step-followed k completed P s c a b up =
       followed-weaker g (omega arith) (omega arith)
@@ -273,9 +388,14 @@ module _ (g : Compiled) where
 
   -- ---- runs
 
+  same-load : (k : ℕ) (s : PeState) (c : CopyState) → Follows g k s c → c.load ≡ s.load
+  same-load k s c (inl t) = t.2.4
+  same-load k s c (inr h) = h.load
+
   -- the run of the machine is that of the copy rule, and the state of one that goes on has the rank
   record SameRun (k : ℕ) (r : PeRun) (c : CopyRun) : Type 0 where
-    state : Follows g k r.state c.state
+    state : HasFaulted r.standing ⊎ Follows g k r.state c.state
+    load : r.state.load ≤ c.state.load
     standing : StandNearlyAlike r.standing c.standing
     input : r.input ≡ c.input
     output : r.output ≡ c.output
@@ -285,7 +405,7 @@ module _ (g : Compiled) where
   record Ticked (h k : ℕ) (r : PeRun) (c : CopyRun) : Type 0 where
     steps : ℕ
     rank : ℕ
-    few : steps + gap r.state.focus ≤ nodes g.phrase + 1 + h
+    few : steps + gap_of r.standing r.state.focus ≤ nodes g.phrase + 1 + h
     least : rank ≤ 2
     lower : r.standing ≡ going → steps ≡ 0 → rank < k
     same : SameRun rank r (copy.after_more steps c)
@@ -295,7 +415,8 @@ module _ (g : Compiled) where
   fresh-run : (k : ℕ) (s : PeState) (d : CopyState) (i j o p : Bytes) → Follows g k s d → i ≡ j → o ≡ p →
       SameRun k (record { state = s; input = i; output = o; standing = standing_of s }) (record { state = d; input = j; output = p; standing = copy.standing_of d })
   fresh-run k s d i j o p t e f = record {
-    state = t;
+    state = inr t;
+    load = le_of_eq (sym (same-load k s d t));
     standing = states-alike k s d t;
     input = e;
     output = f;
@@ -309,11 +430,12 @@ module _ (g : Compiled) where
       record {
         steps = j;
         rank = n;
-        few = (let most = room n s d refl t in omega (arith, l, most));
+        few = (let most = room.0 n s d refl t in let less = gap-less (standing_of s) s.focus in omega (arith, l, most, less));
         least = w;
         lower = λ up none. z none;
         same = record {
-          state = subst (λ (e : CopyState). Follows g n s e) (sym y.state) (inl t);
+          state = inr (subst (λ (e : CopyState). Follows g n s e) (sym y.state) (inl t));
+          load = subst (λ (e : CopyState). s.load ≤ e.load) (sym y.state) (le_of_eq (sym (same-load n s d (inl t))));
           standing = subst (λ (e : copy.Standing). StandNearlyAlike (standing_of s) e) (sym y.standing) (states-alike n s d (inl t));
           input = ei ∙ sym y.input;
           output = eo ∙ sym y.output;
@@ -326,11 +448,12 @@ module _ (g : Compiled) where
       record {
         steps = j;
         rank = 2;
-        few = (let most = gap-few s.focus in omega (arith, l, left, most));
+        few = (let most = gap-few s.focus in let less = gap-less (standing_of s) s.focus in omega (arith, l, left, most, less));
         least = omega arith;
         lower = λ up none. absurd (omega arith);
         same = record {
-          state = subst (λ (e : CopyState). Follows g 2 s e) (sym y.state) (inr t);
+          state = inr (subst (λ (e : CopyState). Follows g 2 s e) (sym y.state) (inr t));
+          load = subst (λ (e : CopyState). s.load ≤ e.load) (sym y.state) (le_of_eq (sym (same-load 2 s d (inr t))));
           standing = subst (λ (e : copy.Standing). StandNearlyAlike (standing_of s) e) (sym y.standing) (states-alike 2 s d (inr t));
           input = ei ∙ sym y.input;
           output = eo ∙ sym y.output;
@@ -347,7 +470,10 @@ module _ (g : Compiled) where
       record {
         steps = suc j;
         rank = 2;
-        few = (let most = gap-few (settled (takes go) r).state.focus in omega (arith, l, left, most));
+        few =
+            (let most = gap-few (settled (takes go) r).state.focus in
+            let less = gap-less (settled (takes go) r).standing (settled (takes go) r).state.focus in
+            omega (arith, l, left, most, less));
         least = omega arith;
         lower = λ up none. absurd (omega arith);
         same = subst (λ (z : CopyRun). SameRun 2 (settled (takes go) r) z) (sym one.0)
@@ -365,7 +491,7 @@ module _ (g : Compiled) where
       record {
         steps = 1;
         rank = 2;
-        few = (let most = gap-few s.focus in let whole = all-nodes in omega (arith, most, whole));
+        few = (let most = gap-few s.focus in let less = gap-less (standing_of s) s.focus in let whole = all-nodes in omega (arith, most, less, whole));
         least = omega arith;
         lower = λ up none. absurd (omega arith);
         same = subst (λ (z : CopyRun). SameRun 2 (settled (puts text s) r) z) (sym one.0)
@@ -379,15 +505,35 @@ module _ (g : Compiled) where
       record {
         steps = 1;
         rank = k;
-        few = (let most = gap-few r.state.focus in let whole = all-nodes in omega (arith, most, whole));
+        few = (let whole = all-nodes in omega (arith, whole));
         least = least;
         lower = λ up none. absurd (omega arith);
         same = subst (λ (z : CopyRun). SameRun k (settled (faults kind at) r) z) (sym one.0) (record {
-          state = subst (λ (d : CopyState). Follows g k r.state d) (sym y.state) now;
+          state = inl tt;
+          load = subst (λ (d : CopyState). r.state.load ≤ d.load) (sym y.state) (le_of_eq (sym (same-load k r.state c.state now)));
           standing = refl;
           input = ei ∙ sym y.input;
           output = eo ∙ sym y.output;
           fresh = λ up. absurd cc;
+        });
+        before = one.1;
+      }
+  followed-tick h k r c m room left now least st ei eo (faults_within {j = j} {kind = kind} {at = at} {d = d} x l e up) =
+      let y = after-steps c refl st x in
+      let one = after-more-one (copy.faults kind at) y e (λ q. cc) in
+      record {
+        steps = suc j;
+        rank = k;
+        few = (let most = room.1 kind at refl in omega (arith, l, most));
+        least = least;
+        lower = λ going none. absurd (omega arith);
+        same = subst (λ (z : CopyRun). SameRun k (settled (faults kind at) r) z) (sym one.0) (record {
+          state = inl tt;
+          load = subst (λ (z : CopyState). r.state.load ≤ z.load) (sym y.state) (let same = same-load k r.state c.state now in omega (arith, up, same));
+          standing = refl;
+          input = ei ∙ sym y.input;
+          output = eo ∙ sym y.output;
+          fresh = λ going. absurd cc;
         });
         before = one.1;
       }
@@ -397,18 +543,23 @@ module _ (g : Compiled) where
   no-tick h k r c least over same = record {
     steps = 0;
     rank = k;
-    few = (let most = gap-few r.state.focus in let whole = all-nodes in omega (arith, most, whole));
+    few = (let most = gap-few r.state.focus in let less = gap-less r.standing r.state.focus in let whole = all-nodes in omega (arith, most, less, whole));
     least = least;
     lower = λ up none. absurd (over up);
     same = subst (λ (z : CopyRun). SameRun k r z) (sym (after_zero c)) same;
     before = λ i l. absurd (omega arith);
   }
 
-  run-tick : (h k : ℕ) (r : PeRun) (c : CopyRun) (st : Standing) → Room (more r.state.focus) (base r.state.focus) h (pe_step g.code r.state) → r.standing ≡ st → k ≤ 2 → SameRun k r c →
+  -- a run that goes on is followed
+  still-followed : (k : ℕ) (r : PeRun) (c : CopyRun) → r.standing ≡ going → SameRun k r c → Follows g k r.state c.state
+  still-followed k r c e same = elim same.state [ inl f ↦ absurd (subst (λ (st : Standing). HasFaulted st) e f) | inr t ↦ t ]
+
+  run-tick : (h k : ℕ) (r : PeRun) (c : CopyRun) (st : Standing) → (r.standing ≡ going → Room (more r.state.focus) (base r.state.focus) h (pe_step g.code r.state)) → r.standing ≡ st → k ≤ 2 → SameRun k r c →
       Ticked h k (ticked g.code st r) c
   run-tick h k r c going room e least same =
       let up = same.fresh e in
-      followed-tick h k r c (pe_step g.code r.state) room (room-left r.state.focus) same.state least up.1 same.input same.output (state-followed k r.state c.state same.state up.0)
+      let now = still-followed k r c e same in
+      followed-tick h k r c (pe_step g.code r.state) (room e) (room-left r.state.focus) now least up.1 same.input same.output (state-followed k r.state c.state now up.0)
   run-tick h k r c ended room e least same = no-tick h k r c least (λ f. let q = sym e ∙ f in cc) same
   run-tick h k r c (faulted kind at) room e least same = no-tick h k r c least (λ f. let q = sym e ∙ f in cc) same
   run-tick h k r c stuck room e least same = no-tick h k r c least (λ f. let q = sym e ∙ f in cc) same
@@ -417,15 +568,15 @@ module _ (g : Compiled) where
   -- ---- after n steps
 
   -- what is left after n steps
-  abbrev left : ℕ → Focus → ℕ
-  left zero f = 0
-  left (suc n) f = gap f
+  abbrev left : ℕ → PeRun → ℕ
+  left zero r = 0
+  left (suc n) r = gap_of r.standing r.state.focus
 
   -- the machine is where the copy rule is after some steps: no more than the bound, and while it goes on no fewer than a third
   record Reached (input : Bytes) (n : ℕ) : Type 0 where
     steps : ℕ
     rank : ℕ
-    few : steps + left n (pe_after g.code input n).state.focus ≤ n * (nodes g.phrase + 1)
+    few : steps + left n (pe_after g.code input n) ≤ n * (nodes g.phrase + 1)
     least : rank ≤ 2
     far : (pe_after g.code input n).standing ≡ going → n + rank ≤ 3 * steps + 2
     same : SameRun rank (pe_after g.code input n) (copy_after g.phrase input steps)
@@ -469,7 +620,7 @@ module _ (g : Compiled) where
   was-going r stuck f e = e
   was-going r gone f e = e
 
-  before-more : (input : Bytes) (n : ℕ) (r : PeRun) (h : Reached input n) (t : Ticked (left n (pe_after g.code input n).state.focus) h.rank r (copy_after g.phrase input h.steps)) (i : ℕ) → i < h.steps + t.steps →
+  before-more : (input : Bytes) (n : ℕ) (r : PeRun) (h : Reached input n) (t : Ticked (left n (pe_after g.code input n)) h.rank r (copy_after g.phrase input h.steps)) (i : ℕ) → i < h.steps + t.steps →
       (copy_after g.phrase input i).standing ≡ copy.going
   before-more input n r h t i l =
       elim (cases_lt i h.steps) [
@@ -480,24 +631,27 @@ module _ (g : Compiled) where
             ∙ t.before (i - h.steps) (omega arith)
       ]
 
-  room-after : (input : Bytes) (n : ℕ) →
-      Room (more (pe_after g.code input n).state.focus) (base (pe_after g.code input n).state.focus) (left n (pe_after g.code input n).state.focus) (pe_step g.code (pe_after g.code input n).state)
-  room-after input zero =
+  room-after : (input : Bytes) (n : ℕ) → (pe_after g.code input n).standing ≡ going →
+      Room (more (pe_after g.code input n).state.focus) (base (pe_after g.code input n).state.focus) (left n (pe_after g.code input n)) (pe_step g.code (pe_after g.code input n).state)
+  room-after input zero up =
       subst (λ (r : PeRun). Room (more r.state.focus) (base r.state.focus) 0 (pe_step g.code r.state)) (sym (pe_zero g.code (start_run input))) first-room
-  room-after input (suc n) = λ i s d e t. room-between (pe_after g.code input (suc n)).state.focus s.focus
+  room-after input (suc n) up =
+      let r = pe_after g.code input (suc n) in
+      subst (λ (st : Standing). Room (more r.state.focus) (base r.state.focus) (gap_of st r.state.focus) (pe_step g.code r.state)) (sym up)
+      ((λ i s d e t. room-between r.state.focus s.frames s.focus), λ kind at e. room-faulting r.state.focus)
 
   reached-more : (input : Bytes) (n : ℕ) → Reached input n → Reached input (suc n)
   reached-more input n h =
       let r = pe_after g.code input n in
       let c = copy_after g.phrase input h.steps in
-      let t : Ticked (left n r.state.focus) h.rank (ticked g.code r.standing r) c = run-tick (left n r.state.focus) h.rank r c r.standing (room-after input n) refl h.least h.same in
+      let t : Ticked (left n r) h.rank (ticked g.code r.standing r) c = run-tick (left n r) h.rank r c r.standing (room-after input n) refl h.least h.same in
       let next : pe_after g.code input (suc n) ≡ ticked g.code r.standing r = pe_suc g.code n (start_run input) in
       let both : copy_after g.phrase input (h.steps + t.steps) ≡ copy.after_more t.steps c = after_both h.steps t.steps (copy.start_run g.phrase input) in
       record {
         steps = h.steps + t.steps;
         rank = t.rank;
-        few = subst (λ (x : PeRun). h.steps + t.steps + gap x.state.focus ≤ suc n * (nodes g.phrase + 1)) (sym next)
-            (more-few (nodes g.phrase + 1) n h.steps t.steps (left n r.state.focus) (gap (ticked g.code r.standing r).state.focus) h.few t.few);
+        few = subst (λ (x : PeRun). h.steps + t.steps + gap_of x.standing x.state.focus ≤ suc n * (nodes g.phrase + 1)) (sym next)
+            (more-few (nodes g.phrase + 1) n h.steps t.steps (left n r) (gap_of (ticked g.code r.standing r).standing (ticked g.code r.standing r).state.focus) h.few t.few);
         least = t.least;
         far = λ up.
             let still = sym (ap (λ (x : PeRun). x.standing) next) ∙ up in
@@ -511,28 +665,28 @@ module _ (g : Compiled) where
   reached input zero = reached-none input
   reached input (suc n) = reached-more input n (reached input n)
 
-  -- a state of the copy rule that the one after n steps follows
-  pub simulated : (input : Bytes) (n : ℕ) → (k : ℕ) × (c : CopyState) × Follows g k (pe_after g.code input n).state c
-  simulated input n = let h = reached input n in (h.rank, (copy_after g.phrase input h.steps).state, h.same.state)
+  -- a state of the copy rule that the one after n steps follows, where the run goes on
+  pub simulated : (input : Bytes) (n : ℕ) → (pe_after g.code input n).standing ≡ going → (k : ℕ) × (c : CopyState) × Follows g k (pe_after g.code input n).state c
+  simulated input n up =
+      let h = reached input n in
+      (h.rank, (copy_after g.phrase input h.steps).state, still-followed h.rank (pe_after g.code input n) (copy_after g.phrase input h.steps) up h.same)
 
   -- ---- the law's clauses
 
-  same-load : (k : ℕ) (s : PeState) (c : CopyState) → Follows g k s c → c.load ≡ s.load
-  same-load k s c (inl t) = t.2.4
-  same-load k s c (inr h) = h.load
-
   reads-back : (input : Bytes) (n : ℕ) → Reached input n → IsReached g.handed g.phrase g.code input n
   reads-back input n h =
-      let e = same-load h.rank (pe_after g.code input n).state (copy_after g.phrase input h.steps).state h.same.state in
       record {
         steps = h.steps;
         few = (let few = h.few in omega arith);
         same = record {
-          state = state-reads g h.rank (pe_after g.code input n).state (copy_after g.phrase input h.steps).state h.same.state;
+          state = elim h.same.state [
+            | inl f ↦ inl f
+            | inr t ↦ inr (state-reads g h.rank (pe_after g.code input n).state (copy_after g.phrase input h.steps).state t)
+          ];
           standing = h.same.standing;
           input = h.same.input;
           output = h.same.output;
-          load = le_of_eq (sym e);
+          load = h.same.load;
         };
       }
 

@@ -1,5 +1,5 @@
 -- A procedure, a field and an acceptor meet the context that demands them, which is taken off while the frames stay.
-use Rattle.std.proofs.Common.{ℕ, suc, ◌≤◌, ◌≡◌, Bool, cond, List, [], ◌∷◌, length, Option, refl, sym, ap, ◌∙◌, subst, inl, arith, eq-eqb}
+use Rattle.std.proofs.Common.{ℕ, ◌≤◌, ◌≡◌, Bool, cond, List, [], ◌∷◌, length, Option, refl, sym, ap, ◌∙◌, subst, inl, arith, eq-eqb}
 use Rattle.fy_base.specs.declared.data.Place.{Place}
 use Rattle.fy_types.specs.declared.types.Atom.TheVariants as atoms
 use Rattle.fy_types.specs.Paths.{PlainPath, PlainPaths, end, call, pick}
@@ -20,7 +20,8 @@ use Rattle.pe_right.specs.Right.{Enters}
 use Rattle.pe_right.specs.ReadsBack.{cells_in}
 use Rattle.pe_right.proofs.FrameLemmas.{Below, marks_in}
 use Rattle.pe_right.proofs.AnswerLemmas.{data-up, acceptor_atom-same, end-same}
-use Rattle.pe_right.proofs.Invariants.{Compiled, Above, marked, Answered, IsNode, FramesAnswer, ThunkAnswers, CodeAnswers, ContextTakes, procedure, selected, acceptor, ContextsTake, Behind}
+use Rattle.pe_right.specs.Entered.{another}
+use Rattle.pe_right.proofs.Invariants.{Compiled, Above, marked, Answered, IsBody, FramesAnswer, ThunkAnswers, CodeAnswers, ContextTakes, procedure, selected, acceptor, ContextsTake, Behind}
 use Rattle.pe_right.proofs.Growing.{extends-oldest, thunk-extends}
 use Rattle.pe_right.proofs.ContextLemmas.{held-asked, contexts-taken}
 use Rattle.pe_right.proofs.Moves.{rank-two, MovesIn, extra, one_move, bound-simulates}
@@ -69,7 +70,7 @@ module _ (g : Compiled) where
 
   -- a procedure
   pub lam-meets : (n y : ℕ) (r : Option ℕ) (b : Tree) (j : ℕ) (qs : List Tree) (G : List PlainPaths) (D : PlainPaths) (R P : PlainPath) (s : PeState) (c : CopyState) →
-      P ≡ call D R → IsNode g (suc (length G)) j b → Answered g (D ∷ G) j b R → Enters g.table g.code j (erase R) y → FramesAnswer g s.frames r qs G →
+      P ≡ call D R → IsBody g s.frames r another (length G) j b → Answered g (D ∷ G) j b R → Enters g.table g.code j (erase R) y → FramesAnswer g s.frames r qs G →
       Meets s c (copy.lam_meets n (closed_by 1 qs b)) (bind_meets n y r) P
   lam-meets n y r b j qs G D R P s c e node a en env k x Q m cs xs step (procedure {t = t} {q = q} {D = E} {P = S} th) w =
       let f : E ≡ D = cc in
@@ -99,7 +100,7 @@ module _ (g : Compiled) where
 
   -- an acceptor
   pub accept-meets : (n y : ℕ) (r : Option ℕ) (b : Tree) (at : Place) (j : ℕ) (qs : List Tree) (G : List PlainPaths) (X : DataTy) (P : PlainPath) (s : PeState) (c : CopyState) →
-      P ≡ end (acceptor_atom X) → IsNode g (suc (length G)) j b → Answered g (only (data_atom X) ∷ G) j b (end atoms.Comm) → Enters g.table g.code j (at_end a_run) y →
+      P ≡ end (acceptor_atom X) → IsBody g s.frames r another (length G) j b → Answered g (only (data_atom X) ∷ G) j b (end atoms.Comm) → Enters g.table g.code j (at_end a_run) y →
       FramesAnswer g s.frames r qs G → Meets s c (copy.accept_meets n (closed_by 1 qs b) at) (accept_meets n y r) P
   accept-meets n y r b at j qs G X P s c e node a en env k x Q m cs xs step (acceptor {v = v} D i) w =
       let same : D ≡ X = acceptor_atom-same D X (end-same refl e) in

@@ -8,6 +8,7 @@ use Rattle.pe_code.specs.declared.code.PeCode.{PeCode}
 use Rattle.pe_machine.specs.Run.{PeRun, going, pe_after}
 use Rattle.pe_right.specs.Constants.{no_data}
 use Rattle.pe_right.specs.Direct.{IsDirectOf}
+use Rattle.pe_right.specs.Entered.{none_straight}
 use Rattle.pe_right.specs.Right.{IsCodeOf}
 use Rattle.pe_right.specs.Typed.{IsTableOf}
 
@@ -36,4 +37,4 @@ pub record KeepsAhead (code made : PeCode) : Type 0 where
 -- code in which constants are handed as data keeps ahead of the code that hands thunks, for a closed phrase and the table of an accepted derivation
 abbrev pub DirectKeepsAhead : Type 0
 DirectKeepsAhead =
-    (p : Tree) (table : ShapeTable) (code made : PeCode) → IsClosed p → HasDepths p → IsTableOf p table → IsCodeOf no_data p table code → IsDirectOf p code made → KeepsAhead code made
+    (p : Tree) (table : ShapeTable) (code made : PeCode) → IsClosed p → HasDepths p → IsTableOf p table → IsCodeOf no_data none_straight p table code → IsDirectOf p code made → KeepsAhead code made

@@ -1,5 +1,5 @@
 -- The code of a phrase does what the copy rule does, and is never without a step.
-use Rattle.std.specs.Prelude.{ℕ, ◌+◌, ◌*◌, ◌≤◌, ◌≡◌, ◌≢◌, ◌⊎◌, ◌++◌, Option, Some}
+use Rattle.std.specs.Prelude.{Bool, ℕ, ◌+◌, ◌*◌, ◌≤◌, ◌≡◌, ◌≢◌, ◌⊎◌, ◌++◌, Option, Some}
 use Rattle.fy_base.specs.declared.data.Datum.{Datum}
 use Rattle.fy_base.specs.Outside.{Bytes}
 use Rattle.fy_phrase.specs.declared.shapes.ShapeTable.{ShapeTable}
@@ -28,9 +28,14 @@ abbrev pub StandNearlyAlike : Standing → copy.Standing → Type 0
 StandNearlyAlike going t = (t ≡ copy.going) ⊎ (t ≡ copy.ended)
 StandNearlyAlike s t = StandAlike s t
 
+-- where a run has faulted, its state isn't asked: the machine stands before a phrase that it evaluates in one step, and the copy rule within it
+abbrev pub HasFaulted : Standing → Type 0
+HasFaulted (faulted kind at) = Unit {0}
+HasFaulted st = ⊥
+
 -- the run of the machine is the run of the copy rule, and its load is at most the copy rule's
 pub record RunReadsBack (handed : Tree → Option Datum) (p : Tree) (code : PeCode) (r : PeRun) (c : copy.CopyRun) : Type 0 where
-  pub state : ReadsBack handed p code r.state c.state
+  pub state : HasFaulted r.standing ⊎ ReadsBack handed p code r.state c.state
   pub standing : StandNearlyAlike r.standing c.standing
   pub input : r.input ≡ c.input
   pub output : r.output ≡ c.output
@@ -58,5 +63,5 @@ pub record FollowsCopyRule (handed : Tree → Option Datum) (p : Tree) (code : P
 -- right code for a closed phrase and the table of an accepted derivation does so, where the data that are known are those of constants
 abbrev pub RightCodeFollows : Type 0
 RightCodeFollows =
-    (handed : Tree → Option Datum) (p : Tree) (table : ShapeTable) (code : PeCode) → ((q : Tree) (v : Datum) → handed q ≡ Some v → constant q ≡ Some v) →
-    IsClosed p → HasDepths p → IsTableOf p table → IsCodeOf handed p table code → FollowsCopyRule handed p code
+    (handed : Tree → Option Datum) (straight : ℕ → Bool) (p : Tree) (table : ShapeTable) (code : PeCode) → ((q : Tree) (v : Datum) → handed q ≡ Some v → constant q ≡ Some v) →
+    IsClosed p → HasDepths p → IsTableOf p table → IsCodeOf handed straight p table code → FollowsCopyRule handed p code

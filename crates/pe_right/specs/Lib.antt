@@ -1,5 +1,7 @@
 pub mod Closing
 pub mod Constants
+pub mod Entered
+pub mod Straight
 pub mod Right
 pub mod ReadsBack
 pub mod Typed

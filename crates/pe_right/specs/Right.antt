@@ -1,5 +1,5 @@
 -- Which code is that of a phrase and a table of demand shapes.
-use Rattle.std.specs.Prelude.{ℕ, ◌+◌, ◌≡◌, ◌⊎◌, ◌↔◌, true, false, List, [], ◌∷◌, ◌++◌, length, map, slice_get, Option, Some, None, unwrap_or}
+use Rattle.std.specs.Prelude.{ℕ, ◌+◌, ◌≡◌, ◌⊎◌, ◌↔◌, Bool, true, false, List, [], ◌∷◌, ◌++◌, length, map, slice_get, Option, Some, None, unwrap_or}
 use Rattle.fy_base.specs.declared.data.Place.{Place}
 use Rattle.fy_base.specs.declared.data.Datum.{Datum}
 use Rattle.fy_base.specs.declared.data.UnOp.{UnOp}
@@ -20,6 +20,8 @@ use Rattle.pe_code.specs.declared.code.PeItem.{PeItem}
 use Rattle.pe_code.specs.declared.code.PeCode.{PeCode}
 use Rattle.pe_code.specs.declared.code.SequenceShapes.{SequenceShapes}
 use Rattle.pe_code.specs.Code.{item_at, entry_of}
+use Rattle.pe_right.specs.Entered.{BinderKind, IsEntered}
+use Rattle.pe_right.specs.Straight.{IsStraightOf}
 
 -- ---- nodes of a phrase, with the number of binders around them
 
@@ -167,11 +169,25 @@ module _ (handed : Tree → Option Datum) (table : ShapeTable) (code : PeCode) w
     pub depth : item.depth ≡ d
     pub place : item.place ≡ place_of q
 
-  -- what stands where node k is entered at a shape: a merge is entered where the operand that takes the demand is, every other form at its own item
-  abbrev pub IsRightAt : (d k : ℕ) → Tree → PlainShape → ℕ → Type 0
-  IsRightAt d k (merge p q at) s a =
-      (kind : Kind) × (kind_of q ≡ Some kind) × ((shape_begins kind s ≡ true) × Enters table code (k + 1 + nodes p) s a ⊎ (shape_begins kind s ≡ false) × Enters table code (k + 1) s a)
-  IsRightAt d k q s a = (item : PeItem) × (item_at code a ≡ Some item) × IsItemOf d k q s item
+-- `straight` tells which nodes are evaluated in one step
+module _ (handed : Tree → Option Datum) (straight : ℕ → Bool) (table : ShapeTable) (code : PeCode) where
+  -- an instruction evaluates a node in one step where that is told, and else it is that of the form
+  pub data IsInsnAt (w : List BinderKind) (k : ℕ) (q : Tree) (s : PlainShape) (i : PeInsn) : Type 0 where
+    by_parts : straight k ≡ false → IsInsnOf handed table code k q s i → IsInsnAt w k q s i
+    at_once : straight k ≡ true → IsStraightOf code w q s i → IsInsnAt w k q s i
+
+  -- the item of a node with the binders w around it
+  pub record IsItemAt (w : List BinderKind) (k : ℕ) (q : Tree) (s : PlainShape) (item : PeItem) : Type 0 where
+    pub insn : IsInsnAt w k q s item.insn
+    pub depth : item.depth ≡ length w
+    pub place : item.place ≡ place_of q
+
+  -- what stands where node k is entered at a shape: a merge, which isn't evaluated in one step, is entered where the operand that takes the demand is, every other form at its own item
+  abbrev pub IsRightAt : (w : List BinderKind) (k : ℕ) → Tree → PlainShape → ℕ → Type 0
+  IsRightAt w k (merge p q at) s a =
+      (kind : Kind) × (kind_of q ≡ Some kind) × (straight k ≡ false)
+      × ((shape_begins kind s ≡ true) × Enters table code (k + 1 + nodes p) s a ⊎ (shape_begins kind s ≡ false) × Enters table code (k + 1) s a)
+  IsRightAt w k q s a = (item : PeItem) × (item_at code a ≡ Some item) × IsItemAt w k q s item
 
 -- the number of the shape, where the table has it
 abbrev pub IsNumberOf : ShapeTable → Option ℕ → PlainShape → Type 0
@@ -184,13 +200,14 @@ pub record AreSequencesOf (table : ShapeTable) (shapes : SequenceShapes) : Type 
   pub assigned_element : IsNumberOf table shapes.assigned_element (a_call (at_end an_assignment))
   pub row_length : IsNumberOf table shapes.row_length (a_field 0 (at_end a_value))
 
--- the code is that of the phrase and the table, with the data that are known in place of thunks
-pub record IsCodeOf (handed : Tree → Option Datum) (p : Tree) (table : ShapeTable) (code : PeCode) : Type 0 where
+-- the code is that of the phrase and the table, with the data that are known in place of thunks, and evaluates some nodes in one step
+pub record IsCodeOf (handed : Tree → Option Datum) (straight : ℕ → Bool) (p : Tree) (table : ShapeTable) (code : PeCode) : Type 0 where
   -- there is an entry for each pair of the table, and for no other
   pub entries : (k n : ℕ) → (((i : ℕ) × (slice_get table.pairs i ≡ Some (record { node = k; shape = n }))) ↔ ((a : ℕ) × (entry_of code k n ≡ Some a)))
   -- the program's own entry is item 0
   pub program : Enters table code 0 (at_end a_run) 0
-  pub right : (d k a : ℕ) (q : Tree) (s : PlainShape) → IsNodeUnder 0 0 p d k q → Enters table code k s a → IsRightAt handed table code d k q s a
+  -- of a node that is evaluated in one step no part is entered
+  pub right : (w : List BinderKind) (k a : ℕ) (q : Tree) (s : PlainShape) → IsEntered straight [] 0 p w k q → Enters table code k s a → IsRightAt handed straight table code w k q s a
   pub shapes : code.shapes ≡ length table.shapes
   pub assignment : IsNumberOf table code.assignment (at_end an_assignment)
   pub sequences : AreSequencesOf table code.sequences
