@@ -13,7 +13,8 @@ use Rattle.pe_code.specs.declared.code.PeItem.{PeItem}
 use Rattle.pe_code.specs.Code.{item_at, entry_of}
 use Rattle.pe_gen.specs.Preorder.{preorder}
 use Rattle.pe_right.specs.Constants.{no_data}
-use Rattle.pe_right.specs.Right.{IsNodeUnder, itself, thunk_nodes, Enters, IsItemOf, IsRightAt, AreSequencesOf, IsCodeOf}
+use Rattle.pe_right.specs.Entered.{none_straight}
+use Rattle.pe_right.specs.Right.{IsNodeUnder, itself, thunk_nodes, Enters, IsItemOf, AreSequencesOf, IsCodeOf}
 use Rattle.pe_gen.specs.Layout.{IsOwn, IsLaidOut}
 use Rattle.pe_gen.specs.Sites.{is_merge, taken_by, landing, pair, Stands, AreSites, AreEntries}
 use Rattle.pe_gen.proofs.EntryLists.{pair_same, address-of, address-from}
@@ -21,6 +22,7 @@ use Rattle.pe_gen.proofs.Gets.{some_same, pair_second, get-within, get-some}
 use Rattle.pe_gen.proofs.Injections.{few-among}
 use Rattle.pe_gen.proofs.LandLemmas.{operand-kind, taken-begins, landing-plain, landing-right, landing-left, passed-right, passed-left, pair-stands}
 use Rattle.pe_gen.proofs.NodeLists.{node-found, node-placed, first-part, second-part}
+use Rattle.pe_gen.proofs.PlainLemmas.{IsPlainAt, right-plain}
 use Rattle.pe_gen.proofs.ScopeLemmas.{IsScoped, node-scoped}
 use Rattle.pe_gen.proofs.StepLemmas.{shape-read}
 
@@ -103,7 +105,7 @@ module _ (p : Tree) (table : ShapeTable) (code : PeCode) (made : IsMade p table 
       let x = get-some code.items a (let h = get-within made.places a (pair k n) site in omega (arith, made.all)) in
       (x.0, x.1, made.items a (pair k n) x.0 site x.1 d q s (node-placed node) is)
 
-  pub right-at : (q : Tree) (d k a : ℕ) (s : PlainShape) → IsNodeUnder 0 0 p d k q → Enters table code k s a → IsRightAt no_data table code d k q s a
+  pub right-at : (q : Tree) (d k a : ℕ) (s : PlainShape) → IsNodeUnder 0 0 p d k q → Enters table code k s a → IsPlainAt no_data table code d k q s a
   right-at (merge q r at) d k a s node enters =
       let kind = operand-kind r (node-scoped node made.scoped).made.1 in
       (kind.0, kind.1, by kind.0 kind.1 (taken_by r s) refl)
@@ -126,7 +128,7 @@ module _ (p : Tree) (table : ShapeTable) (code : PeCode) (made : IsMade p table 
           )
   right-at q d k a s node enters = item-right d k enters.0 a q s node enters.1 enters.2 refl
 
-  pub code-of : IsCodeOf no_data p table code
+  pub code-of : IsCodeOf no_data none_straight p table code
   code-of = record {
     entries = λ k n. (λ at. entered k n at, λ at. entry-pair k n at.0 at.1);
     program =
@@ -141,7 +143,7 @@ module _ (p : Tree) (table : ShapeTable) (code : PeCode) (made : IsMade p table 
         ∙ ap (λ m. Some (pair m made.program.shape)) (landing-plain 0 p (at_end a_run) whole) in
         let zero_is : x.0 ≡ 0 = same-address 0 x.0 made.program _ made.sites.first site (sym named) in
         (made.program.shape, made.program_shape, x.1 ∙ ap Some zero_is);
-    right = λ d k a q s node enters. right-at q d k a s node enters;
+    right = right-plain no_data table code p (λ d k a q s node enters. right-at q d k a s node enters);
     shapes = made.shapes;
     assignment = made.assignment;
     sequences = made.sequences;

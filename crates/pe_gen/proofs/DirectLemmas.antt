@@ -13,13 +13,16 @@ use Rattle.pe_code.specs.Code.{item_at, address_in}
 use Rattle.pe_right.specs.Constants.{constant, no_data}
 use Rattle.pe_right.specs.Ahead.{KeepsAhead}
 use Rattle.pe_right.specs.Follows.{FollowsCopyRule}
-use Rattle.pe_right.specs.Right.{IsNodeUnder, Enters, EachEnters, no_parts, and_part, IsInsnOf, IsItemOf, IsRightAt, AreSequencesOf, IsCodeOf, of_app, of_app_datum, of_let, of_let_datum, of_var, of_lit, of_unary, of_binary, of_cond, of_case, of_lam, of_app_variable, of_field, of_sel, of_let_variable, of_rec, of_skip, of_seq, of_assign, of_while, of_forever, of_new, of_cells, of_escape, of_accept, of_put, of_read}
+use Rattle.pe_right.specs.Entered.{none_straight}
+use Rattle.pe_right.specs.Right.{IsNodeUnder, Enters, EachEnters, IsInsnOf, IsItemOf, AreSequencesOf, IsCodeOf, of_app, of_app_datum, of_let, of_let_datum, of_var, of_lit, of_unary, of_binary, of_cond, of_case, of_lam, of_app_variable, of_field, of_sel, of_let_variable, of_rec, of_skip, of_seq, of_assign, of_while, of_forever, of_new, of_cells, of_escape, of_accept, of_put, of_read}
 use Rattle.pe_right.specs.Direct.{IsConstantAt, IsHanded, passed, bound, same, IsDirectOf}
 use Rattle.pe_gen.specs.Generated.{IsGenerated}
 use Rattle.pe_right.proofs.AheadLemmas.{keeps-ahead}
 use Rattle.pe_right.proofs.RunLemmas.{follows}
 use Rattle.pe_gen.proofs.Gets.{some_same, pair_second}
+use Rattle.pe_gen.proofs.MovedLemmas.{enters as moved-enters, leaves as moved-leaves, each as moved-each}
 use Rattle.pe_gen.proofs.NodeLists.{first-part, second-part, node-placed}
+use Rattle.pe_gen.proofs.PlainLemmas.{IsPlainAt, plain-right, right-plain}
 
 -- a number leads to one node
 one_node : {d e k : ℕ} {p q r : Tree} → IsNodeUnder 0 0 p d k q → IsNodeUnder 0 0 p e k r → q ≡ r
@@ -35,14 +38,13 @@ no_constant {d = d} {k = k} {p = p} {q = q} node none = by (constant q) refl
 
 module _ (p : Tree) (table : ShapeTable) (code made : PeCode) (direct : IsDirectOf p code made) where
   enters : (k : ℕ) {s : PlainShape} {a : ℕ} → Enters table code k s a → Enters table made k s a
-  enters k e = (e.0, e.1, ap (λ (es : List Entry). address_in es k e.0) direct.entries ∙ e.2)
+  enters k e = moved-enters code made direct.entries table k e
 
   leaves : (k : ℕ) {s : PlainShape} {a : ℕ} → Enters table made k s a → Enters table code k s a
-  leaves k e = (e.0, e.1, ap (λ (es : List Entry). address_in es k e.0) (sym direct.entries) ∙ e.2)
+  leaves k e = moved-leaves code made direct.entries table k e
 
   each : {k : ℕ} {ps : Trees} {s : PlainShape} {ys : List ℕ} → EachEnters table code k ps s ys → EachEnters table made k ps s ys
-  each no_parts = no_parts
-  each (and_part {k = k} e es) = and_part (enters k e) (each es)
+  each es = moved-each code made direct.entries table es
 
   kept-insn : (d k : ℕ) (q : Tree) (s : PlainShape) (i j : PeInsn) → IsNodeUnder 0 0 p d k q → IsInsnOf no_data table code k q s i → IsHanded p i j → IsInsnOf constant table made k q s j
   kept-insn d k q s i j node (of_app {p = a} {q = b} plain unknown e) (passed c) =
@@ -87,11 +89,11 @@ module _ (p : Tree) (table : ShapeTable) (code made : PeCode) (direct : IsDirect
       let x = direct.items a h.0 h.1 in
       (x.0, x.1, record { insn = kept-insn d k q s h.0.insn x.0.insn node h.2.insn x.2.insn; depth = x.2.depth ∙ h.2.depth; place = x.2.place ∙ h.2.place })
 
-  kept-right : (q : Tree) (d k a : ℕ) (s : PlainShape) → IsNodeUnder 0 0 p d k q → IsRightAt no_data table code d k q s a → IsRightAt constant table made d k q s a
+  kept-right : (q : Tree) (d k a : ℕ) (s : PlainShape) → IsNodeUnder 0 0 p d k q → IsPlainAt no_data table code d k q s a → IsPlainAt constant table made d k q s a
   kept-right (merge l r at) d k a s node h = (h.0, h.1, elim h.2 [ inl x ↦ inl (x.0, enters (k + 1 + nodes l) x.1) | inr x ↦ inr (x.0, enters (k + 1) x.1) ])
   kept-right q d k a s node h = kept-item q d k a s node h
 
-  pub code-kept : IsCodeOf no_data p table code → IsCodeOf constant p table made
+  pub code-kept : IsCodeOf no_data none_straight p table code → IsCodeOf constant none_straight p table made
   code-kept right = record {
     entries = λ k n.
         let e = right.entries k n in (
@@ -99,7 +101,7 @@ module _ (p : Tree) (table : ShapeTable) (code made : PeCode) (direct : IsDirect
           λ y. e.1 (y.0, ap (λ (es : List Entry). address_in es k n) (sym direct.entries) ∙ y.1),
         );
     program = enters 0 right.program;
-    right = λ d k a q s node e. kept-right q d k a s node (right.right d k a q s node (leaves k e));
+    right = right-plain constant table made p (λ d k a q s node e. kept-right q d k a s node (plain-right no_data table code p right d k a q s node (leaves k e)));
     shapes = direct.shapes ∙ right.shapes;
     assignment = λ n. let r = right.assignment n in (λ h. r.0 (sym direct.assignment ∙ h), λ h. direct.assignment ∙ r.1 h);
     sequences = subst (λ shapes. AreSequencesOf table shapes) (sym direct.sequences) right.sequences;
@@ -116,6 +118,7 @@ direct-follows p code made g direct = follows (record {
   depths = g.depths;
   typed = g.typed;
   handed = constant;
+  straight = none_straight;
   constants = λ q v e. e;
   right = code-kept p g.table code made direct g.right;
 })
@@ -131,6 +134,7 @@ direct-ahead p code made g direct =
       depths = g.depths;
       typed = g.typed;
       handed = no_data;
+      straight = none_straight;
       constants = λ q v e. absurd cc;
       right = g.right;
-    }) made direct
+    }) made direct (λ k. refl)

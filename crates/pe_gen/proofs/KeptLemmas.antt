@@ -11,15 +11,16 @@ use Rattle.pe_code.specs.declared.code.Entry.{Entry}
 use Rattle.pe_code.specs.declared.code.PeCode.{PeCode}
 use Rattle.pe_code.specs.declared.code.SequenceShapes.{SequenceShapes}
 use Rattle.pe_code.specs.declared.code.PeInsn.{PeInsn}
+use Rattle.pe_code.specs.declared.code.StraightPart.{StraightPart}
+use Rattle.pe_code.specs.declared.code.StraightPart.TheVariants as part
 use Rattle.pe_code.specs.declared.code.PeItem.{PeItem}
-use Rattle.pe_code.specs.Code.{address_in, beside, body_of, variable_of, shape_of, node_of, picked_from}
-use Rattle.pe_code.specs.Entries.{AreInOrder}
-use Rattle.pe_code.specs.Valid.{LeadsTo, IsThunkNode, IsSoundItem, IsSoundEntry, all_picked_from, AreOnce, asked_sequences, asked_shapes, IsValid}
+use Rattle.pe_code.specs.Code.{beside, body_of, variable_of, shape_of, node_of, picked_from, straight_of}
+use Rattle.pe_code.specs.Valid.{LeadsTo, IsThunkNode, IsSoundPart, IsSoundStraight, IsSoundItem, IsSoundEntry, all_picked_from, parts_run_by, all_parts_run, places_in, all_places_in, AreOnce, asked_sequences, asked_shapes, IsValid}
 use Rattle.pe_right.specs.Direct.{IsHanded, passed, bound, same, IsItemHanded, IsDirectOf}
-use Rattle.fy_phrase.specs.declared.shapes.Pair.{Pair}
-use Rattle.pe_gen.specs.Layout.{IsOwn, IsLaidOut}
+use Rattle.pe_gen.specs.Layout.{IsLaidOut}
 use Rattle.pe_gen.specs.Sizes.{HasSizesOf}
 use Rattle.pe_gen.proofs.Gets.{some_same, get-within, get-some}
+use Rattle.pe_gen.proofs.MovedLemmas.{moved-layout}
 use Rattle.pe_gen.proofs.SoundLemmas.{All-from_gets}
 
 pub at-place : {X : Type 0} (P : X → Type 0) (xs : List X) (i : ℕ) (x : X) → All P xs → slice_get xs i ≡ Some x → P x
@@ -71,6 +72,35 @@ parts-kept p (x ∷ xs) (y ∷ ys) count items =
     let rest = parts-kept p xs ys (omega arith) (λ a z at. items (suc a) z at) in
     omega (arith, ap length own, rest)
 
+-- ---- as much straight code is run
+
+same-straight : {p : Tree} {i j : PeInsn} → IsHanded p i j → straight_of j ≡ straight_of i
+same-straight (passed c) = refl
+same-straight (bound c) = refl
+same-straight (same none) = refl
+
+same-run : {p : Tree} {i j : PeInsn} → IsHanded p i j → parts_run_by j ≡ parts_run_by i
+same-run (passed c) = refl
+same-run (bound c) = refl
+same-run (same none) = refl
+
+same-places : {p : Tree} {i j : PeInsn} → IsHanded p i j → places_in j ≡ places_in i
+same-places (passed c) = refl
+same-places (bound c) = refl
+same-places (same none) = refl
+
+run-kept : (p : Tree) (xs ys : List PeItem) → length ys ≡ length xs →
+    ((a : ℕ) (x : PeItem) → slice_get xs a ≡ Some x → (y : PeItem) × (slice_get ys a ≡ Some y) × IsItemHanded p x y) → (all_parts_run ys ≡ all_parts_run xs) × (all_places_in ys ≡ all_places_in xs)
+run-kept p [] [] count items = (refl, refl)
+run-kept p [] (y ∷ ys) count items = absurd (omega arith)
+run-kept p (x ∷ xs) [] count items = absurd (omega arith)
+run-kept p (x ∷ xs) (y ∷ ys) count items =
+    let first = items 0 x refl in
+    let parts : parts_run_by y.insn ≡ parts_run_by x.insn = ap (λ (i : PeItem). parts_run_by i.insn) (some_same first.1) ∙ same-run first.2.insn in
+    let places : places_in y.insn ≡ places_in x.insn = ap (λ (i : PeItem). places_in i.insn) (some_same first.1) ∙ same-places first.2.insn in
+    let rest = run-kept p xs ys (omega arith) (λ a z at. items (suc a) z at) in
+    (omega (arith, parts, rest.0), omega (arith, places, rest.1))
+
 -- ---- the code
 
 module _ (p : Tree) (code made : PeCode) (direct : IsDirectOf p code made) where
@@ -85,6 +115,15 @@ module _ (p : Tree) (code made : PeCode) (direct : IsDirectOf p code made) where
         (All-weaker (λ (e : Entry). e.node ≡ n → LeadsTo code d e.address) (λ (e : Entry). e.node ≡ n → LeadsTo made d e.address) (λ e h is. leads (h is)) code.entries t.led);
   }
 
+  part-kept : (d e : ℕ) → e ≡ d → (s : StraightPart) → IsSoundPart code d s → IsSoundPart made e s
+  part-kept d e equal (part.Literal v) h = tt
+  part-kept d e equal (part.Cell k) h = omega (arith, h, equal)
+  part-kept d e equal (part.Unary op a) h = subst (λ n. LeadsTo made n a) (sym equal) (leads h)
+  part-kept d e equal (part.Binary op a) h = subst (λ n. LeadsTo made n a) (sym equal) (leads h)
+
+  straight-kept : (d e : ℕ) → e ≡ d → (ss : List StraightPart) → IsSoundStraight code d ss → IsSoundStraight made e ss
+  straight-kept d e equal ss h = record { short = h.short; one = h.one; parts = All-weaker (IsSoundPart code d) (IsSoundPart made e) (part-kept d e equal) ss h.parts }
+
   sound : (old new : PeItem) → IsItemHanded p old new → IsSoundItem code old → IsSoundItem made new
   sound old new h s = record {
     depth = omega (arith, h.depth, s.depth);
@@ -95,6 +134,7 @@ module _ (p : Tree) (code made : PeCode) (direct : IsDirectOf p code made) where
     variable = λ k e. let w = s.variable k (sym (same-variable h.insn) ∙ e) in omega (arith, w, h.depth);
     shape = λ n e. let w = s.shape n (sym (same-shape h.insn) ∙ e) in omega (arith, w, direct.shapes);
     thunk = λ n e. subst (λ d. IsThunkNode made d n) (sym h.depth) (thunk-node (s.thunk n (no-other-node h.insn n e)));
+    straight = λ ss e. straight-kept old.depth new.depth h.depth ss (s.straight ss (sym (same-straight h.insn) ∙ e));
   }
 
   -- each item is that of an item of the code
@@ -114,6 +154,7 @@ module _ (p : Tree) (code made : PeCode) (direct : IsDirectOf p code made) where
         let x = item-before a new at in
         sound x.0 new x.2 (at-place (λ i. IsSoundItem code i) code.items a x.0 v.items x.1));
     parts = omega (arith, parts-kept p code.items made.items direct.count direct.items, v.parts, direct.count);
+    straight = (let kept = run-kept p code.items made.items direct.count direct.items in let few = v.straight in let parts = kept.0 in let places = kept.1 in omega arith);
     entries = subst (λ es. All (λ e. IsSoundEntry made e) es) (sym direct.entries)
         (All-weaker (λ e. IsSoundEntry code e) (λ e. IsSoundEntry made e) (λ e s. record { address = omega (arith, s.address, direct.count); shape = omega (arith, s.shape, direct.shapes) }) code.entries v.entries);
     once = subst AreOnce (sym direct.entries) v.once;
@@ -137,17 +178,5 @@ module _ (p : Tree) (code made : PeCode) (direct : IsDirectOf p code made) where
     thunk_nodes = ap length direct.thunks ∙ s.thunk_nodes;
   }
 
-  -- where pairs are entered is the same
-  own-before : (x : Pair) (a : ℕ) → IsOwn p made x a → IsOwn p code x a
-  own-before x a o = record { depth = o.depth; form = o.form; node = o.node; whole = o.whole; entered = ap (λ (es : List Entry). address_in es x.node x.shape) (sym direct.entries) ∙ o.entered }
-
-  own-after : (x : Pair) (a : ℕ) → IsOwn p code x a → IsOwn p made x a
-  own-after x a o = record { depth = o.depth; form = o.form; node = o.node; whole = o.whole; entered = ap (λ (es : List Entry). address_in es x.node x.shape) direct.entries ∙ o.entered }
-
   pub layout-kept : IsLaidOut p code → IsLaidOut p made
-  layout-kept h = record {
-    each = λ a w. let x = h.each a (omega (arith, w, direct.count)) in (x.0, own-after x.0 a x.1);
-    one = λ a x y o u. h.one a x y (own-before x a o) (own-before y a u);
-    order = λ a b x y one l o u. h.order a b x y one l (own-before x a o) (own-before y b u);
-    entries = subst AreInOrder (sym direct.entries) h.entries;
-  }
+  layout-kept h = moved-layout code made direct.entries p direct.count h

@@ -1,5 +1,5 @@
 -- Code that is right, valid and laid out is one.
-use Rattle.std.proofs.Common.{ℕ, zero, suc, ◌+◌, ◌<◌, ◌≤◌, ◌≡◌, ◌&&◌, eqb, Bool, true, false, inl, inr, List, [], ◌∷◌, length, Option, Some, None, refl, ap, sym, ◌∙◌, subst, arith}
+use Rattle.std.proofs.Common.{ℕ, zero, suc, ◌+◌, ◌<◌, ◌≤◌, ◌≡◌, ◌⊎◌, ◌&&◌, eqb, Bool, true, false, inl, inr, List, [], ◌∷◌, length, Option, Some, None, refl, ap, sym, ◌∙◌, subst, arith}
 use Rattle.std.specs.Prelude.{slice_get}
 use Rattle.std.proofs.lemmas.Bool.{cases_lt, cases_Bool, or_parts, and_parts, and_cases, and_from, eqb-true, eqb-false, ltb-false, eq-eqb, cond-true, cond-false}
 use Rattle.fy_base.specs.declared.data.Datum.{Datum}
@@ -19,18 +19,23 @@ use Rattle.pe_code.specs.declared.code.PeInsn.TheVariants as insn
 use Rattle.pe_code.specs.declared.code.PeItem.{PeItem}
 use Rattle.pe_code.specs.Code.{item_at, address_in, entry_of}
 use Rattle.pe_code.specs.Entries.{is_before, AreInOrder}
-use Rattle.pe_code.specs.Valid.{AreOnce}
+use Rattle.pe_code.specs.Valid.{AreOnce, IsValid}
 use Rattle.pe_code.proofs.EntryLemmas.{order-head, order-tail}
-use Rattle.pe_right.specs.Right.{IsNodeUnder, itself, is_variable, Enters, EachEnters, no_parts, and_part, IsInsnOf, IsItemOf, IsRightAt, IsNumberOf, IsCodeOf, of_app, of_app_datum, of_let, of_let_datum, of_var, of_lit, of_unary, of_binary, of_cond, of_case, of_lam, of_app_variable, of_field, of_sel, of_let_variable, of_rec, of_skip, of_seq, of_assign, of_while, of_forever, of_new, of_cells, of_escape, of_accept, of_put, of_read}
+use Rattle.pe_right.specs.Entered.{none_straight}
+use Rattle.pe_right.specs.Right.{IsNodeUnder, itself, is_variable, Enters, EachEnters, no_parts, and_part, IsInsnOf, IsItemOf, IsNumberOf, IsCodeOf, of_app, of_app_datum, of_let, of_let_datum, of_var, of_lit, of_unary, of_binary, of_cond, of_case, of_lam, of_app_variable, of_field, of_sel, of_let_variable, of_rec, of_skip, of_seq, of_assign, of_while, of_forever, of_new, of_cells, of_escape, of_accept, of_put, of_read}
 use Rattle.pe_right.specs.Typed.{IsTableOf}
 use Rattle.pe_gen.specs.Layout.{IsOwn, IsLaidOut}
-use Rattle.pe_gen.specs.OneCode.{LaidOutCodeIsOne}
+use Rattle.pe_gen.specs.declared.manners.Manner.{Manner}
+use Rattle.pe_gen.specs.Manners.{manners_of, item_by}
+use Rattle.pe_gen.specs.OneCode.{LaidOutCodeIsOne, StraightenedCodeIsOne}
 use Rattle.pe_gen.specs.Preorder.{preorder}
 use Rattle.pe_gen.specs.Sites.{is_merge, pair, IsBefore}
+use Rattle.pe_gen.specs.Straightened.{IsEvaluatedSo}
 use Rattle.pe_gen.proofs.EntryLists.{address-from}
 use Rattle.pe_gen.proofs.Gets.{some_same, get-within, get-some}
 use Rattle.pe_gen.proofs.KeptLemmas.{at-place}
 use Rattle.pe_gen.proofs.NodeLists.{length-preorder, node-found, first-part, second-part}
+use Rattle.pe_gen.proofs.PlainLemmas.{plain-right, whole-item}
 use Rattle.pe_gen.proofs.TableLemmas.{pair-shape, pair-within}
 
 -- ---- lists
@@ -161,15 +166,9 @@ before-once x y (inl a) (inr b) = omega (arith, a, b.0)
 before-once x y (inr a) (inl b) = omega (arith, a.0, b)
 before-once x y (inr a) (inr b) = omega (arith, a.1, b.1)
 
--- what stands where a form that is no merge is entered is its item
-plain-item : (handed : Tree → Option Datum) (table : ShapeTable) (code : PeCode) (q : Tree) (d k a : ℕ) (s : PlainShape) → is_merge q ≡ false → IsRightAt handed table code d k q s a →
-    (item : PeItem) × (item_at code a ≡ Some item) × IsItemOf handed table code d k q s item
-plain-item handed table code (merge l r at) d k a s whole h = absurd cc
-plain-item handed table code q d k a s whole h = h
-
 -- what is known of each of the codes
 pub record IsGiven (handed : Tree → Option Datum) (p : Tree) (table : ShapeTable) (code : PeCode) : Type 0 where
-  pub right : IsCodeOf handed p table code
+  pub right : IsCodeOf handed none_straight p table code
   pub laid : IsLaidOut p code
 
 module _ (handed : Tree → Option Datum) (p : Tree) (table : ShapeTable) (whole : is_merge p ≡ false) (its : IsTableOf p table) where
@@ -182,7 +181,7 @@ module _ (handed : Tree → Option Datum) (p : Tree) (table : ShapeTable) (whole
   -- a pair's own item
   own-item : (code : PeCode) → IsGiven handed p table code → (x : Pair) (a : ℕ) (o : IsOwn p code x a) (s : PlainShape) → shape_at table x.shape ≡ Some s →
       (item : PeItem) × (item_at code a ≡ Some item) × IsItemOf handed table code o.depth x.node o.form s item
-  own-item code g x a o s is = plain-item handed table code o.form o.depth x.node a s o.whole (g.right.right o.depth x.node a o.form s o.node (x.shape, is, o.entered))
+  own-item code g x a o s is = whole-item handed table code o.form o.depth x.node a s o.whole (plain-right handed table code p g.right o.depth x.node a o.form s o.node (x.shape, is, o.entered))
 
   own-shape : (code : PeCode) → IsGiven handed p table code → (x : Pair) (a : ℕ) → IsOwn p code x a → (s : PlainShape) × (shape_at table x.shape ≡ Some s)
   own-shape code g x a o = pair-shape p table its (pair x.node x.shape) ((g.right.entries x.node x.shape).1 (a, o.entered))
@@ -261,8 +260,8 @@ module _ (handed : Tree → Option Datum) (p : Tree) (table : ShapeTable) (whole
 
     address-same : (q : Tree) (d k n a b : ℕ) (s : PlainShape) → IsNodeUnder 0 0 p d k q → shape_at table n ≡ Some s → entry_of one k n ≡ Some a → entry_of other k n ≡ Some b → a ≡ b
     address-same (merge l r at) d k n a b s node is e f =
-        let x = g.right.right d k a (merge l r at) s node (n, is, e) in
-        let y = h.right.right d k b (merge l r at) s node (n, is, f) in
+        let x = plain-right handed table one p g.right d k a (merge l r at) s node (n, is, e) in
+        let y = plain-right handed table other p h.right d k b (merge l r at) s node (n, is, f) in
         let kind : x.0 ≡ y.0 = kind-same x.0 y.0 (kind_of r) x.1 y.1 in
         elim x.2 [
           | inl t ↦ elim y.2 [
@@ -414,3 +413,32 @@ code-is-one handed p table one other whole its named right correct valid sound l
     (one-number table one.sequences.assigned_element other.sequences.assigned_element (a_call (at_end an_assignment)) right.sequences.assigned_element correct.sequences.assigned_element)
     (one-number table one.sequences.row_length other.sequences.row_length (a_field 0 (at_end a_value)) right.sequences.row_length correct.sequences.row_length))
     (right.thunks ∙ sym correct.thunks)
+
+-- ---- straightened code
+
+-- an item that is evaluated as its owner's node is
+evaluated-there : (p : Tree) (manners : List Manner) (code one other : PeCode) → IsLaidOut p code → IsEvaluatedSo p manners code one → IsEvaluatedSo p manners code other →
+    (a : ℕ) (item : PeItem) → slice_get one.items a ≡ Some item → slice_get other.items a ≡ Some item
+evaluated-there p manners code one other laid g h a item at =
+    let old = get-some code.items a (omega (arith, get-within one.items a item at, g.count)) in
+    let x = g.items a old.0 old.1 in
+    let y = h.items a old.0 old.1 in
+    let owner : x.2.owner ≡ y.2.owner = laid.one a x.2.owner y.2.owner x.2.own y.2.own in
+    let same : x.2.manner ≡ y.2.manner = some_same (sym x.2.told ∙ (ap (λ (z : Pair). slice_get manners z.node) owner ∙ y.2.told)) in
+    let is : y.0 ≡ x.0 = y.2.is ∙ (ap (λ m. item_by m old.0) (sym same) ∙ sym x.2.is) in
+    y.1 ∙ (ap Some is ∙ (sym x.1 ∙ at))
+
+evaluated-one : (p : Tree) (manners : List Manner) (code one other : PeCode) → IsLaidOut p code → IsEvaluatedSo p manners code one → IsEvaluatedSo p manners code other → one ≡ other
+evaluated-one p manners code one other laid g h =
+    code_same one other (same-lists one.items other.items (evaluated-there p manners code one other laid g h) (evaluated-there p manners code other one laid h g)) (g.entries ∙ sym h.entries)
+    (g.shapes ∙ sym h.shapes) (g.assignment ∙ sym h.assignment) (g.sequences ∙ sym h.sequences) (g.thunks ∙ sym h.thunks)
+
+pub straightened-is-one : StraightenedCodeIsOne
+straightened-is-one p code one other laid g h = by (evaluated-one p (manners_of code [] 0 p) code g.straight h.straight laid g.evaluated h.evaluated) g.is h.is
+  where
+    by : g.straight ≡ h.straight → (IsValid g.straight × (one ≡ g.straight)) ⊎ ((IsValid g.straight → ⊥) × (one ≡ code)) → (IsValid h.straight × (other ≡ h.straight)) ⊎ ((IsValid h.straight → ⊥) × (other ≡ code)) →
+        one ≡ other
+    by same (inl a) (inl b) = a.1 ∙ (same ∙ sym b.1)
+    by same (inl a) (inr b) = absurd (b.0 (subst (λ (c : PeCode). IsValid c) same a.0))
+    by same (inr a) (inl b) = absurd (a.0 (subst (λ (c : PeCode). IsValid c) (sym same) b.0))
+    by same (inr a) (inr b) = a.1 ∙ sym b.1

@@ -1,5 +1,5 @@
 -- Code that is made so is valid.
-use Rattle.std.proofs.Common.{ℕ, ◌+◌, ◌*◌, ◌<◌, ◌≤◌, ◌≡◌, true, false, ◌⊎◌, inl, inr, List, [], ◌∷◌, length, get_or, Option, Some, None, refl, ap, sym, ◌∙◌, subst, arith}
+use Rattle.std.proofs.Common.{ℕ, suc, ◌+◌, ◌*◌, ◌<◌, ◌≤◌, ◌≡◌, true, false, ◌⊎◌, inl, inr, List, [], ◌∷◌, length, get_or, Option, Some, None, refl, ap, sym, ◌∙◌, subst, arith}
 use Rattle.std.specs.List.{All}
 use Rattle.std.specs.Option.{ForSome}
 use Rattle.std.specs.Prelude.{slice_get}
@@ -15,9 +15,11 @@ use Rattle.pe_code.specs.declared.code.Entry.{Entry}
 use Rattle.pe_code.specs.declared.code.PeCode.{PeCode}
 use Rattle.pe_code.specs.declared.code.SequenceShapes.{SequenceShapes}
 use Rattle.pe_code.specs.declared.code.PeInsn.{PeInsn}
+use Rattle.pe_code.specs.declared.code.PeInsn.TheVariants as insn
 use Rattle.pe_code.specs.declared.code.PeItem.{PeItem}
-use Rattle.pe_code.specs.Code.{entry_of, beside, body_of, variable_of, shape_of, node_of}
-use Rattle.pe_code.specs.Valid.{LeadsTo, IsThunkNode, IsSoundItem, IsSoundEntry, asked_sequences, IsValid}
+use Rattle.pe_code.specs.Code.{entry_of, beside, body_of, variable_of, shape_of, node_of, straight_of}
+use Rattle.pe_code.specs.Valid.{LeadsTo, IsThunkNode, IsSoundItem, IsSoundEntry, parts_run_by, all_parts_run, asked_sequences, IsValid}
+use Rattle.pe_right.proofs.EntryLemmas.{form-plain}
 use Rattle.pe_gen.specs.Preorder.{own_thunks}
 use Rattle.pe_right.specs.Constants.{no_data}
 use Rattle.pe_right.specs.Right.{with_depth, is_variable, IsNodeUnder, itself, IsNodeAmongUnder, in_first, in_later, Enters, EachEnters, IsNumberOf, AreSequencesOf, no_parts, and_part, IsInsnOf, of_var, of_lit, of_unary, of_binary, of_cond, of_case, of_lam, of_app, of_app_variable, of_app_datum, of_field, of_sel, of_let, of_let_variable, of_let_datum, of_rec, of_skip, of_seq, of_assign, of_while, of_forever, of_new, of_cells, of_escape, of_accept, of_put, of_read}
@@ -250,7 +252,12 @@ module _ (p : Tree) (table : ShapeTable) (code : PeCode) (made : IsMade p table 
         variable = sound.variable;
         shape = sound.shape;
         thunk = sound.thunk;
+        straight = λ ss e. let f : None ≡ Some ss = sym (form-plain x.its.insn) ∙ e in absurd cc;
       }
+
+  -- no straight code is run
+  plain-item : (i : ℕ) (item : PeItem) → slice_get code.items i ≡ Some item → straight_of item.insn ≡ None
+  plain-item i item at = let x = site-of p table code made i item at in form-plain x.its.insn
 
   sound-entry : (i : ℕ) (e : Entry) → slice_get code.entries i ≡ Some e → IsSoundEntry code e
   sound-entry i e at =
@@ -272,6 +279,15 @@ module _ (p : Tree) (table : ShapeTable) (code : PeCode) (made : IsMade p table 
       (All-cons P q.assigned_element (q.row_length ∷ []) (number-within q.assigned_element (a_call (at_end an_assignment)) h.assigned_element)
       (All-cons P q.row_length [] (number-within q.row_length (a_field 0 (at_end a_value)) h.row_length) (All-nil P))))
 
+  run-by-none : (i : PeInsn) → straight_of i ≡ None → parts_run_by i ≡ 0
+  run-by-none (insn.Eval ss) e = absurd cc
+  run-by-none (insn.Set k ss) e = absurd cc
+  run-by-none i e = refl
+
+  none-run : (is : List PeItem) → ((i : ℕ) (item : PeItem) → slice_get is i ≡ Some item → straight_of item.insn ≡ None) → all_parts_run is ≡ 0
+  none-run [] each = refl
+  none-run (i ∷ is) each = let first = run-by-none i.insn (each 0 i refl) in let rest = none-run is (λ a item at. each (suc a) item at) in omega arith
+
   pub valid-of : length table.pairs ≤ 65536 → table_words p (length table.shapes) ≤ 1048576 → IsValid code
   valid-of few words =
       let short = few-among table.pairs made.places made.sites.apart (λ i x at. made.there x (made.sites.known i x at).0) in
@@ -284,6 +300,7 @@ module _ (p : Tree) (table : ShapeTable) (code : PeCode) (made : IsMade p table 
             leads-to p 0 0 0 (at_end a_run) itself c.program;
         items = All-from_gets (λ i. IsSoundItem code i) code.items sound-item;
         parts = parts-few p table code made;
+        straight = (let none = none-run code.items plain-item in omega arith);
         entries = All-from_gets (λ e. IsSoundEntry code e) code.entries sound-entry;
         once = made.entries.once;
         asked =

@@ -7,4 +7,8 @@ pub mod Plan
 pub mod Sizes
 pub mod Handing
 pub mod Generated
+pub mod Scopes
+pub mod Postfix
+pub mod Manners
+pub mod Straightened
 pub mod OneCode

@@ -8,6 +8,7 @@ ghost use Rattle.fy_phrase.specs.Sizes.{nodes, depth};
 ghost use Rattle.fy_phrase.specs.WellMade.{IsClosed, HasDepths, IsWellMade};
 ghost use Rattle.pe_code.specs.Valid.{IsValid};
 ghost use Rattle.pe_right.specs.Constants.{no_data};
+ghost use Rattle.pe_right.specs.Entered.{none_straight};
 ghost use Rattle.pe_right.specs.Follows.{FollowsCopyRule};
 ghost use Rattle.pe_right.specs.Right.{IsCodeOf};
 ghost use Rattle.pe_gen.specs.Sites.{is_merge, AreNotBefore};
@@ -40,7 +41,7 @@ pub fn generate(alloc: Global, p: &Phrase, table: &ShapeTable) -> Result<PeCode,
     requires shapes { length table.now.shapes ≤ 256 }
     requires pairs { length table.now.pairs ≤ 65536 }
     requires words { table_words (reads p.now) (length table.now.shapes) ≤ 1048576 }
-    ensures right { IfOk result (λ code. IsCodeOf no_data (reads p.now) table.now code) }
+    ensures right { IfOk result (λ code. IsCodeOf no_data none_straight (reads p.now) table.now code) }
     ensures valid { IfOk result (λ code. IsValid code) }
     ensures follows { IfOk result (λ code. FollowsCopyRule no_data (reads p.now) code) }
     ensures sizes { IfOk result (λ code. HasSizesOf (reads p.now) code) }

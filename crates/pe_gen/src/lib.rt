@@ -8,12 +8,17 @@ mod handing;
 mod items;
 mod laws;
 mod listing;
+mod manners;
 mod nodes;
 mod plan;
+mod postfix;
+mod scope;
 mod sites;
 mod steps;
+mod straightening;
 mod thunks;
 
 pub use generating::generate;
 pub use handing::direct;
-pub use laws::laid_out_code_is_one;
+pub use laws::{laid_out_code_is_one, straightened_code_is_one};
+pub use straightening::straighten;

@@ -39,7 +39,8 @@ pub fn sites_of(
     Ok(sites)
 }
 
-fn is_merge(p: &Phrase) -> bool
+/// Whether the phrase is a merge.
+pub fn is_merge(p: &Phrase) -> bool
     ensures { result ≡ is_merge_of (reads p.now) }
 {
     right_operand(p).is_some()

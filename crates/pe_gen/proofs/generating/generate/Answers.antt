@@ -16,6 +16,7 @@ use Rattle.pe_gen.proofs.OrderLemmas.{pairs-in-order}
 use Rattle.pe_gen.proofs.SeenLemmas.{nodes-few}
 use Rattle.pe_gen.proofs.SoundLemmas.{valid-of}
 use Rattle.pe_right.specs.Constants.{no_data}
+use Rattle.pe_right.specs.Entered.{none_straight}
 use Rattle.pe_right.proofs.RunLemmas.{follows}
 use Rattle.pe_gen.proofs.generating.generate.Goals as goal
 
@@ -272,4 +273,4 @@ returns-clause-few c =
 pub returns-clause-follows : goal.returns-clause-follows
 returns-clause-follows c =
     let code : PeCode = record { items = c.in_ok-items.items; entries = c.in_ok-entries.entries; shapes = length c.as_slice-shapes.result.now; assignment = c.number_of_step-assignment.result; sequences = c.sequence_shapes.result; thunks = c.in_ok-thunks.thunks } in
-    follows (record { phrase = reads c.args.p.now; table = c.args.table.now; code = code; closed = c.requires.closed; depths = c.requires.depths; typed = c.requires.table; handed = no_data; constants = λ q v e. absurd cc; right = returns-clause-right c })
+    follows (record { phrase = reads c.args.p.now; table = c.args.table.now; code = code; closed = c.requires.closed; depths = c.requires.depths; typed = c.requires.table; handed = no_data; straight = none_straight; constants = λ q v e. absurd cc; right = returns-clause-right c })
