@@ -20,12 +20,12 @@ pub record Comes (code : Code) (least most : ℕ) (s : State) (to : ℕ) (P : Da
   pub holds : P after
 
 -- a step and then others
-run_step : (code : Code) (n : ℕ) (s t : State) → word_step code s ≡ goes t → word_run code (suc n) s ≡ word_run code n t
+pub run_step : (code : Code) (n : ℕ) (s t : State) → word_step code s ≡ goes t → word_run code (suc n) s ≡ word_run code n t
 unfolding led_on
 run_step code zero s t e = e
 run_step code (suc n) s t e = ap (after_step code) (run_step code n s t e)
 
-spent_none : (code : Code) (s : State) → spent code 0 s ≡ 0
+pub spent_none : (code : Code) (s : State) → spent code 0 s ≡ 0
 unfolding spent
 spent_none code s = refl
 
@@ -33,11 +33,11 @@ spent_more : (code : Code) (n : ℕ) (s : State) → spent code (suc n) s ≡ sp
 unfolding spent
 spent_more code n s = refl
 
-run_none : (code : Code) (s : State) → word_run code 0 s ≡ goes s
+pub run_none : (code : Code) (s : State) → word_run code 0 s ≡ goes s
 unfolding led_on
 run_none code s = refl
 
-spent_step : (code : Code) (n : ℕ) (s t : State) → word_step code s ≡ goes t → spent code (suc n) s ≡ next_cost s.rest + spent code n t
+pub spent_step : (code : Code) (n : ℕ) (s t : State) → word_step code s ≡ goes t → spent code (suc n) s ≡ next_cost s.rest + spent code n t
 spent_step code zero s t e =
     let first = spent_more code 0 s in
     let start = spent_none code s in

@@ -12,12 +12,12 @@ use Rattle.rv_operators.specs.Operators.{word_of, operator_count, operator_block
 use Rattle.rv_operators.specs.Laws.{HoldsOperators, at_block, IsMeeting, IsMeetingTwo, KeepsAll, MakesDatum}
 use Rattle.rv_operators.proofs.Blocks.{Comes, Needs, arrives, block_comes, from_zero}
 
-window_lies : (e : Data) (a c k : ℕ) → a ≡ word_address c → c + k ≤ length e.words → has_window e a k ≡ true
+pub window_lies : (e : Data) (a c k : ℕ) → a ≡ word_address c → c + k ≤ length e.words → has_window e a k ≡ true
 window_lies e a c k is le =
     and_from _ _ (le-leb stack_start a (omega arith)) (and_from _ _ (le-leb (a + 8 * k) (limit e) (omega arith)) (eq-eqb (a % 8) 0 (omega arith)))
 
 -- the word that is read
-read : (e : Data) (a c k v : ℕ) → a ≡ word_address c → slice_index e.words (c + k) ≡ v → slice_index e.words (word_number a + k) ≡ v
+pub read : (e : Data) (a c k v : ℕ) → a ≡ word_address c → slice_index e.words (c + k) ≡ v → slice_index e.words (word_number a + k) ≡ v
 read e a c k v is h = let same : word_number a + k ≡ c + k = omega arith in ap (slice_index e.words) same ∙ h
 
 pub moved : (a v : ℕ) → a ≡ v → v < 2 ^ 64 → imm_value Addi a 0 ≡ v

@@ -1,12 +1,12 @@
-mod Blocks
-mod Numbers
-mod Sums
-mod Products
-mod Quotients
-mod Comparisons
-mod Contexts
+pub mod Blocks
+pub mod Numbers
+pub mod Sums
+pub mod Products
+pub mod Quotients
+pub mod Comparisons
+pub mod Contexts
 mod Unary
 mod Binary
-mod Fitting
+pub mod Fitting
 mod Discipline
 mod Emitted

@@ -1,0 +1,10 @@
+pub mod Signs
+pub mod Registers
+pub mod Needs
+pub mod Unary
+pub mod Binary
+pub mod Cells
+pub mod Sizes
+pub mod Works
+pub mod Fine
+pub mod Emitted
