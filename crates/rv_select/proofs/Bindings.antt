@@ -24,8 +24,8 @@ use Rattle.rv_word.specs.declared.micros.Micro.TheVariants.{Set, Imm, Alu, Windo
 use Rattle.rv_word.specs.Word.{get, Data, Code, State, Led, goes, hangs, wrong, word_address, word_number, has_window, block, onward, does, led_on}
 use Rattle.rv_flow.specs.Lowering.{micro_items}
 use Rattle.rv_select.specs.Numbers.{label_of, row_address}
+use Rattle.rv_straight.specs.Straight.{word_of_frame}
 use Rattle.rv_select.specs.Blocks.{move, behind, main_block}
-use Rattle.rv_select.specs.Emission.{word_of_frame}
 use Rattle.rv_select.specs.Program.{word_code}
 use Rattle.rv_select.specs.Layout.{word_in, frame_word, frames_from, address_found, HasItems, RunsItem, HasFocus, Stands}
 use Rattle.rv_select.specs.Laws.{is_straight_item, IsReached, BindingsAreReached}
@@ -110,7 +110,7 @@ module _ (w : Code) where
         (one_last (Get First First (word - 510)) rest twice (with_value First v e) (by_get First (word - 510) (x + 510) v rest twice refl (omega arith) (ap (λ j. slice_index e.words j) at ∙ is))));
   }
 
-  brings : (word : ℕ) → Brings word (word_of_frame word)
+  brings : (word : ℕ) → Brings word (word_of_frame First word)
   brings word =
       let once : List Micro = behind First Frame 255 ∷ Get First First (word - 255) ∷ [] in
       let twice : List Micro = behind First Frame 255 ∷ behind First First 255 ∷ Get First First (word - 510) ∷ [] in
@@ -208,11 +208,11 @@ module _ (code : PeCode) (a shape : ℕ) (i : PeItem) (valid : IsValid code) (st
   further k is =
       let word : ℕ = display_start + k in
       let b = brings w word in
-      let ops : List Micro = word_of_frame word ++ others in
+      let ops : List Micro = word_of_frame First word ++ others in
       let check : Micro = Window Frame (display_start + suc k) in
       record {
         check = check ∷ [];
-        reaching = word_of_frame word;
+        reaching = word_of_frame First word;
         rest = others;
         begins = block_is (suc k) is;
         is_check = tt;
@@ -224,8 +224,8 @@ module _ (code : PeCode) (a shape : ℕ) (i : PeItem) (valid : IsValid code) (st
             let frame = r.frame ∙ q.spot in
             let within = q.within in
             let few = r.memory.few in
-            ap (λ (l : List Micro). led w (1 + length (word_of_frame word)) l t.held) r.at
-            ∙ one_more w check ops t.held t.held (length (word_of_frame word)) (onward others (with_value First (word_address f.address) t.held))
+            ap (λ (l : List Micro). led w (1 + length (word_of_frame First word)) l t.held) r.at
+            ∙ one_more w check ops t.held t.held (length (word_of_frame First word)) (onward others (with_value First (word_address f.address) t.held))
             (by_window w (display_start + suc k) q.x ops t.held frame (omega arith)) (b.leads others t.held q.x (word_address f.address) frame within few q.value);
       }
 

@@ -15,7 +15,8 @@ use Rattle.pe_code.specs.declared.code.PeInsn.{PeInsn}
 use Rattle.pe_code.specs.declared.code.PeItem.{PeItem}
 use Rattle.pe_code.specs.declared.code.PeCode.{PeCode}
 use Rattle.pe_code.specs.Code.{picked_from}
-use Rattle.pe_code.specs.Valid.{all_picked_from, IsValid}
+use Rattle.pe_code.specs.Valid.{all_picked_from, parts_run_by, all_parts_run, places_in, all_places_in, IsValid}
+use Rattle.rv_straight.proofs.Sizes.{faults_few}
 use Rattle.rv_select.specs.declared.numbers.Start.{Start}
 use Rattle.rv_select.specs.Numbers.{first_item, fixed_entries, block_count, entry_count, blocks_in, entries_in, place_in}
 use Rattle.rv_select.specs.Program.{row, rows}
@@ -46,7 +47,7 @@ entries_of_part [] (suc k) = omega arith
 entries_of_part (j ∷ is) zero = omega arith
 entries_of_part (j ∷ is) (suc k) = let rest = entries_of_part is k in omega arith
 
-block_count_few : (i : PeInsn) → block_count i ≤ 4
+block_count_few : (i : PeInsn) → block_count i ≤ 4 + 2 * parts_run_by i
 block_count_few (insn.Op1 Neg x) = omega arith
 block_count_few (insn.Op1 Not x) = omega arith
 block_count_few (insn.Op1 Ord x) = omega arith
@@ -57,11 +58,24 @@ block_count_few (insn.Op2 Mul x y) = omega arith
 block_count_few (insn.Op2 Div x y) = omega arith
 block_count_few (insn.Op2 Rem x y) = omega arith
 block_count_few (insn.Op2 op x y) = omega arith
+block_count_few (insn.Eval ss) = let faults = faults_few ss in omega arith
+block_count_few (insn.Set k ss) = let faults = faults_few ss in omega arith
 block_count_few i = omega arith
 
-blocks_few : (is : List PeItem) → blocks_in is ≤ 4 * length is
+blocks_few : (is : List PeItem) → blocks_in is ≤ 4 * length is + 2 * all_parts_run is
 blocks_few [] = omega arith
 blocks_few (i ∷ is) = let rest = blocks_few is in let here = block_count_few i.insn in omega arith
+
+-- an item is one place at most
+place_few : (i : PeInsn) → places_in i ≤ 1
+place_few (insn.Eval ss) = omega arith
+place_few (insn.Set k ss) = omega arith
+place_few insn.Done = omega arith
+place_few i = omega arith
+
+pub places_few : (is : List PeItem) → all_places_in is ≤ length is
+places_few [] = omega arith
+places_few (i ∷ is) = let rest = places_few is in let here = place_few i.insn in omega arith
 
 parts_few : (is : List PeItem) (k : ℕ) (i : PeItem) → slice_get is k ≡ Some i → length (picked_from i.insn) ≤ all_picked_from is
 parts_few [] k i h = absurd (cc)
@@ -108,17 +122,17 @@ begun_more is starts next more k before size n e a h =
     ap (λ (l : List Start). slice_get l a) e ∙ ap (λ j. slice_get (starts ++ next ∷ []) j) last ∙ slice_get_last starts next ∙ ap (λ (z : Start). Some z) (n ∙ ap (λ j. start_in is j) (sym same ∙ sym last)))
     (cases_lt a (k + 1))
 
-pub labels_fit : (is : List PeItem) (a : ℕ) → length is ≤ 65536 → (start_in is a).label ≤ 262197
-labels_fit is a few = let part = blocks_of_part is a in let whole = blocks_few is in omega arith
+pub labels_fit : (is : List PeItem) (a : ℕ) → length is ≤ 65536 → all_parts_run is ≤ all_places_in is → (start_in is a).label ≤ 393269
+labels_fit is a few run = let part = blocks_of_part is a in let whole = blocks_few is in let places = places_few is in omega arith
 
 pub entries_fit : (is : List PeItem) (a : ℕ) → length is ≤ 65536 → all_picked_from is ≤ length is → (start_in is a).entry ≤ 393231
 entries_fit is a few parts = let part = entries_of_part is a in let whole = entries_few is in omega arith
 
-pub next_label_fits : (is : List PeItem) (k : ℕ) (i : PeItem) (start : Start) → slice_get is k ≡ Some i → start ≡ start_in is k → length is ≤ 65536 → start.label + block_count i.insn < 2 ^ 32
-next_label_fits is k i start h s few =
+pub next_label_fits : (is : List PeItem) (k : ℕ) (i : PeItem) (start : Start) → slice_get is k ≡ Some i → start ≡ start_in is k → length is ≤ 65536 → all_parts_run is ≤ all_places_in is → start.label + block_count i.insn < 2 ^ 32
+next_label_fits is k i start h s few run =
     let begun = ap (λ (z : Start). z.label) s in
     let more = blocks_more is k i h in
-    let fit = labels_fit is (suc k) few in
+    let fit = labels_fit is (suc k) few run in
     omega arith
 
 pub next_entry_fits : (is : List PeItem) (k : ℕ) (i : PeItem) (start : Start) → slice_get is k ≡ Some i → start ≡ start_in is k → length is ≤ 65536 → all_picked_from is ≤ length is → start.entry + entry_count i.insn < 2 ^ 32
@@ -151,7 +165,7 @@ start_at code starts a j s valid begun least read =
     let entry = ap (λ (z : Start). z.entry) is in
     let few = valid.few in
     let parts = valid.parts in
-    let labels = labels_fit code.items a few in
+    let labels = labels_fit code.items a few valid.straight in
     let entries = entries_fit code.items a few parts in
     record { label = label; entry = entry; few_labels = omega arith; few_entries = omega arith }
 

@@ -13,17 +13,20 @@ use Rattle.pe_code.specs.declared.code.PeInsn.{PeInsn}
 use Rattle.pe_code.specs.declared.code.PeInsn.TheVariants as insn
 use Rattle.pe_code.specs.declared.code.PeCode.{PeCode}
 use Rattle.pe_code.specs.Code.{shape_of, picked_from}
+use Rattle.pe_code.specs.Valid.{parts_run_by, places_in}
 use Rattle.pe_frame.specs.Frames.{frame_words, display_start, words_of_context}
 use Rattle.rv_insn.specs.declared.instructions.RegOp.TheVariants as reg
-use Rattle.rv_word.specs.declared.micros.Register.TheVariants.{Frame, Context, Top, First, Second, Third}
+use Rattle.rv_word.specs.declared.micros.Register.TheVariants.{Frame, Context, Top, Datum, First, Second, Third}
 use Rattle.rv_word.specs.declared.micros.Micro.{Micro}
-use Rattle.rv_word.specs.declared.micros.Micro.TheVariants.{Set, Alu, Window, Get, Save, Look, Enter}
+use Rattle.rv_word.specs.declared.micros.Micro.TheVariants.{Set, Alu, Window, Get, Save, Look, Jump, Enter}
 use Rattle.rv_word.specs.Costs.{set_cost, block_words}
 use Rattle.rv_flow.specs.Laws.{blocks_words}
 use Rattle.rv_operators.specs.Operators.{word_of}
-use Rattle.rv_select.specs.Numbers.{entry_count, label_of, entry_number, entry_word, column_word, column_of, row_address}
+use Rattle.rv_straight.specs.Straight.{straight_code}
+use Rattle.rv_straight.proofs.Sizes.{reach_few, short as straight_short}
+use Rattle.rv_select.specs.Numbers.{meet, entry_count, label_of, entry_number, entry_word, column_word, column_of, row_address}
 use Rattle.rv_select.specs.Blocks.{behind, reach, open_context, at_top, push, push_frame, bind, put_entry, index_block, main_block, left_block, new_block, unary_fault_blocks, binary_fault_blocks, blocks_of}
-use Rattle.rv_select.proofs.Wp.{set_most, window_most}
+use Rattle.rv_select.proofs.Wp.{set_most}
 
 -- ---- operations
 
@@ -51,22 +54,8 @@ words_joined (x ∷ xs) ys = let rest = words_joined xs ys in omega arith
 
 -- ---- the shared parts
 
-choice_words : (b : Bool) (p q : List Micro) (n : ℕ) → block_words p ≤ n → block_words q ≤ n → block_words (if b then p else q) ≤ n
-choice_words true p q n h k = h
-choice_words false p q n h k = k
-
-reach_words : (k : ℕ) → block_words (reach k) ≤ 11
-reach_words zero = omega arith
-reach_words (suc k) =
-    let inner : block_words (if nat_lt (display_start + k) 510 then behind First Frame 255 ∷ Get First First (display_start + k - 255) ∷ []
-    else behind First Frame 255 ∷ behind First First 255 ∷ Get First First (display_start + k - 510) ∷ []) ≤ 3 =
-    choice_words (nat_lt (display_start + k) 510) _ _ 3 (omega arith) (omega arith) in
-    let outer = choice_words (nat_lt (display_start + k) 256) (Get First Frame (display_start + k) ∷ []) _ 3 (omega arith) inner in
-    let window = window_most (display_start + suc k) in
-    omega arith
-
 reach_then : (k : ℕ) (rest : List Micro) → block_words (reach k ++ rest) ≤ 11 + block_words rest
-reach_then k rest = let near = reach_words k in let all = words_behind (reach k) rest in omega arith
+reach_then k rest = let near = (reach_few First k).words in let all = words_behind (reach k) rest in omega arith
 
 pub push_words : (entry label : ℕ) → entry < 2 ^ 28 → block_words (push entry label) ≤ 20
 push_words entry label lt = let few = set_short (entry_word entry) (omega arith) in omega arith
@@ -143,7 +132,8 @@ module _ (code : PeCode) (a : ℕ) where
     put_few kind.Char = omega arith
     put_few kind.Bool = omega arith
 
-    pub insn_words : (i : PeInsn) → IsSmall code d i → 2 * entry_count i + blocks_words (blocks_of code a d i) ≤ 58 + 2 * length (picked_from i)
+    -- straight code that an item runs takes at most 23 words a part
+    pub insn_words : (i : PeInsn) → IsSmall code d i → 2 * entry_count i + blocks_words (blocks_of code a d i) + 23 * places_in i ≤ 58 + 2 * length (picked_from i) + 23 * parts_run_by i
     insn_words (insn.UseVar k s) h =
         let row = set_short (row_address code s) (h.shape s refl) in
         let all = reach_then k (
@@ -199,3 +189,12 @@ module _ (code : PeCode) (a : ℕ) where
     insn_words (insn.Accept y) h = let body = own_bind y h in omega arith
     insn_words (insn.Put kind x) h = let main = push_words (put_entry kind) 0 (put_few kind) in omega arith
     insn_words (insn.Read x) h = omega arith
+    insn_words (insn.Eval ss) h =
+        let own = (straight_short ss (label_of code a + 1)).words in
+        let all = words_behind (straight_code ss 0 (label_of code a + 1)) (Jump meet ∷ []) in
+        omega arith
+    insn_words (insn.Set k ss) h =
+        let own = (straight_short ss (label_of code a + 1)).words in
+        let tail = reach_then k (Window First 3 ∷ Save First 2 Datum ∷ Jump meet ∷ []) in
+        let all = words_behind (straight_code ss 0 (label_of code a + 1)) (reach k ++ (Window First 3 ∷ Save First 2 Datum ∷ Jump meet ∷ [])) in
+        omega arith

@@ -17,7 +17,7 @@ use Rattle.fy_phrase.specs.Copy.{byte_or_end}
 use Rattle.pe_code.specs.declared.code.PeInsn.{PeInsn}
 use Rattle.pe_code.specs.declared.code.PeInsn.TheVariants as insn
 use Rattle.pe_code.specs.declared.code.PeCode.{PeCode}
-use Rattle.pe_code.specs.Code.{item_at, body_of}
+use Rattle.pe_code.specs.Code.{item_at, body_of, straight_of}
 use Rattle.pe_code.specs.Valid.{LeadsTo, IsThunkNode, IsSoundItem}
 use Rattle.pe_frame.specs.Frames.{frame_words}
 use Rattle.pe_machine.specs.States.{Pointer, Thunk, source, datum, code_at, PeContext}
@@ -30,6 +30,7 @@ use Rattle.rv_word.specs.declared.micros.Micro.TheVariants.{Set, Window, Get, Sa
 use Rattle.rv_word.specs.Word.{Data, Code, Led, word_address, taken_in, block}
 use Rattle.rv_operators.specs.Operators.{word_of}
 use Rattle.rv_operators.specs.Laws.{IsDatum}
+use Rattle.rv_straight.specs.Laws.{AreInRange}
 use Rattle.rv_select.specs.Numbers.{label_of, entry_number, entry_word, pop_entry, column_word, datum_column, escape_column, column_of}
 use Rattle.rv_select.specs.Blocks.{move, reach, at_top, open_context, open_frame, bind, put_entry, main_block}
 use Rattle.rv_select.specs.Layout.{word_in, frame_word, frames_from, column, payload, IsGoodThunk, ContextIsLaid, HasItems, HoldsItems}
@@ -45,6 +46,7 @@ use Rattle.rv_select.proofs.Landing.{AreBytes, Keeps, has_same, has_more, went_c
 use Rattle.rv_select.proofs.Making.{open_length, framed, bound}
 use Rattle.rv_select.proofs.Reaching.{frame_small, reach_length, reached}
 use Rattle.rv_select.proofs.Indexing.{used}
+use Rattle.rv_select.proofs.Evaluating.{runs_eval, runs_set}
 
 -- ---- a byte of input
 
@@ -604,38 +606,42 @@ module _ (code : PeCode) (w : Code) (sel : IsSelected code w) (help : Helpers) w
 
     -- ---- all of them
 
-    pub runs : (i : PeInsn) → Stands i → Sound i → ForSome (value_of i) IsDatum → ((y : ℕ) → body_of i ≡ Some y → 109 + 16 * d ≤ c) → Runs (executed code i d at here s)
-    runs (insn.UseVar k shape) stands sound good cost =
+    pub runs : (i : PeInsn) → Stands i → Sound i → ForSome (value_of i) IsDatum → ForSome (straight_of i) AreInRange → ((y : ℕ) → body_of i ≡ Some y → 109 + 16 * d ≤ c) → Runs (executed code i d at here s)
+    runs (insn.UseVar k shape) stands sound good range cost =
         wider w (Q (executed code (insn.UseVar k shape) d at here s)) 400 (300 + c) (record { rest = block w (label_of code here.address); held = e }) (omega arith)
         (used code w sel help s e k shape d (label_of code here.address) here.frame h f deep (sound.variable k refl) (sound.shape shape refl) (sel.main here.address _ stands))
-    runs (insn.Answer v) stands sound good cost =
+    runs (insn.Answer v) stands sound good range cost =
         runs_by (executed code (insn.Answer v) d at here s) (main_block code here.address d (insn.Answer v)) (sel.main here.address _ stands) (omega arith)
         (inl (went_value code w s.newest s.items v (with_value Datum (word_of v) e) e.input e.output (length e.words) (record { newest_is = h.newest_is; top_is = h.top_is; memory = h.memory; bytes = h.bytes }) refl (good v refl)
         (record { input_is = refl; output_is = refl; size_is = refl })))
-    runs (insn.Op1 op x) stands sound good cost = runs_op_1 op x stands sound
-    runs (insn.Op2 op x y) stands sound good cost = runs_op_2 op x y stands sound
-    runs (insn.Cond x y z) stands sound good cost = runs_cond x y z stands sound
-    runs (insn.Case x ys) stands sound good cost = runs_case x ys stands sound
-    runs (insn.Bind y) stands sound good cost = runs_bind y (newest_of s) refl stands sound (cost y refl)
-    runs (insn.Pass n y) stands sound good cost = runs_pass n y stands sound
-    runs (insn.PassVar k y) stands sound good cost = runs_passvar k y (frame_from s.items k here.frame) refl stands sound
-    runs (insn.PassData v y) stands sound good cost = runs_passdata v y (good v refl) stands sound
-    runs (insn.Field i x) stands sound good cost = runs_field i x (newest_of s) refl stands sound
-    runs (insn.Pick i x) stands sound good cost = runs_pick i x stands sound
-    runs (insn.Let n y) stands sound good cost = runs_let (insn.Let n y) n y (sel.main here.address _ stands) (sound.thunk n refl) (sound.body y refl) (cost y refl)
-    runs (insn.LetVar k y) stands sound good cost = runs_letvar k y (frame_from s.items k here.frame) refl stands sound (cost y refl)
-    runs (insn.LetData v y) stands sound good cost = runs_letdata v y (good v refl) stands sound (cost y refl)
-    runs (insn.Knot n y) stands sound good cost = runs_let (insn.Knot n y) n y (sel.main here.address _ stands) (sound.thunk n refl) (sound.body y refl) (cost y refl)
-    runs insn.Done stands sound good cost =
+    runs (insn.Op1 op x) stands sound good range cost = runs_op_1 op x stands sound
+    runs (insn.Op2 op x y) stands sound good range cost = runs_op_2 op x y stands sound
+    runs (insn.Cond x y z) stands sound good range cost = runs_cond x y z stands sound
+    runs (insn.Case x ys) stands sound good range cost = runs_case x ys stands sound
+    runs (insn.Bind y) stands sound good range cost = runs_bind y (newest_of s) refl stands sound (cost y refl)
+    runs (insn.Pass n y) stands sound good range cost = runs_pass n y stands sound
+    runs (insn.PassVar k y) stands sound good range cost = runs_passvar k y (frame_from s.items k here.frame) refl stands sound
+    runs (insn.PassData v y) stands sound good range cost = runs_passdata v y (good v refl) stands sound
+    runs (insn.Field i x) stands sound good range cost = runs_field i x (newest_of s) refl stands sound
+    runs (insn.Pick i x) stands sound good range cost = runs_pick i x stands sound
+    runs (insn.Let n y) stands sound good range cost = runs_let (insn.Let n y) n y (sel.main here.address _ stands) (sound.thunk n refl) (sound.body y refl) (cost y refl)
+    runs (insn.LetVar k y) stands sound good range cost = runs_letvar k y (frame_from s.items k here.frame) refl stands sound (cost y refl)
+    runs (insn.LetData v y) stands sound good range cost = runs_letdata v y (good v refl) stands sound (cost y refl)
+    runs (insn.Knot n y) stands sound good range cost = runs_let (insn.Knot n y) n y (sel.main here.address _ stands) (sound.thunk n refl) (sound.body y refl) (cost y refl)
+    runs insn.Done stands sound good range cost =
         runs_by (executed code insn.Done d at here s) (main_block code here.address d insn.Done) (sel.main here.address _ stands) (omega arith)
         (inl (went_completed code w s.newest s.items e e.input e.output (length e.words) h (record { input_is = refl; output_is = refl; size_is = refl })))
-    runs (insn.Seq x y) stands sound good cost = runs_seq x y stands sound
-    runs (insn.Assign x y) stands sound good cost = runs_assign x y stands sound
-    runs (insn.While x y) stands sound good cost = runs_while x y stands sound
-    runs (insn.Loop x) stands sound good cost = runs_loop x stands sound
-    runs (insn.New x y) stands sound good cost = runs_new x y stands sound
-    runs (insn.Cells x y) stands sound good cost = runs_cells x y stands sound
-    runs (insn.Escape y) stands sound good cost = runs_escape y stands sound (cost y refl)
-    runs (insn.Accept y) stands sound good cost = runs_accept y (newest_of s) refl stands sound (cost y refl)
-    runs (insn.Put kind x) stands sound good cost = runs_put kind x stands sound
-    runs (insn.Read x) stands sound good cost = runs_read x stands sound
+    runs (insn.Seq x y) stands sound good range cost = runs_seq x y stands sound
+    runs (insn.Assign x y) stands sound good range cost = runs_assign x y stands sound
+    runs (insn.While x y) stands sound good range cost = runs_while x y stands sound
+    runs (insn.Loop x) stands sound good range cost = runs_loop x stands sound
+    runs (insn.New x y) stands sound good range cost = runs_new x y stands sound
+    runs (insn.Cells x y) stands sound good range cost = runs_cells x y stands sound
+    runs (insn.Escape y) stands sound good range cost = runs_escape y stands sound (cost y refl)
+    runs (insn.Accept y) stands sound good range cost = runs_accept y (newest_of s) refl stands sound (cost y refl)
+    runs (insn.Put kind x) stands sound good range cost = runs_put kind x stands sound
+    runs (insn.Read x) stands sound good range cost = runs_read x stands sound
+    runs (insn.Eval ss) stands sound good range cost =
+        runs_eval code w sel help s e h here d f deep c enough (record { insn = insn.Eval ss; depth = d; place = at }) ss stands refl (sound.straight ss refl) (range ss refl) (sel.main here.address _ stands)
+    runs (insn.Set k ss) stands sound good range cost =
+        runs_set code w sel help s e h here d f deep c enough (record { insn = insn.Set k ss; depth = d; place = at }) k ss stands refl (sound.straight ss refl) (range ss refl) (sound.variable k refl) (sel.main here.address _ stands)

@@ -5,13 +5,19 @@ use Rattle.std.proofs.lemmas.List.{length-map}
 use Rattle.std.proofs.lemmas.Option.{same_Some, slice_get_within}
 use Rattle.std.specs.Prelude.{slice_get, slice_index_or, nat_le, nat_eq}
 use Rattle.std.specs.Option.{ForSome}
+use Rattle.pe_code.specs.declared.code.PeInsn.{PeInsn}
+use Rattle.pe_code.specs.declared.code.PeInsn.TheVariants as insn
+use Rattle.pe_code.specs.declared.code.StraightPart.{StraightPart}
+use Rattle.pe_code.specs.declared.code.StraightPart.TheVariants as part
 use Rattle.pe_code.specs.declared.code.PeItem.{PeItem}
 use Rattle.pe_code.specs.declared.code.PeCode.{PeCode}
-use Rattle.pe_code.specs.Code.{item_at, beside, picked_from}
-use Rattle.pe_code.specs.Valid.{LeadsTo, IsSoundItem, IsValid, all_picked_from}
+use Rattle.pe_code.specs.Code.{item_at, beside, picked_from, straight_of}
+use Rattle.pe_code.specs.Valid.{LeadsTo, IsSoundPart, IsSoundItem, IsValid, all_picked_from}
 use Rattle.rv_word.specs.Discipline.{Bounds, bounds_of}
 use Rattle.rv_operators.specs.Operators.{word_of}
 use Rattle.rv_operators.specs.Laws.{IsDatum}
+use Rattle.rv_straight.specs.Straight.{fault_blocks}
+use Rattle.rv_straight.specs.Laws.{IsInRange, AreInRange, IsFine}
 use Rattle.rv_select.specs.Numbers.{first_item, block_count, blocks_in, entries_in, label_of, entry_number, row_words, column_word, place_in, column_of, row_address}
 use Rattle.rv_select.specs.Blocks.{blocks_of}
 use Rattle.rv_select.specs.Program.{item_blocks, word_code}
@@ -41,6 +47,12 @@ block_inside : (is : List PeItem) (a k : ℕ) (i : PeItem) → slice_get is a �
 block_inside [] a k i h lt = absurd (cc)
 block_inside (j ∷ is) zero k i h lt = let same = ap (λ (z : PeItem). block_count z.insn) (same_Some j i h) in omega arith
 block_inside (j ∷ is) (suc a) k i h lt = let rest = block_inside is a k i h lt in omega arith
+
+-- straight code has a block for each fault behind its own
+faults_counted : (i : PeInsn) (ss : List StraightPart) → straight_of i ≡ Some ss → block_count i ≡ suc (length (fault_blocks ss))
+faults_counted (insn.Eval qs) ss e = ap (λ (z : List StraightPart). suc (length (fault_blocks z))) (same_Some qs ss e)
+faults_counted (insn.Set k qs) ss e = ap (λ (z : List StraightPart). suc (length (fault_blocks z))) (same_Some qs ss e)
+faults_counted i ss e = absurd cc
 
 -- ---- other numbers
 
@@ -118,8 +130,28 @@ module _ (code : PeCode) (ok : IsSelectable code) where
     indexed = λ s e. shape_fits s (indexed s e);
   }
 
+  item_place : (a : ℕ) (i : PeItem) → item_at code a ≡ Some i → a < length (word_code code).places
+  item_place a i h = let within = slice_get_within code.items a i h in let size = length-map code.items (λ (j : PeItem). j.place) in omega arith
+
   sound_at : (a : ℕ) (i : PeItem) → item_at code a ≡ Some i → IsSoundItem code i
   sound_at a i h = all_found (λ j. IsSoundItem code j) code.items a i ok.valid.items h
+
+  -- a part of straight code that is valid, whose literals are in range
+  fine_part : (depth : ℕ) (s : StraightPart) → depth ≤ 512 → IsSoundPart code depth s → IsInRange s → IsFine (length (word_code code).places) s
+  fine_part depth (part.Literal v) le sound range = range
+  fine_part depth (part.Cell k) le sound range = omega arith
+  fine_part depth (part.Unary op a) le sound range = item_place a sound.item sound.stands
+  fine_part depth (part.Binary op a) le sound range = item_place a sound.item sound.stands
+
+  -- its faults' labels are those of blocks
+  faults_within : (a count : ℕ) (i : PeItem) → item_at code a ≡ Some i → block_count i.insn ≡ suc count → label_of code a + 1 + count ≤ (bounds code).blocks
+  faults_within a count i h is =
+      let within = block_inside code.items a count i h (omega arith) in
+      let number = blocks_number code in
+      omega arith
+
+  faults_fit : (a : ℕ) (i : PeItem) (ss : List StraightPart) → item_at code a ≡ Some i → straight_of i.insn ≡ Some ss → label_of code a + 1 + length (fault_blocks ss) ≤ (bounds code).blocks
+  faults_fit a i ss h e = faults_within a (length (fault_blocks ss)) i h (faults_counted i.insn ss e)
 
   pub insn_fits : (a : ℕ) (i : PeItem) → item_at code a ≡ Some i → InsnFits code (bounds code) a i.depth i.insn
   insn_fits a i h =
@@ -128,12 +160,14 @@ module _ (code : PeCode) (ok : IsSelectable code) where
         deep = sound.depth;
         here = led_label i.depth a (record { item = i; stands = h; depth_is = refl });
         own = λ k lt. label_fits a k i h lt;
-        place = (let within = slice_get_within code.items a i h in let size = length-map code.items (λ (j : PeItem). j.place) in lt-ltb a (length (word_code code).places) (omega arith));
+        place = lt-ltb a (length (word_code code).places) (item_place a i h);
         beside = λ k n lt. led_label i.depth (slice_index_or (beside i.insn) k n) (sound.beside_it k n lt);
         body = λ y e. led_label (i.depth + 1) y (sound.body y e);
         variable = λ k e. (let lt = sound.variable k e in let deep = sound.depth in omega arith);
         shape = λ s e. shape_fits s (sound.shape s e);
         parts = (let within = picked_inside code.items a i h in let parts = ok.valid.parts in let few = ok.valid.few in lt-ltb (length (picked_from i.insn)) (2 ^ 64) (omega arith));
+        straight = λ ss e k n lt. fine_part i.depth (slice_index_or ss k n) sound.depth ((sound.straight ss e).parts k n lt) (all_found (λ j. ForSome (straight_of j.insn) AreInRange) code.items a i ok.straight h ss e k n lt);
+        faults = λ ss e. faults_fit a i ss h e;
         value = λ v e. lt-ltb (word_of v) (2 ^ 64) (word_small v (all_found (λ j. ForSome (value_of j.insn) IsDatum) code.items a i ok.values h v e));
       }
 

@@ -11,6 +11,7 @@ use Rattle.rv_word.specs.Word.{Data, Code, State, Led, goes, hangs, stops, wrong
 use Rattle.rv_word.specs.Laws.{WordOutputGrows}
 use Rattle.rv_runtime.specs.Laws as runtime
 use Rattle.rv_operators.specs.Laws as operators
+use Rattle.rv_straight.specs.Laws.{StraightCodeWorks}
 use Rattle.rv_select.specs.Layout.{Stands}
 
 -- what is proved of the routines and the operators
@@ -23,6 +24,7 @@ pub record Helpers : Type 0 where
   pub binary : operators.BinaryOperatorsWork
   pub unary_fits : operators.UnaryResultsFit
   pub binary_fits : operators.BinaryResultsFit
+  pub straight : StraightCodeWorks
   pub grows : WordOutputGrows
 
 -- a state that stands for one of items, with this input left, this output and so many words

@@ -1,5 +1,5 @@
 -- How many items selected code has.
-use Rattle.std.proofs.Common.{◌≡◌, ℕ, suc, ◌+◌, ◌≤◌, Bool, true, false, List, [], ◌∷◌, ◌++◌, length, refl, arith, length-append}
+use Rattle.std.proofs.Common.{◌≡◌, ℕ, suc, ◌+◌, ◌*◌, ◌≤◌, Bool, true, false, List, [], ◌∷◌, ◌++◌, length, refl, arith, length-append}
 use Rattle.std.proofs.lemmas.Bool.{cond_both}
 use Rattle.std.proofs.lemmas.List.{length-map}
 use Rattle.std.specs.Prelude.{nat_lt, nat_le, if◌then◌else◌}
@@ -10,6 +10,7 @@ use Rattle.fy_base.specs.declared.data.BinOp.TheVariants.{Add, Sub, Mul, Div, Re
 use Rattle.pe_code.specs.declared.code.PeInsn.{PeInsn}
 use Rattle.pe_code.specs.declared.code.PeInsn.TheVariants as insn
 use Rattle.pe_code.specs.declared.code.PeItem.{PeItem}
+use Rattle.pe_code.specs.Valid.{parts_run_by, all_parts_run}
 use Rattle.rv_asm.specs.declared.items.Item.{Item}
 use Rattle.rv_asm.specs.declared.items.Item.TheVariants.{Plain, FarTo, BranchTo}
 use Rattle.rv_insn.specs.declared.instructions.BranchOp.TheVariants.{Bltu}
@@ -25,7 +26,9 @@ use Rattle.rv_flow.specs.Lowering.{number_of, plain, lowered, micro_items, block
 use Rattle.rv_flow.specs.Laws.{blocks_words}
 use Rattle.rv_select.specs.Numbers.{block_count, entry_count, blocks_in, entries_in}
 use Rattle.rv_select.specs.Program.{word_code}
+use Rattle.rv_straight.proofs.Sizes.{faults_few}
 use Rattle.rv_select.specs.Sizes.{SelectionIsCounted}
+use Rattle.rv_select.proofs.Counted.{places_few}
 use Rattle.rv_select.proofs.Placed.{entries_total, rows_length}
 use Rattle.rv_select.proofs.Fitting.{blocks_number}
 use Rattle.rv_select.proofs.Short.{words_few}
@@ -71,7 +74,7 @@ items_few w =
     let rest = blocks_few (length w.entries) (length w.table) 0 w.blocks in
     omega (arith, length-append (entry_items w.entries) (blocks_items (length w.entries) (length w.table) 0 w.blocks), length-map w.entries (λ label. FarTo label))
 
--- ---- an item has at most one block more than entries
+-- ---- an item has at most one block more than entries, but for the faults of straight code
 
 unary_blocks : (op : UnOp) (x : ℕ) → block_count (insn.Op1 op x) ≤ 1 + entry_count (insn.Op1 op x)
 unary_blocks Neg x = omega arith
@@ -87,12 +90,14 @@ binary_blocks Div x y = omega arith
 binary_blocks Rem x y = omega arith
 binary_blocks op x y = omega arith
 
-insn_blocks : (i : PeInsn) → block_count i ≤ 1 + entry_count i
-insn_blocks (insn.Op1 op x) = unary_blocks op x
-insn_blocks (insn.Op2 op x y) = binary_blocks op x y
+insn_blocks : (i : PeInsn) → block_count i ≤ 1 + entry_count i + 2 * parts_run_by i
+insn_blocks (insn.Op1 op x) = let few = unary_blocks op x in omega arith
+insn_blocks (insn.Op2 op x y) = let few = binary_blocks op x y in omega arith
+insn_blocks (insn.Eval ss) = let faults = faults_few ss in omega arith
+insn_blocks (insn.Set k ss) = let faults = faults_few ss in omega arith
 insn_blocks i = omega arith
 
-all_blocks : (is : List PeItem) → blocks_in is ≤ length is + entries_in is
+all_blocks : (is : List PeItem) → blocks_in is ≤ length is + entries_in is + 2 * all_parts_run is
 all_blocks [] = omega arith
 all_blocks (i ∷ is) = let here = insn_blocks i.insn in let rest = all_blocks is in omega arith
 
@@ -108,6 +113,8 @@ counted code ok = record {
       let entries = entries_total code 0 code.items in
       let more = all_blocks code.items in
       let few = ok.valid.few in
+      let run = ok.valid.straight in
+      let places = places_few code.items in
       omega arith;
   table = rows_length code code.shapes 0;
 }

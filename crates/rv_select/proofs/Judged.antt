@@ -1,10 +1,10 @@
 -- The blocks and entries of an item are disciplined.
-use Rattle.std.proofs.Common.{◌≡◌, ℕ, zero, suc, ◌+◌, ◌*◌, ◌^◌, ◌<◌, ◌≤◌, true, List, [], ◌∷◌, length, map, refl, arith, lt-ltb}
+use Rattle.std.proofs.Common.{◌≡◌, ℕ, zero, suc, ◌+◌, ◌*◌, ◌^◌, ◌<◌, ◌≤◌, true, List, [], ◌∷◌, ◌++◌, length, map, refl, arith, lt-ltb}
 use Rattle.std.proofs.lemmas.Bool.{and_from, le-leb}
 use Rattle.std.proofs.lemmas.List.Elements.{All-head, All-tail}
 use Rattle.std.specs.Prelude.{nat_lt, nat_le, All}
 use Rattle.std.specs.Option.{ForSome}
-use Rattle.fy_base.specs.declared.data.Datum.{Datum}
+use Rattle.fy_base.specs.declared.data.Datum.{Datum as DatumType}
 use Rattle.fy_base.specs.declared.data.UnOp.{UnOp}
 use Rattle.fy_base.specs.declared.data.UnOp.TheVariants.{Neg, Not, Ord, Chr}
 use Rattle.fy_base.specs.declared.data.BinOp.{BinOp}
@@ -14,17 +14,22 @@ use Rattle.fy_base.specs.declared.data.PutKind.TheVariants as kind
 use Rattle.pe_code.specs.declared.code.PeInsn.{PeInsn}
 use Rattle.pe_code.specs.declared.code.PeInsn.TheVariants as insn
 use Rattle.pe_code.specs.declared.code.PeCode.{PeCode}
-use Rattle.pe_code.specs.Code.{beside, body_of, variable_of, shape_of, picked_from}
-use Rattle.pe_frame.specs.Frames.{frame_words, words_of_context}
+use Rattle.pe_code.specs.declared.code.StraightPart.{StraightPart}
+use Rattle.pe_code.specs.Code.{beside, body_of, variable_of, shape_of, picked_from, straight_of}
+use Rattle.pe_frame.specs.Frames.{frame_words, display_start, words_of_context}
 use Rattle.fy_base.specs.declared.data.FaultKind.TheVariants as fault
 use Rattle.rv_word.specs.declared.micros.Micro.{Micro}
-use Rattle.rv_word.specs.declared.micros.Micro.TheVariants.{Fault}
+use Rattle.rv_word.specs.declared.micros.Micro.TheVariants.{Window, Save, Jump, Fault}
+use Rattle.rv_word.specs.declared.micros.Register.TheVariants.{Frame, Datum, First}
 use Rattle.rv_word.specs.Word.{zeros}
 use Rattle.rv_word.specs.Discipline.{Bounds, is_disciplined_from, are_disciplined, are_below}
 use Rattle.rv_runtime.specs.Routines.{exhausted, make_frame}
 use Rattle.rv_operators.specs.Operators.{word_of, unary_label, binary_label}
+use Rattle.rv_straight.specs.Straight.{word_of_frame, fault_blocks}
+use Rattle.rv_straight.specs.Laws.{IsFine}
+use Rattle.rv_straight.proofs.Fine.{reach_needs, disciplined, faults_fine}
 use Rattle.rv_select.specs.Numbers.{meet, first_operator, pop_label, count_label, first_item, block_count, label_of, entry_number, entry_word, column_word, column_of, row_address}
-use Rattle.rv_select.specs.Blocks.{push, push_frame, bind, reach, put_entry, main_block, left_block, if_block, case_block, then_block, assign_block, while_block, again_block, new_block, unary_fault_blocks, binary_fault_blocks, blocks_of, entries_of}
+use Rattle.rv_select.specs.Blocks.{move, push, push_frame, bind, reach, put_entry, main_block, left_block, if_block, case_block, then_block, assign_block, while_block, again_block, new_block, unary_fault_blocks, binary_fault_blocks, blocks_of, entries_of}
 use Rattle.rv_select.specs.Laws.{value_of}
 use Rattle.rv_select.proofs.Judging.{IsLabel, IsWord, chained, reach_fine, push_fine, push_frame_fine, bind_fine}
 
@@ -49,6 +54,8 @@ pub record InsnFits (code : PeCode) (b : Bounds) (a d : ℕ) (i : PeInsn) : Type
   pub shape : ForSome (shape_of i) (λ s. (nat_le 1 b.table_words ≡ true) × IsWord (row_address code s))
   pub parts : IsWord (length (picked_from i))
   pub value : ForSome (value_of i) (λ v. IsWord (word_of v))
+  pub straight : ForSome (straight_of i) (λ ss. All (λ s. IsFine b.places s) ss)
+  pub faults : ForSome (straight_of i) (λ ss. label_of code a + 1 + length (fault_blocks ss) ≤ b.blocks)
 
 -- ---- the blocks of an item
 
@@ -117,7 +124,7 @@ module _ (code : PeCode) (b : Bounds) (fits : Fits code b) where
         and_from (nat_lt (column_word (column_of code n)) (2 ^ 64)) (is_disciplined_from b zeros (bind d (label_of code y) (entry_number code y))) (fits.columns n) (bound y deep there)
 
     -- of a datum
-    bound_datum : (v : Datum) (y : ℕ) → d ≤ 512 → IsWord (word_of v) → IsLabel b (label_of code y) → is_disciplined_from b zeros (main_block code a d (insn.LetData v y)) ≡ true
+    bound_datum : (v : DatumType) (y : ℕ) → d ≤ 512 → IsWord (word_of v) → IsLabel b (label_of code y) → is_disciplined_from b zeros (main_block code a d (insn.LetData v y)) ≡ true
     bound_datum v y deep word there =
         and_from (nat_lt (word_of v) (2 ^ 64)) (is_disciplined_from b zeros (bind d (label_of code y) (entry_number code y))) word (bound y deep there)
 
@@ -125,6 +132,15 @@ module _ (code : PeCode) (b : Bounds) (fits : Fits code b) where
     put_word kind.Int = refl
     put_word kind.Char = refl
     put_word kind.Bool = refl
+
+    -- straight code whose datum a variable's own cell takes
+    set_fine : (k : ℕ) (ss : List StraightPart) → k < 512 → All (λ s. IsFine b.places s) ss → label_of code a + 1 + length (fault_blocks ss) ≤ b.blocks
+        → is_disciplined_from b zeros (main_block code a d (insn.Set k ss)) ≡ true
+    set_fine zero ss lt fine fits =
+        disciplined b zeros ss (label_of code a + 1) (move First Frame) (Window First 3 ∷ Save First 2 Datum ∷ Jump meet ∷ []) fine fits (λ w. simp (low meet (omega arith)))
+    set_fine (suc k) ss lt fine fits =
+        disciplined b zeros ss (label_of code a + 1) (Window Frame (display_start + suc k)) (word_of_frame First (display_start + k) ++ (Window First 3 ∷ Save First 2 Datum ∷ Jump meet ∷ [])) fine fits
+        (λ w. chained b w (reach (suc k)) (Window First 3) (Save First 2 Datum ∷ Jump meet ∷ []) (reach_needs b 1 (suc k) w lt) (λ v. simp (low meet (omega arith))))
 
     pub blocks_fine : (i : PeInsn) → InsnFits code b a d i → are_disciplined b (blocks_of code a d i) ≡ true
     blocks_fine (insn.UseVar k s) h =
@@ -175,6 +191,14 @@ module _ (code : PeCode) (b : Bounds) (fits : Fits code b) where
     blocks_fine (insn.Put kind x) h =
         alone (main_block code a d (insn.Put kind x)) (push_fine b (put_entry kind) (label_of code x) (low exhausted (omega arith)) (put_word kind) (h.beside 0 0 (omega arith)))
     blocks_fine (insn.Read x) h = simp (low exhausted (omega arith), h.beside 0 0 (omega arith))
+    blocks_fine (insn.Eval ss) h =
+        let fine = h.straight ss refl in
+        and_from (is_disciplined_from b zeros (main_block code a d (insn.Eval ss))) (are_disciplined b (fault_blocks ss))
+        (disciplined b zeros ss (label_of code a + 1) (Jump meet) [] fine (h.faults ss refl) (λ w. simp (low meet (omega arith)))) (faults_fine b ss fine)
+    blocks_fine (insn.Set k ss) h =
+        let fine = h.straight ss refl in
+        and_from (is_disciplined_from b zeros (main_block code a d (insn.Set k ss))) (are_disciplined b (fault_blocks ss))
+        (set_fine k ss (h.variable k refl) fine (h.faults ss refl)) (faults_fine b ss fine)
 
     -- ---- its entries
 

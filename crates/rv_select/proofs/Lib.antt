@@ -11,6 +11,7 @@ pub mod Reaching
 pub mod Entering
 pub mod Asking
 pub mod Indexing
+pub mod Evaluating
 pub mod Executing
 pub mod Meeting
 pub mod Filling

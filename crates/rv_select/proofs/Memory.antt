@@ -143,6 +143,43 @@ hands_on code m (frame d b around ∷ is) k x f e h =
     by true (suc k) outward other g = hands_more code m (frame d b around) is f (outward k g)
     by false k outward other g = hands_more code m (frame d b around) is f (other g)
 
+-- ---- a variable's own cell
+
+-- the frame that was found stands below, and its binding is that at its address
+pub record IsOwn (is : List Item) (f : FoundFrame) : Type 0 where
+  pub below : f.address < address_on is
+  pub datum_is : datum_at f.address is ≡ datum_in f.binding
+
+own_more : (i : Item) (is : List Item) (f : FoundFrame) → IsOwn is f → IsOwn (i ∷ is) f
+own_more (sequence c) is f h = record { below = (let b = h.below in omega arith); datum_is = h.datum_is }
+own_more (context c o) is f h = record { below = (let b = h.below in omega arith); datum_is = h.datum_is }
+own_more (frame d b around) is f h =
+    let below = h.below in
+    record {
+      below = omega arith;
+      datum_is = cond-false (nat_eq f.address (address_on is)) (datum_in b) (datum_at f.address is) (ne_eqb f.address (address_on is) (λ e. omega arith)) ∙ h.datum_is;
+    }
+
+own_here : (d : ℕ) (b : ItemBinding) (around : Option ℕ) (is : List Item) → IsOwn (frame d b around ∷ is) (record { address = address_on is; binding = b })
+own_here d b around is = record {
+  below = (let room = frame_room d in omega arith);
+  datum_is = cond-true (nat_eq (address_on is) (address_on is)) (datum_in b) (datum_at (address_on is) is) (eq-eqb (address_on is) (address_on is) refl);
+}
+
+pub own_found : (is : List Item) (k : ℕ) (x : Option ℕ) (f : FoundFrame) → frame_from is k x ≡ Some f → IsOwn is f
+own_found [] k x f e = absurd (cc)
+own_found (sequence c ∷ is) k x f e = own_more (sequence c) is f (own_found is k x f e)
+own_found (context c o ∷ is) k x f e = own_more (context c o) is f (own_found is k x f e)
+own_found (frame d b around ∷ is) k x f e =
+    by (is_named x (address_on is)) k (λ j g. own_found is j around f g) (λ g. own_found is k x f g) e
+  where
+    by : (t : Bool) (k : ℕ) → ((j : ℕ) → frame_from is j around ≡ Some f → IsOwn is f) → (frame_from is k x ≡ Some f → IsOwn is f)
+        → cond t (from_frame k (record { address = address_on is; binding = b }) (λ j. frame_from is j around)) (frame_from is k x) ≡ Some f → IsOwn (frame d b around ∷ is) f
+    by true zero outward other g =
+        subst (λ (q : FoundFrame). IsOwn (frame d b around ∷ is) q) (same_Some (record { address = address_on is; binding = b }) f g) (own_here d b around is)
+    by true (suc k) outward other g = own_more (frame d b around) is f (outward k g)
+    by false k outward other g = own_more (frame d b around) is f (other g)
+
 -- ---- the frame in use
 
 -- word j of the display of the frame at word x, around which there are d frames

@@ -8,7 +8,7 @@ use Rattle.std.specs.declared.option.Option.{Option}
 use Rattle.pe_code.specs.declared.code.PeItem.{PeItem}
 use Rattle.pe_code.specs.declared.code.PeCode.{PeCode}
 use Rattle.pe_code.specs.Code.{entry_of}
-use Rattle.pe_code.specs.Valid.{IsValid, all_picked_from}
+use Rattle.pe_code.specs.Valid.{IsValid, all_picked_from, all_parts_run, all_places_in}
 use Rattle.pe_machine.specs.Step.{is_assignment, Asked, a_cell, a_length, no_part, asked_at}
 use Rattle.rv_flow.specs.Laws.{blocks_words}
 use Rattle.rv_runtime.specs.Routines.{routine_blocks}
@@ -27,7 +27,7 @@ use Rattle.rv_select.proofs.Counting.{IsSmall, insn_words, index_words, words_jo
 module _ (code : PeCode) where
   -- of items from address c on
   items_words : (c : ℕ) (is : List PeItem) → ((a : ℕ) (i : PeItem) → slice_get is a ≡ Some i → IsSmall code i.depth i.insn)
-      → 2 * entries_in is + blocks_words (item_blocks code c is) ≤ 58 * length is + 2 * all_picked_from is
+      → 2 * entries_in is + blocks_words (item_blocks code c is) + 23 * all_places_in is ≤ 58 * length is + 2 * all_picked_from is + 23 * all_parts_run is
   items_words c [] each = omega arith
   items_words c (i ∷ is) each =
       let rest = items_words (suc c) is (λ a j h. each (suc a) j h) in
@@ -40,6 +40,7 @@ module _ (code : PeCode) where
   words_few ok =
       let items = items_words 0 code.items (λ a i h. small_at code ok a i h) in
       let parts = ok.valid.parts in
+      let run = ok.valid.straight in
       let entries = entries_total code 0 code.items in
       let read = index_words code (element_entry false) code.sequences.value (omega arith) (index_small code ok) in
       let write = index_words code (element_entry true) code.sequences.value (omega arith) (index_small code ok) in

@@ -15,7 +15,7 @@ use Rattle.fy_phrase.specs.Contexts.{op_1, op_l, op_r, if_c, case_c, then_c, ass
 use Rattle.pe_code.specs.declared.code.PeInsn.TheVariants as insn
 use Rattle.pe_code.specs.declared.code.PeItem.{PeItem}
 use Rattle.pe_code.specs.declared.code.PeCode.{PeCode}
-use Rattle.pe_code.specs.Code.{item_at, body_of}
+use Rattle.pe_code.specs.Code.{item_at, body_of, straight_of}
 use Rattle.pe_code.specs.Valid.{IsSoundItem}
 use Rattle.pe_machine.specs.States.{Pointer, Focus, code_at, value, completed, PeContext}
 use Rattle.pe_items.specs.Items.{Item, address_on, FoundContext, ItemState}
@@ -30,6 +30,7 @@ use Rattle.rv_operators.specs.Laws.{IsDatum}
 use Rattle.rv_select.specs.Numbers.{meet, first_operator, right_entries, pop_label, count_label, put_int_label, put_char_label, put_bool_label, pop_entry, put_int_entry, put_char_entry, put_bool_entry, element_entry, label_of, entry_number, entry_word}
 use Rattle.rv_select.specs.Blocks.{behind, blocks_of, entries_of}
 use Rattle.rv_select.specs.Layout.{word_in, frame_word, frames_from, DropsCells, HoldsItems, RunsItem, HasFocus, Stands}
+use Rattle.rv_straight.specs.Laws.{AreInRange}
 use Rattle.rv_select.specs.Laws.{value_of, IsSelectable, frame_depth, deepest}
 use Rattle.rv_select.proofs.Runs.{Reach, wider}
 use Rattle.rv_select.proofs.Wp.{with_value, by_blocks}
@@ -323,6 +324,7 @@ module _ (code : PeCode) (w : Code) (sel : IsSelected code w) (help : Helpers) (
         wider w (Q code w sel help e0 (item.executed code i.insn i.depth i.place here s)) (300 + (109 + 16 * deepest code.items)) (step_cost (deepest code.items)) (record { rest = block w (label_of code here.address); held = e0 }) (omega arith)
         (runs code w sel help s e0 h here i.depth i.place f deep sound.depth (109 + 16 * deepest code.items) (omega arith) i.insn stands sound
         (all_found (λ j. ForSome (value_of j.insn) IsDatum) code.items here.address i ok.values stands)
+        (all_found (λ j. ForSome (straight_of j.insn) AreInRange) code.items here.address i ok.straight stands)
         (λ y body. let same = frame_is_deep i y body in omega arith))
 
     pub code_runs : (here : Pointer) (rest : List Micro) → RunsItem code w s.items here rest e0 → Reach w (Q code w sel help e0 (item_executed code (item_at code here.address) here s)) (step_cost (deepest code.items)) (record { rest = rest; held = e0 })

@@ -1,5 +1,5 @@
 -- The micro-code of push-enter instructions: what each does on the stack of words, and what its contexts do when they are met.
-use Rattle.std.specs.Prelude.{ℕ, zero, suc, ◌+◌, ◌-◌, ◌*◌, ◌^◌, pos, negsuc, true, false, nat_lt, if◌then◌else◌, List, [], ◌∷◌, ◌++◌, length, map, Some, None}
+use Rattle.std.specs.Prelude.{ℕ, zero, suc, ◌+◌, ◌*◌, ◌^◌, pos, negsuc, true, false, List, [], ◌∷◌, ◌++◌, length, map, Some, None}
 use Rattle.std.specs.declared.option.Option.{Option}
 use Rattle.fy_base.specs.declared.data.UnOp.{UnOp}
 use Rattle.fy_base.specs.declared.data.UnOp.TheVariants.{Neg, Chr}
@@ -16,32 +16,23 @@ use Rattle.rv_insn.specs.Program.{stack_start}
 use Rattle.pe_code.specs.declared.code.PeInsn.{PeInsn}
 use Rattle.pe_code.specs.declared.code.PeInsn.TheVariants as insn
 use Rattle.pe_code.specs.declared.code.PeCode.{PeCode}
-use Rattle.pe_frame.specs.Frames.{frame_words, display_start, words_of_context}
+use Rattle.pe_code.specs.declared.code.StraightPart.{StraightPart}
+use Rattle.pe_frame.specs.Frames.{frame_words, words_of_context}
 use Rattle.rv_word.specs.declared.micros.Register.{Register}
 use Rattle.rv_word.specs.declared.micros.Register.TheVariants.{Zero, Frame, Context, Top, Datum, First, Second, Third}
 use Rattle.rv_word.specs.declared.micros.Micro.{Micro}
 use Rattle.rv_word.specs.declared.micros.Micro.TheVariants.{Set, Imm, Shift, Alu, Window, Get, Save, Look, Room, Test, Jump, Enter, Put, Take, End, Fault}
 use Rattle.rv_runtime.specs.Routines.{exhausted, put_true, put_false, put_int, make_frame}
 use Rattle.rv_operators.specs.Operators.{word_of, unary_label, binary_label}
+pub use Rattle.rv_straight.specs.Straight.{move, behind}
+use Rattle.rv_straight.specs.Straight.{reach_in, straight_code, fault_blocks}
 use Rattle.rv_select.specs.Numbers.{meet, first_operator, leave_label, pop_label, count_label, no_count_label, fill_label, filled_label, outside_label, no_room_label, pop_entry, put_int_entry, put_char_entry, put_bool_entry, end_entry, element_entry, label_of, entry_number, entry_word, column_word, datum_column, cell_column, escape_column, sequence_column, column_of, row_address}
 
 -- ---- shared parts
 
-abbrev pub move : Register → Register → Micro
-move r s = Imm Addi r s (pos 0)
-
--- r is so many words behind s
-abbrev pub behind : Register → Register → ℕ → Micro
-behind r s k = Imm Addi r s (pos (8 * k))
-
--- the address of the frame of variable k in First: the frame itself, or what its display has. Offsets of loads reach 255 words
+-- the address of the frame of variable k in First
 abbrev pub reach : ℕ → List Micro
-reach zero = move First Frame ∷ []
-reach (suc k) =
-    Window Frame (display_start + suc k)
-    ∷ (if nat_lt (display_start + k) 256 then Get First Frame (display_start + k) ∷ []
-    else (if nat_lt (display_start + k) 510 then behind First Frame 255 ∷ Get First First (display_start + k - 255) ∷ []
-    else behind First Frame 255 ∷ behind First First 255 ∷ Get First First (display_start + k - 510) ∷ []))
+reach k = reach_in First k
 
 -- a context of which words were saved is the newest, and code goes on at a label
 abbrev pub open_context : ℕ → List Micro
@@ -87,6 +78,13 @@ abbrev pub put_entry : PutKind → ℕ
 put_entry kind.Int = put_int_entry
 put_entry kind.Char = put_char_entry
 put_entry kind.Bool = put_bool_entry
+
+-- straight code, whose faults are at labels from one on, puts its datum in focus, or a variable's own cell takes it
+abbrev pub eval_block : ℕ → List StraightPart → List Micro
+eval_block faults ss = straight_code ss 0 faults ++ (Jump meet ∷ [])
+
+abbrev pub set_block : ℕ → ℕ → List StraightPart → List Micro
+set_block faults k ss = straight_code ss 0 faults ++ (reach k ++ (Window First 3 ∷ Save First 2 Datum ∷ Jump meet ∷ []))
 
 -- ---- blocks, for the item at address a of depth d. A fault's place has the number of its item
 
@@ -147,6 +145,8 @@ module _ (code : PeCode) (a d : ℕ) where
   main_block (insn.Put kind x) = push (put_entry kind) (label_of code x)
   main_block (insn.Read x) =
       at_top ++ (Take First ∷ Save Top 1 Context ∷ Save Top 2 First ∷ open_context (label_of code x))
+  main_block (insn.Eval ss) = eval_block (block_label 1) ss
+  main_block (insn.Set k ss) = set_block (block_label 1) k ss
 
   -- ---- the blocks of its contexts
 
@@ -214,6 +214,8 @@ module _ (code : PeCode) (a d : ℕ) where
   blocks_of (insn.Loop x) = main_block (insn.Loop x) ∷ again_block ∷ []
   blocks_of (insn.New x y) = main_block (insn.New x y) ∷ new_block y ∷ []
   blocks_of (insn.Cells x y) = main_block (insn.Cells x y) ∷ bind_body y ∷ (Fault fault.Range a ∷ []) ∷ []
+  blocks_of (insn.Eval ss) = main_block (insn.Eval ss) ∷ fault_blocks ss
+  blocks_of (insn.Set k ss) = main_block (insn.Set k ss) ∷ fault_blocks ss
   blocks_of i = main_block i ∷ []
 
   abbrev pub unary_entries : UnOp → List ℕ

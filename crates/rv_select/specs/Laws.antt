@@ -12,7 +12,7 @@ use Rattle.pe_code.specs.declared.code.PeInsn.{PeInsn}
 use Rattle.pe_code.specs.declared.code.PeInsn.TheVariants as insn
 use Rattle.pe_code.specs.declared.code.PeItem.{PeItem}
 use Rattle.pe_code.specs.declared.code.PeCode.{PeCode}
-use Rattle.pe_code.specs.Code.{item_at, body_of}
+use Rattle.pe_code.specs.Code.{item_at, body_of, straight_of}
 use Rattle.pe_code.specs.Valid.{IsValid}
 use Rattle.pe_machine.specs.Run.{Standing, going, ended, faulted, stuck, gone}
 use Rattle.pe_machine.specs.States.{Pointer, code_at}
@@ -30,6 +30,7 @@ use Rattle.rv_word.specs.Laws.{output_of, at_entry}
 use Rattle.rv_flow.specs.Laws.{start_data, blocks_words}
 use Rattle.rv_flow.specs.Lowering.{micro_items}
 use Rattle.rv_operators.specs.Laws.{IsDatum}
+use Rattle.rv_straight.specs.Laws.{AreInRange}
 use Rattle.rv_select.specs.Numbers.{label_of}
 use Rattle.rv_select.specs.Program.{word_code}
 use Rattle.rv_select.specs.Layout.{Stands}
@@ -48,6 +49,7 @@ pub record IsSelectable (code : PeCode) : Type 0 where
   pub valid : IsValid code
   pub thunks : length code.thunks ≤ 1048576
   pub values : All (λ i. ForSome (value_of i.insn) IsDatum) code.items
+  pub straight : All (λ i. ForSome (straight_of i.insn) AreInRange) code.items
 
 -- the depth of the frame that an item makes, and the greatest of them
 abbrev pub frame_depth : PeItem → ℕ

@@ -11,6 +11,7 @@ use Rattle.pe_code.specs.declared.code.PeCode.{PeCode}
 use Rattle.rv_word.specs.Word.{table_address}
 use Rattle.rv_runtime.specs.Routines.{first_free}
 use Rattle.rv_operators.specs.Operators.{operator_count}
+use Rattle.rv_straight.specs.Straight.{fault_blocks}
 
 -- ---- labels of the blocks that every program has: the caller's, the routines, the operators, and those of selection
 
@@ -193,6 +194,8 @@ block_count (insn.While x y) = 3
 block_count (insn.Loop x) = 2
 block_count (insn.New x y) = 2
 block_count (insn.Cells x y) = 3
+block_count (insn.Eval ss) = suc (length (fault_blocks ss))
+block_count (insn.Set k ss) = suc (length (fault_blocks ss))
 block_count _ = 1
 
 -- its own entry first, then those of its contexts, each operator's followed by those of its faults; of a case then those of its parts.

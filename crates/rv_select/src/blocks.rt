@@ -2,10 +2,10 @@
 
 ghost use Rattle.std.specs.Prelude.{◌≡◌, ◌<◌, [], slice_index_or, IsTrue, OnOk};
 ghost use Rattle.std.specs.Option.{ForSome};
-ghost use Rattle.pe_code.specs.Code.{shape_of, variable_of};
+ghost use Rattle.pe_code.specs.Code.{shape_of, straight_of, variable_of};
 ghost use Rattle.rv_flow.specs.Emission.{are_near};
 ghost use Rattle.rv_select.specs.Numbers.{block_count};
-ghost use Rattle.rv_select.specs.Emission.{blocks_at};
+ghost use Rattle.rv_select.specs.Emission.{IsSmallStraight, blocks_at};
 
 use crate::further_blocks::add_further;
 use crate::main_blocks::add_main;
@@ -23,6 +23,7 @@ pub fn make_block(
 ) -> Result<(), OutOfMemory>
     requires variable { ForSome (variable_of insn.now) (λ k. k < 512) }
     requires shape { ForSome (shape_of insn.now) (λ s. s < site.now.numbers.now.shapes) }
+    requires straight { ForSome (straight_of insn.now) IsSmallStraight }
     requires inside { number < block_count insn.now }
     ensures made { OnOk result (block.new.items ≡ slice_index_or (blocks_at site.now insn.now) number []) }
     ensures near { OnOk result (IsTrue (are_near block.new.items)) }

@@ -3,13 +3,13 @@
 ghost use Rattle.std.specs.Prelude.{◌≡◌, ◌<◌, [], ◌∷◌, ◌++◌, drop, take, IsTrue, OnOk};
 ghost use Rattle.std.specs.Option.{ForSome};
 ghost use Rattle.pe_code.specs.declared.code.PeCode.{PeCode};
-ghost use Rattle.pe_code.specs.Code.{shape_of, variable_of};
+ghost use Rattle.pe_code.specs.Code.{shape_of, straight_of, variable_of};
 ghost use Rattle.rv_flow.specs.Emission.{are_near};
 ghost use Rattle.rv_operators.specs.Operators.{operator_blocks};
 ghost use Rattle.rv_runtime.specs.Routines.{routine_blocks};
 ghost use Rattle.rv_select.specs.Numbers.{first_item, first_operator, label_of, meet};
 ghost use Rattle.rv_select.specs.Blocks.{answer, caller_blocks, element_block, index_block, own_blocks, sequence_blocks};
-ghost use Rattle.rv_select.specs.Emission.{AddsBlocks, blocks_at};
+ghost use Rattle.rv_select.specs.Emission.{AddsBlocks, IsSmallStraight, blocks_at};
 ghost use Rattle.rv_select.specs.Program.{item_blocks, word_code};
 
 use crate::blocks::make_block;
@@ -21,7 +21,7 @@ use crate::fixed::{
     WRITE_ELEMENT_ENTRY, WRITE_ELEMENT_LABEL, WRITE_LABEL,
 };
 use crate::numbers::{Numbers, block_count};
-use crate::parts::{copy, word_of_entry, words_behind};
+use crate::parts::word_of_entry;
 use crate::sites::Site;
 use fy_base::OutOfMemory;
 use pe_code::PeInsn;
@@ -32,6 +32,7 @@ use rv_operators::{operators, operators_read_no_table};
 use rv_runtime::{
     EXHAUSTED, GO, MEET, PUT_FALSE, PUT_INT, PUT_TRUE, routines, routines_are_uniform,
 };
+use rv_straight::{copy, words_behind};
 use rv_word::Micro;
 use rv_word::Register::{Context, Datum, First, Frame, Second, Third, Top, Zero};
 use std::alloc::Global;
@@ -380,6 +381,7 @@ fn add_item(
 ) -> Result<(), OutOfMemory>
     requires variable { ForSome (variable_of insn.now) (λ k. k < 512) }
     requires shape { ForSome (shape_of insn.now) (λ s. s < site.now.numbers.now.shapes) }
+    requires straight { ForSome (straight_of insn.now) IsSmallStraight }
     ensures { OnOk result (AddsBlocks sizes (label_of site.now.numbers.now site.now.address) (blocks_at site.now insn.now) items.old.items items.new.items) }
 {
     for number in 0..block_count(insn) {

@@ -6,15 +6,14 @@ ghost use Rattle.rv_select.specs.Blocks.{again_block, answer_frame, assign_block
 ghost use Rattle.rv_select.specs.Emission.{Adds};
 
 use crate::fixed::{CELL_COLUMN, POP_ENTRY, POP_LABEL};
-use crate::parts::{
-    add_answer_frame, add_bind, add_open_frame, add_renew, word_of_entry, words_behind,
-};
+use crate::parts::{add_answer_frame, add_bind, add_open_frame, add_renew, word_of_entry};
 use crate::sites::Site;
 use fy_base::{BinOp, FaultKind, OutOfMemory, UnOp};
 use pe_code::PeInsn;
 use pe_frame::plan_frame;
 use rv_insn::{BranchOp, RegOp, ShiftOp};
 use rv_runtime::{EXHAUSTED, MEET};
+use rv_straight::{add_fault_block, words_behind};
 use rv_word::Micro;
 use rv_word::Register::{self, Context, Datum, First, Frame, Top, Zero};
 
@@ -53,6 +52,8 @@ pub fn add_further(
             1 => add_bind(block, site.depth, site.start(*y)),
             _ => add_fault(block, site, FaultKind::Range),
         },
+        PeInsn::Eval(parts) => add_fault_block(block, parts.as_slice(), number - 1),
+        PeInsn::Set(_, parts) => add_fault_block(block, parts.as_slice(), number - 1),
         _ => unreachable!(),
     }
 }

@@ -10,6 +10,7 @@ use rv_operators::{
 use rv_runtime::{
     exhaustion_is_told, frames_are_made, ints_are_put, routines_are_disciplined, truths_are_put,
 };
+use rv_straight::straight_code_works;
 use rv_word::word_output_grows;
 
 /// What k steps of the machine of items come to, the selected code comes to within
@@ -25,6 +26,7 @@ pub fn runs_reach()
     unary_operators_work();
     binary_operators_work();
     results_fit();
+    straight_code_works();
     word_output_grows();
 }
 
@@ -39,6 +41,7 @@ pub fn runs_follow()
     unary_operators_work();
     binary_operators_work();
     results_fit();
+    straight_code_works();
     word_output_grows();
 }
 

@@ -1,25 +1,26 @@
 //! The own blocks of items, one function for each form.
 
-ghost use Rattle.std.specs.Prelude.{◌≡◌, ℕ, ◌<◌, [], ◌∷◌, ◌++◌, OnOk};
+ghost use Rattle.std.specs.Prelude.{◌≡◌, ℕ, ◌+◌, ◌<◌, ◌≤◌, [], ◌∷◌, ◌++◌, length, All, OnOk};
 ghost use Rattle.std.specs.Option.{ForSome};
-ghost use Rattle.pe_code.specs.Code.{shape_of, variable_of};
-ghost use Rattle.rv_operators.specs.Operators.{word_of as word_of_datum};
-ghost use Rattle.rv_select.specs.Blocks.{main_block, open_argument, put_entry};
-ghost use Rattle.rv_select.specs.Emission.{Adds};
+ghost use Rattle.pe_code.specs.Code.{shape_of, straight_of, variable_of};
+ghost use Rattle.rv_straight.specs.Laws.{IsNear};
+ghost use Rattle.rv_select.specs.Numbers.{label_of};
+ghost use Rattle.rv_select.specs.Blocks.{eval_block, main_block, open_argument, put_entry, set_block};
+ghost use Rattle.rv_select.specs.Emission.{Adds, IsSmallStraight};
 
 use crate::fixed::{
     DATUM_COLUMN, ESCAPE_COLUMN, POP_ENTRY, PUT_BOOL_ENTRY, PUT_CHAR_ENTRY, PUT_INT_ENTRY,
 };
 use crate::parts::{
-    add_at_top, add_bind, add_open_context, add_open_frame, add_push, add_push_frame, add_reach,
-    copy, word_of_entry, words_behind,
+    add_at_top, add_bind, add_open_context, add_open_frame, add_push, add_push_frame, word_of_entry,
 };
 use crate::sites::Site;
 use fy_base::{Datum as Value, OutOfMemory, PutKind};
-use pe_code::PeInsn;
+use pe_code::{PeInsn, StraightPart};
 use pe_frame::plan_frame;
 use rv_insn::RegOp;
 use rv_runtime::{EXHAUSTED, MEET};
+use rv_straight::{add_reach, add_straight, copy, word_of, words_behind};
 use rv_word::Micro;
 use rv_word::Register::{Context, Datum, First, Frame, Second, Third, Top};
 
@@ -34,7 +35,7 @@ pub fn add_use(
     requires shape { shape < site.now.numbers.now.shapes }
     ensures { OnOk result (Adds site.now (λ code a d. main_block code a d (PeInsn.UseVar variable shape)) block.old.items block.new.items) }
 {
-    add_reach(block, variable)?;
+    add_reach(block, First, variable)?;
     block.extend_from_slice(&[
         Micro::Window(First, 2),
         Micro::Get(Second, First, 0),
@@ -57,17 +58,6 @@ pub fn add_datum(
 {
     block.extend_from_slice(&[Micro::Set(Datum, word_of(value)), Micro::Jump(MEET)])?;
     Ok(())
-}
-
-// The word in which a datum is kept.
-fn word_of(value: Value) -> u64
-    ensures { result ≡ word_of_datum value }
-{
-    match value {
-        Value::Int(number) => number.cast_unsigned(),
-        Value::Bool(truth) => truth as u64,
-        Value::Char(byte) => byte as u64,
-    }
 }
 
 /// An argument that is taken for a body.
@@ -116,7 +106,7 @@ pub fn add_pass_variable(
     requires { variable < 512 }
     ensures { OnOk result (Adds site.now (λ code a d. main_block code a d (PeInsn.PassVar variable procedure)) block.old.items block.new.items) }
 {
-    add_reach(block, variable)?;
+    add_reach(block, First, variable)?;
     block.extend_from_slice(&[
         Micro::Window(First, 2),
         Micro::Get(Second, First, 0),
@@ -204,7 +194,7 @@ pub fn add_let_variable(
     requires { variable < 512 }
     ensures { OnOk result (Adds site.now (λ code a d. main_block code a d (PeInsn.LetVar variable body)) block.old.items block.new.items) }
 {
-    add_reach(block, variable)?;
+    add_reach(block, First, variable)?;
     block.extend_from_slice(&[
         Micro::Window(First, 2),
         Micro::Get(Second, First, 1),
@@ -278,6 +268,43 @@ pub fn add_read(block: &mut Vec<Micro>, site: &Site<'_, '_>, target: u32) -> Res
     add_open_context(block, site.start(target).label)
 }
 
+/// Straight code whose datum is in focus then.
+pub fn add_eval(
+    block: &mut Vec<Micro>,
+    site: &Site<'_, '_>,
+    parts: &[StraightPart],
+) -> Result<(), OutOfMemory>
+    requires short { length parts.now ≤ 16 }
+    requires near { All IsNear parts.now }
+    ensures { OnOk result (block.new.items ≡ block.old.items ++ eval_block (label_of site.now.numbers.now site.now.address + 1) parts.now) }
+{
+    add_straight(block, parts, site.label(1))?;
+    block.push(Micro::Jump(MEET))?;
+    Ok(())
+}
+
+/// Straight code whose datum a variable's own cell takes.
+pub fn add_set(
+    block: &mut Vec<Micro>,
+    site: &Site<'_, '_>,
+    variable: u32,
+    parts: &[StraightPart],
+) -> Result<(), OutOfMemory>
+    requires variable { variable < 512 }
+    requires short { length parts.now ≤ 16 }
+    requires near { All IsNear parts.now }
+    ensures { OnOk result (block.new.items ≡ block.old.items ++ set_block (label_of site.now.numbers.now site.now.address + 1) variable parts.now) }
+{
+    add_straight(block, parts, site.label(1))?;
+    add_reach(block, First, variable)?;
+    block.extend_from_slice(&[
+        Micro::Window(First, 3),
+        Micro::Save(First, 2, Datum),
+        Micro::Jump(MEET),
+    ])?;
+    Ok(())
+}
+
 /// The own block of an instruction.
 pub fn add_main(
     block: &mut Vec<Micro>,
@@ -286,6 +313,7 @@ pub fn add_main(
 ) -> Result<(), OutOfMemory>
     requires variable { ForSome (variable_of insn.now) (λ k. k < 512) }
     requires shape { ForSome (shape_of insn.now) (λ s. s < site.now.numbers.now.shapes) }
+    requires straight { ForSome (straight_of insn.now) IsSmallStraight }
     ensures { OnOk result (Adds site.now (λ code a d. main_block code a d insn.now) block.old.items block.new.items) }
 {
     match insn {
@@ -315,6 +343,8 @@ pub fn add_main(
         PeInsn::Accept(body) => add_accept(block, site, *body),
         PeInsn::Put(kind, x) => add_push(block, put_entry(*kind), site.start(*x).label),
         PeInsn::Read(x) => add_read(block, site, *x),
+        PeInsn::Eval(parts) => add_eval(block, site, parts.as_slice()),
+        PeInsn::Set(variable, parts) => add_set(block, site, *variable, parts.as_slice()),
     }
 }
 

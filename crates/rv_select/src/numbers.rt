@@ -1,9 +1,10 @@
 //! The numbers by which blocks name blocks, entries and words of the table.
 
-ghost use Rattle.std.specs.Prelude.{◌≡◌, ◌^◌, ◌<◌, ◌≤◌, length, IfOk};
+ghost use Rattle.std.specs.Prelude.{◌≡◌, ◌^◌, ◌<◌, ◌≤◌, length, All, IfOk};
+ghost use Rattle.std.specs.Option.{ForSome};
 ghost use Rattle.fy_base.specs.declared.data.BinOp.{BinOp};
-ghost use Rattle.pe_code.specs.Code.{picked_from};
-ghost use Rattle.pe_code.specs.Valid.{all_picked_from, IsValid};
+ghost use Rattle.pe_code.specs.Code.{picked_from, straight_of};
+ghost use Rattle.pe_code.specs.Valid.{all_parts_run, all_picked_from, all_places_in, IsValid};
 ghost use Rattle.rv_select.specs.Numbers.{binary_faults, block_count, column_of, column_word, entry_count, place_in, row_address, unary_faults};
 ghost use Rattle.rv_select.specs.Numbering.{AreColumns, AreStarts, IsStart};
 
@@ -11,6 +12,7 @@ use crate::fixed::{FIRST_ITEM, FIRST_ITEM_ENTRY, FIXED_COLUMNS};
 use fy_base::{BinOp, OutOfMemory, UnOp};
 use indexmap::IndexMap;
 use pe_code::{PeCode, PeInsn, PeItem};
+use rv_straight::fault_count;
 use std::alloc::Global;
 use std::marker::Model;
 
@@ -111,6 +113,8 @@ impl Numbers<'_> {
 fn starts_of(alloc: Global, items: &[PeItem]) -> Result<Vec<Start>, OutOfMemory>
     requires few { length items.now ≤ 65536 }
     requires parts { all_picked_from items.now ≤ length items.now }
+    requires straight { all_parts_run items.now ≤ all_places_in items.now }
+    requires short { All (λ item. ForSome (straight_of item.insn) (λ ss. length ss ≤ 16)) items.now }
     ensures { IfOk result (λ starts. AreStarts items.now starts.items) }
 {
     let mut next = Start {
@@ -145,9 +149,13 @@ fn columns_of(alloc: Global, nodes: &[u32]) -> Result<IndexMap<u32, usize>, OutO
 
 /// How many blocks an instruction has: its own, those of its contexts, and those of its faults.
 pub fn block_count(insn: &PeInsn) -> u32
-    ensures { result ≡ block_count insn.now }
+    requires { ForSome (straight_of insn.now) (λ ss. length ss ≤ 16) }
+    ensures is { result ≡ block_count insn.now }
+    ensures few { result ≤ 33 }
 {
     match insn {
+        PeInsn::Eval(parts) => 1 + fault_count(parts.as_slice()),
+        PeInsn::Set(_, parts) => 1 + fault_count(parts.as_slice()),
         PeInsn::Op1(op, _) => 1 + unary_faults(*op),
         PeInsn::Op2(op, ..) => 2 + binary_faults(*op),
         PeInsn::Case(..) | PeInsn::While(..) | PeInsn::Cells(..) => 3,

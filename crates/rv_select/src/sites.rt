@@ -1,6 +1,6 @@
 //! Items whose blocks are made.
 
-ghost use Rattle.std.specs.Prelude.{◌≡◌, ◌+◌, ◌≤◌, ℕ};
+ghost use Rattle.std.specs.Prelude.{◌≡◌, ◌+◌, ◌^◌, ◌≤◌, ℕ};
 ghost use Rattle.rv_select.specs.Numbers.{entry_number, label_of};
 
 use crate::numbers::{Numbers, Start};
@@ -18,8 +18,9 @@ pub struct Site<'a, 'c> {
 impl Site<'_, '_> {
     /// The label of one of its first blocks.
     pub fn label(&self, number: u32) -> u32
-        requires { number ≤ 8 }
-        ensures { result ≡ label_of self.now.numbers.now self.now.address + number }
+        requires { number ≤ 40 }
+        ensures is { result ≡ label_of self.now.numbers.now self.now.address + number }
+        ensures few { result ≤ 2 ^ 20 + 40 }
     {
         self.numbers.start(self.address).label + number
     }

@@ -10,6 +10,6 @@ loop-number-preserved c =
     let site = c.args.site.now in
     let count = blocks_length site.numbers.now site.address site.depth c.args.insn.now in
     let inside : c.loop-number.number < length (blocks_at site c.args.insn.now) = omega arith in
-    block_more (label_of site.numbers.now site.address) c.loop-number.number c.label.result c.deref.result.now (blocks_at site c.args.insn.now) _ _ inside c.label.ensures
+    block_more (label_of site.numbers.now site.address) c.loop-number.number c.label.result c.deref.result.now (blocks_at site c.args.insn.now) _ _ inside c.label.ensures.is
     (c.deref.ensures.value ∙ c.in_ok-make_block.ensures.made) c.in_ok-add.ensures
     ∙ c.loop-number.invariant

@@ -14,6 +14,7 @@ returns c =
       binary = c.binary_operators_work.ensures;
       unary_fits = c.results_fit.ensures.unary;
       binary_fits = c.results_fit.ensures.binary;
+      straight = c.straight_code_works.ensures;
       grows = c.word_output_grows.ensures;
     } in
     whole.runs_reach help

@@ -19,3 +19,6 @@ returns-in-Field c = rw c.in-Field.is (c.add_field.ensures c.in-Field.field-0)
 
 pub returns-in-Pick : goal.returns-in-Pick
 returns-in-Pick c = rw c.in-Pick.is (c.add_pick.ensures c.in-Pick.field-0)
+
+pub add_set-requires-clause-variable : goal.add_set-requires-clause-variable
+add_set-requires-clause-variable c = c.requires.variable c.in-Set.variable (ap variable_of c.in-Set.is)
