@@ -1,5 +1,5 @@
 -- The image of the code of a phrase.
-use Rattle.std.proofs.Common.{◌≡◌, ℕ, ◌+◌, ◌*◌, ◌≤◌, List, [], ◌∷◌, length, Option, Some, None, refl, ap, ◌∙◌, arith}
+use Rattle.std.proofs.Common.{◌≡◌, ℕ, ◌+◌, ◌*◌, ◌≤◌, Bool, List, [], ◌∷◌, length, Option, Some, None, refl, ap, ◌∙◌, arith}
 use Rattle.std.proofs.lemmas.List.Elements.{All-head, All-tail}
 use Rattle.std.proofs.Math.Nat.{mul-le-mul_right}
 use Rattle.std.specs.Prelude.{slice_get, is_some, if◌then◌else◌, All}
@@ -13,7 +13,7 @@ use Rattle.fy_derive.specs.ShapeTables.{plain_shape, HasJustPairs}
 use Rattle.fy_image.specs.declared.image.Image.{Image}
 use Rattle.pe_code.specs.declared.code.PeCode.{PeCode}
 use Rattle.pe_code.specs.declared.code.PeItem.{PeItem}
-use Rattle.pe_code.specs.Code.{body_of}
+use Rattle.pe_code.specs.Code.{body_of, straight_of}
 use Rattle.pe_code.specs.Valid.{IsValid}
 use Rattle.pe_right.specs.Constants.{constant}
 use Rattle.pe_right.specs.Right.{IsCodeOf}
@@ -21,6 +21,7 @@ use Rattle.pe_gen.specs.Sizes.{HasSizesOf}
 use Rattle.rv_operators.specs.Laws.{IsDatum}
 use Rattle.rv_select.specs.Images.{IsSelectionImage}
 use Rattle.rv_flow.specs.Laws.{CodeIsShort}
+use Rattle.rv_straight.specs.Laws.{AreInRange}
 use Rattle.rv_select.specs.Laws.{value_of, IsSelectable, deepest, SelectionIsShort}
 use Rattle.rv_select.specs.Program.{word_code}
 use Rattle.rv_select.specs.Sizes.{IsCounted}
@@ -34,18 +35,18 @@ some_shapes [] n s h = absurd (cc)
 some_shapes (x ∷ shapes) n s h = omega arith
 
 -- the program's own entry has a shape
-pub has_shapes : (p : Tree) (table : ShapeTable) (code : PeCode) → IsCodeOf constant p table code → 1 ≤ code.shapes
-has_shapes p table code right =
+pub has_shapes : (straight : ℕ → Bool) (p : Tree) (table : ShapeTable) (code : PeCode) → IsCodeOf constant straight p table code → 1 ≤ code.shapes
+has_shapes straight p table code right =
     let run = right.program in
     let some = some_shapes table.shapes run.0 _ run.1 in
     let all = right.shapes in
     omega arith
 
-pub selectable : (code : PeCode) → 1 ≤ code.shapes → IsValid code → All (λ item. ForSome (value_of item.insn) IsDatum) code.items → IsSelectable code
-selectable code some valid values =
+pub selectable : (code : PeCode) → 1 ≤ code.shapes → IsValid code → All (λ item. ForSome (value_of item.insn) IsDatum) code.items → All (λ item. ForSome (straight_of item.insn) AreInRange) code.items → IsSelectable code
+selectable code some valid values straight =
     let words = valid.words in
     let one : 1 * (4 + length code.thunks) ≤ code.shapes * (4 + length code.thunks) = mul-le-mul_right (4 + length code.thunks) (omega arith) in
-    record { valid = valid; thunks = omega arith; values = values }
+    record { valid = valid; thunks = omega arith; values = values; straight = straight }
 
 -- ---- its frames
 

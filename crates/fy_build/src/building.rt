@@ -16,7 +16,7 @@ ghost use Rattle.rv_guard.specs.Guarded.{IsGuarded};
 ghost use Rattle.rv_select.specs.Images.{IsSelectionImage};
 ghost use Rattle.rv_select.specs.Laws.{IsSelectable};
 ghost use Rattle.fy_build.specs.Headline.{RunsAsCopyRule};
-ghost use Rattle.fy_build.specs.Selected.{IsRightCode, IsSelectedBy, IsSelectedFrom};
+ghost use Rattle.fy_build.specs.Selected.{IsRightCode, IsSelectedBy, IsSelectedFrom, IsStraightCode};
 ghost use Rattle.fy_build.specs.Building.{IsProgramPhrase, IsStackSize, HasTableWords, IsAccepted, IsRefused};
 ghost use Rattle.fy_build.specs.declared.error.BuildError.{BuildError};
 
@@ -28,7 +28,7 @@ use fy_derive::{Derivation, check};
 use fy_image::Image;
 use fy_phrase::{Phrase, ShapeTable};
 use pe_code::PeCode;
-use pe_gen::{direct, generate};
+use pe_gen::{direct, generate, straighten};
 use pe_shapes::shapes_of;
 use rv_asm::{AsmError, Assembled, Item, assemble};
 use rv_flow::{code_is_short, images_are_guarded};
@@ -93,6 +93,29 @@ pub fn code_of(alloc: Global, p: &Phrase, table: &ShapeTable) -> Result<PeCode, 
     Ok(code)
 }
 
+/// The code that images are selected from: that of `code_of`, in which expressions of literals, operators
+/// and variables that are cells, and assignments of such to such variables, are evaluated in one step.
+///
+/// # Errors
+///
+/// `OutOfMemory` alone.
+pub fn straight_code_of(
+    alloc: Global,
+    p: &Phrase,
+    table: &ShapeTable,
+) -> Result<PeCode, OutOfMemory>
+    requires phrase { IsProgramPhrase (reads p.now) }
+    requires table { IsTableOf (reads p.now) table.now }
+    requires limits { KeepsLimits (reads p.now) table.now }
+    ensures right { IfOk result (λ code. IsStraightCode (reads p.now) table.now code) }
+    ensures sizes { IfOk result (λ code. HasSizesOf (reads p.now) code) }
+    ensures few { IfOk result (λ code. length code.items ≤ length table.now.pairs) }
+{
+    let direct = code_of(alloc, p, table)?;
+    let code = straighten(alloc, p, direct)?;
+    Ok(code)
+}
+
 /// The image of a program's phrase by the table of demand shapes of a derivation that is accepted, for
 /// who has judged the derivation and made the table already: [`build`] is this behind both.
 ///
@@ -117,7 +140,7 @@ pub fn image_of(
     ensures ranges { IfOk result (λ image. IsImage image) }
     ensures guarded { IfOk result (λ image. IsGuarded image) }
 {
-    let code = code_of(alloc, p, table)?;
+    let code = straight_code_of(alloc, p, table)?;
     read_values(code.items.as_slice());
     let image = image_of_code(alloc, &code, stack_words)?;
     code_runs_as_copy_rule();

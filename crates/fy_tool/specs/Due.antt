@@ -23,7 +23,7 @@ use Rattle.rv_insn.specs.Program.{Program}
 use Rattle.rv_machine.specs.Start.{IsProgramOf}
 use Rattle.pe_shapes.specs.Order.{AreInOrder}
 use Rattle.fy_build.specs.Building.{HasTableWords}
-use Rattle.fy_build.specs.Selected.{IsRightCode, IsSelectedBy}
+use Rattle.fy_build.specs.Selected.{IsCodeWanted, IsSelectedBy}
 use Rattle.fy_build.specs.Headline.{AreBytes, RunsAsCopyRule}
 use Rattle.fy_build.specs.Shown.{RunEnd, ShowsCopyRule}
 use Rattle.fy_least.specs.Pairs.{HasAllPairs}
@@ -89,7 +89,7 @@ signature_of (orders.build file image stack named) = record (taking (program_tex
 signature_of (orders.exec image steps last) = record (taking (image_bytes image)) { runs_image = true; ready_first = is_none last }
 signature_of (orders.run file steps stack named image) = record (taking (program_text file)) { derivation = named; keeps = Some (kept_as file image); runs_image = true }
 signature_of (orders.copy file steps) = record (taking (program_text file)) { ready_first = false }
-signature_of (orders.trace file steps) = record (taking (program_text file)) { ready_first = false }
+signature_of (orders.trace file steps straight) = record (taking (program_text file)) { ready_first = false }
 signature_of (orders.list file) = record (taking (program_text file)) { ready_first = false }
 signature_of (orders.sample number size) = record (taking (sample_program number size)) { keeps = Some (codes "sample.img"); runs_image = true }
 signature_of (orders.audit image) = taking (image_bytes image)
@@ -262,10 +262,10 @@ pub data IsDue (sources : Sources) (input : Bytes) : Option Order → Due → Ty
   copies : (file : Bytes) (steps : Option ℕ) (text : Bytes) (p : Tree) (d : PlainDerivation) (n : ℕ) (end : CopyEnd) → sources.file ≡ Some text → IsProgramText text p → IsInUse p d → HasAllPairs [] p d
       → IsCopyRun (record { phrase = p; input = input; limit = copy_wanted steps }) n end
       → IsDue sources input (Some (orders.copy file steps)) (copied (record { phrase = p; input = input; limit = copy_wanted steps }) n end)
-  -- `trace` runs the phrase's code by that derivation, whose shapes are numbered in order, with constants handed as data, on a machine with so many words of stack, and tells each step
-  traces : (file : Bytes) (steps : Option ℕ) (text : Bytes) (p : Tree) (names : List Bytes) (d : PlainDerivation) (code : PeCode) (n : ℕ) (end : StepEnd) → sources.file ≡ Some text
-      → IsProgramText text p → HasNames text names → (used : IsInUse p d) → AreInOrder used.table → HasAllPairs [] p d → IsRightCode p used.table code → IsSteppedRun (stepping_of code names input (trace_steps_wanted steps)) n end
-      → IsDue sources input (Some (orders.trace file steps)) (stepped (stepping_of code names input (trace_steps_wanted steps)) n end)
+  -- `trace` runs the phrase's code by that derivation, whose shapes are numbered in order, with constants handed as data, on a machine with so many words of stack, and tells each step; with nodes evaluated in one step where that is asked
+  traces : (file : Bytes) (steps : Option ℕ) (straight : Bool) (text : Bytes) (p : Tree) (names : List Bytes) (d : PlainDerivation) (code : PeCode) (n : ℕ) (end : StepEnd) → sources.file ≡ Some text
+      → IsProgramText text p → HasNames text names → (used : IsInUse p d) → AreInOrder used.table → HasAllPairs [] p d → IsCodeWanted straight p used.table code → IsSteppedRun (stepping_of code names input (trace_steps_wanted steps)) n end
+      → IsDue sources input (Some (orders.trace file steps straight)) (stepped (stepping_of code names input (trace_steps_wanted steps)) n end)
   -- `audit` of a guarded image
   audits : (name bytes : Bytes) (image : Image) → sources.file ≡ Some bytes → IsImageBytes image bytes → IsGuarded image → IsDue sources input (Some (orders.audit name)) audited
   -- `audit` of an image that isn't guarded tells the word; by `images_are_judged_one_way` there is no other, and no guarded image has one

@@ -1,6 +1,6 @@
 -- What the parts of a command's work did with texts, derivations and the images of programs.
 use Rattle.std.specs.Borrow.{Bor}
-use Rattle.std.specs.Prelude.{◌≡◌, ◌⊎◌, ℕ, ◌+◌, ◌<◌, ◌≤◌, false, List, [], ◌∷◌, ◌++◌, length, map, All, IsUtf8, Some, None, Ok, Err, MatchOption, MatchResult, IfOk}
+use Rattle.std.specs.Prelude.{◌≡◌, ◌⊎◌, ℕ, ◌+◌, ◌<◌, ◌≤◌, Bool, false, List, [], ◌∷◌, ◌++◌, length, map, All, IsUtf8, Some, None, Ok, Err, MatchOption, MatchResult, IfOk}
 use Rattle.std.specs.declared.alloc.Global.{Global}
 use Rattle.std.specs.declared.option.Option.{Option}
 use Rattle.std.specs.declared.result.Result.{Result}
@@ -41,7 +41,7 @@ use Rattle.fy_elf.specs.Elf.{IsElfBytes}
 use Rattle.fy_elf.specs.Memory.{LoadsAsStart}
 use Rattle.fy_elf.specs.Refusals as elf
 use Rattle.fy_elf.specs.declared.error.ElfError.{ElfError}
-use Rattle.fy_build.specs.Selected.{IsRightCode, IsSelectedBy}
+use Rattle.fy_build.specs.Selected.{IsCodeWanted, IsSelectedBy}
 use Rattle.fy_build.specs.Building.{HasTableWords}
 use Rattle.fy_build.specs.Headline.{RunsAsCopyRule}
 use Rattle.fy_link.specs.Links.{IsLinked, IsUnlinked}
@@ -293,10 +293,10 @@ Lists program stack before now result = IsUnbegun before now result ⊎ HasListe
 
 -- ---- push-enter code
 
--- the code of a program ran so
-pub record HasTraced (program : Program) (limit : ℕ) (before now : Contents) (result : Result ℕ Stop) : Type 0 where
+-- the code of a program ran so, with nodes that are evaluated in one step or with none
+pub record HasTraced (program : Program) (straight : Bool) (limit : ℕ) (before now : Contents) (result : Result ℕ Stop) : Type 0 where
   pub code : PeCode
-  pub right : IsRightCode (reads program.phrase) program.table code
+  pub right : IsCodeWanted straight (reads program.phrase) program.table code
   pub run : HasStepped code program.names limit before now result
 
 -- ---- units

@@ -54,7 +54,11 @@ pub(crate) fn serve<W: World>(alloc: Global, command: Command, world: &mut W) ->
             image,
         } => run_file(alloc, file, steps, stack, derivation, image, world),
         Command::Copy { file, steps } => copy_file(alloc, file, steps, world),
-        Command::Trace { file, steps } => trace_file(alloc, file, steps, world),
+        Command::Trace {
+            file,
+            steps,
+            straight,
+        } => trace_file(alloc, file, steps, straight, world),
         Command::List { file } => list_file(alloc, file, world),
         Command::Sample { number, size } => run_sample(alloc, number, size, world),
         Command::Audit { image } => audit_file(alloc, image, world),

@@ -19,7 +19,7 @@ pub data Order : Type 0 where
   exec : (image : Bytes) (steps last : Option ℕ) → Order
   run : (file : Bytes) (steps stack : Option ℕ) (derivation image : Option Bytes) → Order
   copy : (file : Bytes) (steps : Option ℕ) → Order
-  trace : (file : Bytes) (steps : Option ℕ) → Order
+  trace : (file : Bytes) (steps : Option ℕ) (straight : Bool) → Order
   list : (file : Bytes) → Order
   sample : (number size : ℕ) → Order
   audit : (image : Bytes) → Order
@@ -40,7 +40,7 @@ order_of (command.Build file image stack derivation) = build file.now image.now 
 order_of (command.Exec image steps last) = exec image.now steps last
 order_of (command.Run file steps stack derivation image) = run file.now steps stack (option_map (λ name. name.now) derivation) (option_map (λ name. name.now) image)
 order_of (command.Copy file steps) = copy file.now steps
-order_of (command.Trace file steps) = trace file.now steps
+order_of (command.Trace file steps straight) = trace file.now steps straight
 order_of (command.List file) = list file.now
 order_of (command.Sample number size) = sample number size
 order_of (command.Audit image) = audit image.now
@@ -123,6 +123,12 @@ at_most_once form [] = Some None
 at_most_once form (value ∷ []) = option_map Some (form value)
 at_most_once form (value ∷ other ∷ more) = None
 
+-- an option without a value that stands among the words at most once: whether it is among them
+abbrev pub flag : List Bytes → Option Bool
+flag [] = Some false
+flag ([] ∷ []) = Some true
+flag _ = None
+
 abbrev pub image_option : List Bytes → Option (Option Bytes)
 image_option words = at_most_once name_of (values (codes "--image=") words)
 
@@ -142,6 +148,10 @@ copy_option words = at_most_once (number_in 1 1000000000) (values (codes "--step
 -- the steps of push-enter code
 abbrev pub trace_steps_option : List Bytes → Option (Option ℕ)
 trace_steps_option words = at_most_once (number_in 1 1000000) (values (codes "--steps=") words)
+
+-- code in which nodes are evaluated in one step
+abbrev pub straight_option : List Bytes → Option Bool
+straight_option words = flag (values (codes "--straight") words)
 
 abbrev pub trace_option : List Bytes → Option (Option ℕ)
 trace_option words = at_most_once (number_in 1 4096) (values (codes "--trace=") words)
@@ -215,13 +225,14 @@ copy_with _ _ = None
 abbrev pub copy_from : List Bytes → Option Order
 copy_from words = if are_known (codes "--steps=" ∷ []) words then copy_with (only_operand (operands words)) (copy_option words) else None
 
--- `trace FILE [--steps=N]`
-abbrev pub trace_with : Option Bytes → Option (Option ℕ) → Option Order
-trace_with (Some file) (Some steps) = Some (trace file steps)
-trace_with _ _ = None
+-- `trace FILE [--steps=N] [--straight]`
+abbrev pub trace_with : Option Bytes → Option (Option ℕ) → Option Bool → Option Order
+trace_with (Some file) (Some steps) (Some straight) = Some (trace file steps straight)
+trace_with _ _ _ = None
 
 abbrev pub trace_from : List Bytes → Option Order
-trace_from words = if are_known (codes "--steps=" ∷ []) words then trace_with (only_operand (operands words)) (trace_steps_option words) else None
+trace_from words =
+    if are_known (codes "--steps=" ∷ codes "--straight" ∷ []) words then trace_with (only_operand (operands words)) (trace_steps_option words) (straight_option words) else None
 
 -- `list FILE`
 abbrev pub list_from : List Bytes → Option Order
@@ -325,7 +336,7 @@ abbrev pub IsInRange : Order → Type 0
 IsInRange (build file image stack derivation) = IsStackInRange stack
 IsInRange (run file steps stack derivation image) = IsStackInRange stack
 IsInRange (copy file steps) = copy_wanted steps ≤ 1000000000
-IsInRange (trace file steps) = trace_steps_wanted steps ≤ 1000000
+IsInRange (trace file steps straight) = trace_steps_wanted steps ≤ 1000000
 IsInRange (sample number size) = (number < 2 ^ 32) × (1 ≤ size) × (size ≤ 2000)
 IsInRange (check file) = Unit {0}
 IsInRange (derive file) = Unit {0}

@@ -6,7 +6,7 @@ ghost use Rattle.fy_words.specs.Order.{IsInRange, IsStackInRange, copy_wanted, t
 ghost use Rattle.fy_words.specs.Order.{stack_option, trace_option, steps_option, check_from, build_from, exec_from, run_from, list_from, sample_from, command_from, order_of, copy_option, copy_from, trace_steps_option, trace_from, derive_from, judge_from, why_from, width_option, audit_from, migrate_from, elf_from, unelf_from, unit_from, join_from, link_from};
 
 use crate::words::{
-    are_known, both_names, both_operands, name_option, number_in, number_option, only_operand,
+    are_known, both_names, both_operands, flag, name_option, number_in, number_option, only_operand,
 };
 
 /// What the words ask for. An option that isn't among the words is `None`.
@@ -56,10 +56,11 @@ pub enum Command<'a> {
         file: &'a str,
         steps: Option<u64>,
     },
-    /// Runs the push-enter code of the text in the file, and tells each step.
+    /// Runs the push-enter code of the text in the file, with nodes that are evaluated in one step or with none, and tells each step.
     Trace {
         file: &'a str,
         steps: Option<u64>,
+        straight: bool,
     },
     /// Lists the image of the text in the file.
     List {
@@ -290,17 +291,22 @@ fn copy_of(words: &[String]) -> Option<Command<'_>>
     Some(Command::Copy { file, steps })
 }
 
-// `trace FILE [--steps=N]`
+// `trace FILE [--steps=N] [--straight]`
 fn trace_of(words: &[String]) -> Option<Command<'_>>
     ensures order { option_map order_of result ≡ trace_from (map string_bytes words.now) }
     ensures stack { IfSome result (λ command. IsInRange (order_of command)) }
 {
-    if !are_known(&["--steps="], words) {
+    if !are_known(&["--steps=", "--straight"], words) {
         return None;
     }
     let file = only_operand(words)?;
     let steps = trace_steps_option(words)?;
-    Some(Command::Trace { file, steps })
+    let straight = flag("--straight", words)?;
+    Some(Command::Trace {
+        file,
+        steps,
+        straight,
+    })
 }
 
 // `list FILE`

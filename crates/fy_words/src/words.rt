@@ -2,7 +2,7 @@
 
 ghost use Rattle.std.specs.Prelude.{◌≡◌, ◌≤◌, ◌<◌, ◌^◌, ◌-◌, ◌∷◌, ◌++◌, [], List, min, not, ◌||◌, IfSome, map, string_bytes};
 ghost use Rattle.std.specs.Option.{option_map, option_to_list};
-ghost use Rattle.fy_words.specs.Order.{is_option, operands, behind, values, has_key, are_known, name_of, number_in, only_operand, both_operands, both_names, at_most_once, number_from};
+ghost use Rattle.fy_words.specs.Order.{is_option, operands, behind, values, has_key, are_known, name_of, number_in, only_operand, both_operands, both_names, at_most_once, flag, number_from};
 ghost use Rattle.fy_base.specs.Outside.{Bytes};
 ghost use Rattle.fy_words.specs.Words.{AreFound};
 
@@ -178,6 +178,18 @@ pub(crate) fn name_option<'a>(key: &str, words: &'a [String]) -> Option<Option<&
     match values(key, words) {
         Found::Nothing => Some(None),
         Found::Once(name) if !name.is_empty() => Some(Some(name)),
+        _ => None,
+    }
+}
+
+/// Whether an option without a value stands among the words, or `None` where it has one or stands
+/// twice.
+pub(crate) fn flag(key: &str, words: &[String]) -> Option<bool>
+    ensures { result ≡ flag (values key.now (map string_bytes words.now)) }
+{
+    match values(key, words) {
+        Found::Nothing => Some(false),
+        Found::Once(rest) if rest.is_empty() => Some(true),
         _ => None,
     }
 }

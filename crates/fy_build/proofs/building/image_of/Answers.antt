@@ -6,6 +6,8 @@ use Rattle.fy_phrase.specs.Sizes.{depth}
 use Rattle.pe_code.specs.declared.code.PeItem.{PeItem}
 use Rattle.pe_right.specs.Constants.{constant}
 use Rattle.rv_operators.specs.Laws.{IsDatum}
+use Rattle.pe_code.specs.Code.{straight_of}
+use Rattle.rv_straight.specs.Laws.{AreInRange}
 use Rattle.rv_select.specs.Laws.{value_of}
 use Rattle.rv_select.specs.Program.{word_code}
 use Rattle.fy_build.proofs.Imaging.{has_shapes, selectable, deepest_below, has_table_words, few_words}
@@ -15,8 +17,9 @@ pub image_of_code-requires-clause-selectable : goal.image_of_code-requires-claus
 image_of_code-requires-clause-selectable c =
     let code = c.in_ok-code.code in
     let is = c.in_ok-code.ensures.right in
-    let values = subst (λ (items : List PeItem). All (λ item. ForSome (value_of item.insn) IsDatum) items) c.as_slice.ensures c.read_values.ensures in
-    selectable code (has_shapes (reads c.args.p.now) c.args.table.now code is.right) is.valid values
+    let values = subst (λ (items : List PeItem). All (λ item. ForSome (value_of item.insn) IsDatum) items) c.as_slice.ensures c.read_values.ensures.values in
+    let straight = subst (λ (items : List PeItem). All (λ item. ForSome (straight_of item.insn) AreInRange) items) c.as_slice.ensures c.read_values.ensures.straight in
+    selectable code (has_shapes is.right.0 (reads c.args.p.now) c.args.table.now code is.right.1) is.valid values straight
 
 pub returns-clause-runs : goal.returns-clause-runs
 returns-clause-runs c =
@@ -30,7 +33,7 @@ returns-clause-table c = λ d just.
     let code = c.in_ok-code.code in
     let made = c.in_ok-code.ensures in
     let is = c.in_ok-image.ensures.selection in
-    has_table_words (reads c.args.p.now) d c.args.table.now code c.in_ok-image.image made.right.right.shapes made.sizes (c.selection_is_counted.ensures code is.selectable) is just
+    has_table_words (reads c.args.p.now) d c.args.table.now code c.in_ok-image.image made.right.right.1.shapes made.sizes (c.selection_is_counted.ensures code is.selectable) is just
 
 pub returns-clause-selected : goal.returns-clause-selected
 returns-clause-selected c =
@@ -38,10 +41,12 @@ returns-clause-selected c =
     let made = c.in_ok-code.ensures in
     let is = c.in_ok-image.ensures.selection in
     record {
-      code = code;
-      right = made.right.right;
-      laid_out = made.right.laid_out;
-      hands_no_constant = made.right.hands_no_constant;
+      code = made.right.direct;
+      right = made.right.its.right;
+      laid_out = made.right.its.laid_out;
+      hands_no_constant = made.right.its.hands_no_constant;
+      straight = code;
+      straightened = made.right.straightened;
       selection = is;
       short = few_words c.args.table.now code c.in_ok-image.image c.selection_is_short.ensures c.code_is_short.ensures made.few is;
     }
