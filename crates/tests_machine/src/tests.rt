@@ -6,5 +6,7 @@ mod made;
 mod patterns;
 mod pe;
 mod routines;
+mod selected;
 mod shapes;
+mod straight;
 mod windows;

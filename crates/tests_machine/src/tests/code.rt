@@ -2,7 +2,7 @@ use fy_base::{BinOp, Datum, OutOfMemory, Place, PutKind, UnOp};
 use fy_types::Names;
 use pe_code::{
     AddressList, Entry, EntryList, NodeList, PeCode, PeInsn, PeItem, PeItemList, SequenceShapes,
-    is_valid, print_pe,
+    StraightList, StraightPart, is_valid, print_pe,
 };
 use std::alloc::Global;
 use std::test::Fail;
@@ -11,6 +11,14 @@ fn addresses(alloc: Global, items: &[u32]) -> Result<AddressList, OutOfMemory> {
     let mut list = AddressList::new(alloc);
     for item in items {
         list.push(*item)?;
+    }
+    Ok(list)
+}
+
+fn straight(alloc: Global, parts: &[StraightPart]) -> Result<StraightList, OutOfMemory> {
+    let mut list = StraightList::new(alloc);
+    for part in parts {
+        list.push(*part)?;
     }
     Ok(list)
 }
@@ -35,6 +43,8 @@ const PRINTS: &[&str] = &[
     "while 6 7",
     "cells 1 2",
     "put char 4",
+    "eval lit -5 cell 0 add 3 not 4",
+    "set 2 lit true",
     "read 4294967295",
 ];
 
@@ -59,6 +69,19 @@ fn printed(alloc: Global, number: usize) -> Result<PeInsn, OutOfMemory> {
         15 => PeInsn::While(6, 7),
         16 => PeInsn::Cells(1, 2),
         17 => PeInsn::Put(PutKind::Char, 4),
+        18 => PeInsn::Eval(straight(
+            alloc,
+            &[
+                StraightPart::Literal(Datum::Int(-5)),
+                StraightPart::Cell(0),
+                StraightPart::Binary(BinOp::Add, 3),
+                StraightPart::Unary(UnOp::Not, 4),
+            ],
+        )?),
+        19 => PeInsn::Set(
+            2,
+            straight(alloc, &[StraightPart::Literal(Datum::Bool(true))])?,
+        ),
         _ => PeInsn::Read(4294967295),
     })
 }
