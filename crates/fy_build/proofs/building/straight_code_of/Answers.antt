@@ -1,11 +1,11 @@
 use Rattle.std.proofs.Common.{◌≤◌, length, sym, subst}
 use Rattle.fy_build.proofs.building.straight_code_of.Goals as goal
 
-pub straighten-code-requires-clause-few : goal.straighten-code-requires-clause-few
-straighten-code-requires-clause-few c = c.requires.phrase.few
+pub straighten-requires-clause-few : goal.straighten-requires-clause-few
+straighten-requires-clause-few c = c.requires.phrase.few
 
-pub straighten-code-requires-clause-direct : goal.straighten-code-requires-clause-direct
-straighten-code-requires-clause-direct c =
+pub straighten-requires-clause-direct : goal.straighten-requires-clause-direct
+straighten-requires-clause-direct c =
     let made = c.in_ok-direct.ensures in
     record {
       closed = c.requires.phrase.closed;
