@@ -3,6 +3,8 @@ use Rattle.std.specs.Prelude.{ℕ, ◌==◌, ◌&&◌, if◌then◌else◌, List
 use Rattle.pe_code.specs.declared.code.PeInsn.{PeInsn}
 use Rattle.pe_code.specs.declared.code.PeInsn.TheVariants as insn
 use Rattle.pe_code.specs.declared.code.StraightPart.{StraightPart}
+use Rattle.pe_code.specs.declared.code.Purpose.{Purpose}
+use Rattle.pe_code.specs.declared.code.Purpose.TheVariants as purpose
 use Rattle.pe_code.specs.declared.code.PeItem.{PeItem}
 use Rattle.pe_code.specs.declared.code.Entry.{Entry}
 use Rattle.pe_code.specs.declared.code.PeCode.{PeCode}
@@ -19,6 +21,13 @@ address_in (e ∷ es) node shape = if (e.node == node) && (e.shape == shape) the
 -- where the node is entered at the shape
 abbrev pub entry_of : PeCode → ℕ → ℕ → Option ℕ
 entry_of code node shape = address_in code.entries node shape
+
+-- the addresses in a purpose
+abbrev pub served_by : Purpose → List ℕ
+served_by (purpose.Choose x y) = x ∷ y ∷ []
+served_by (purpose.Repeat x) = x ∷ []
+served_by (purpose.Store x) = x ∷ []
+served_by (purpose.Write kind) = []
 
 -- the addresses in an instruction whose items stand under no binder of its own
 abbrev pub beside : PeInsn → List ℕ
@@ -51,6 +60,7 @@ beside (insn.Put kind x) = x ∷ []
 beside (insn.Read x) = x ∷ []
 beside (insn.Eval ss) = []
 beside (insn.Set k ss) = []
+beside (insn.EvalFor ss u) = served_by u
 
 -- the address of the body under its binder
 abbrev pub body_of : PeInsn → Option ℕ
@@ -83,6 +93,7 @@ body_of (insn.Put kind x) = None
 body_of (insn.Read x) = None
 body_of (insn.Eval ss) = None
 body_of (insn.Set k ss) = None
+body_of (insn.EvalFor ss u) = None
 
 -- the variable that an instruction names
 abbrev pub variable_of : PeInsn → Option ℕ
@@ -113,4 +124,5 @@ picked_from _ = []
 abbrev pub straight_of : PeInsn → Option (List StraightPart)
 straight_of (insn.Eval ss) = Some ss
 straight_of (insn.Set k ss) = Some ss
+straight_of (insn.EvalFor ss u) = Some ss
 straight_of _ = None

@@ -15,6 +15,8 @@ use Rattle.fy_base.specs.declared.data.PutKind.TheVariants as kinds
 use Rattle.fy_types.specs.Print.{name_text}
 use Rattle.pe_code.specs.declared.code.StraightPart.{StraightPart}
 use Rattle.pe_code.specs.declared.code.StraightPart.TheVariants as part
+use Rattle.pe_code.specs.declared.code.Purpose.{Purpose}
+use Rattle.pe_code.specs.declared.code.Purpose.TheVariants as purpose
 use Rattle.pe_code.specs.declared.code.PeInsn.{PeInsn}
 use Rattle.pe_code.specs.declared.code.PeInsn.TheVariants as insn
 
@@ -72,6 +74,13 @@ then_part (part.Cell k) = codes " cell" ++ then_number k
 then_part (part.Unary op a) = codes " " ++ (unary_word op ++ then_number a)
 then_part (part.Binary op a) = codes " " ++ (binary_word op ++ then_number a)
 
+-- what straight code is for: `choose 17 18`, `write int`
+abbrev pub purpose_text : Purpose → Bytes
+purpose_text (purpose.Choose x y) = line (codes "choose") (x ∷ y ∷ [])
+purpose_text (purpose.Repeat x) = line (codes "repeat") (x ∷ [])
+purpose_text (purpose.Store x) = line (codes "store") (x ∷ [])
+purpose_text (purpose.Write kind) = worded (codes "write") (kind_word kind) []
+
 -- the text of an instruction, by a list of names
 abbrev pub printed : List Bytes → PeInsn → Bytes
 printed names (insn.UseVar k s) = line (codes "use") (k ∷ s ∷ [])
@@ -103,3 +112,4 @@ printed names (insn.Put kind x) = worded (codes "put") (kind_word kind) (x ∷ [
 printed names (insn.Read x) = line (codes "read") (x ∷ [])
 printed names (insn.Eval ss) = codes "eval" ++ flat_map then_part ss
 printed names (insn.Set k ss) = line (codes "set") (k ∷ []) ++ flat_map then_part ss
+printed names (insn.EvalFor ss u) = purpose_text u ++ flat_map then_part ss

@@ -56,6 +56,7 @@ all_picked_from (i ∷ is) = length (picked_from i.insn) + all_picked_from is
 abbrev pub parts_run_by : PeInsn → ℕ
 parts_run_by (insn.Eval ss) = length ss
 parts_run_by (insn.Set k ss) = length ss
+parts_run_by (insn.EvalFor ss u) = length ss
 parts_run_by _ = 0
 
 abbrev pub all_parts_run : List PeItem → ℕ
@@ -66,6 +67,7 @@ all_parts_run (i ∷ is) = parts_run_by i.insn + all_parts_run is
 abbrev pub places_in : PeInsn → ℕ
 places_in (insn.Eval ss) = 1
 places_in (insn.Set k ss) = 1
+places_in (insn.EvalFor ss u) = 1
 places_in insn.Done = 1
 places_in _ = 0
 

@@ -15,6 +15,18 @@ pub enum StraightPart {
     Binary(BinOp, u32),
 }
 
+/// What the datum of straight code is for. Its parts are addresses.
+#[derive(Clone, Copy, Debug)]
+pub enum Purpose {
+    /// It chooses between two branches.
+    Choose(u32, u32),
+    /// It tells whether the body is run, and then the instruction again.
+    Repeat(u32),
+    /// The acceptor takes it.
+    Store(u32),
+    Write(PutKind),
+}
+
 /// An instruction. Its parts are addresses: places of items in the list of the code. A node is a number of a node of the phrase, and a variable is the number of
 /// binders between it and its own.
 #[derive(Debug, Drop)]
@@ -70,6 +82,8 @@ pub enum PeInsn {
     Eval(StraightList),
     /// Assigns what straight code comes to to the variable's own cell.
     Set(u32, StraightList),
+    /// Evaluates straight code for a purpose.
+    EvalFor(StraightList, Purpose),
 }
 
 impl PeInsn {

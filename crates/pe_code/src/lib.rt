@@ -8,7 +8,7 @@ mod print;
 mod valid;
 
 pub use code::{
-    AddressList, Entry, PeCode, PeInsn, PeItem, PeItemList, SequenceShapes, StraightList,
+    AddressList, Entry, PeCode, PeInsn, PeItem, PeItemList, Purpose, SequenceShapes, StraightList,
     StraightPart,
 };
 pub use lists::{EntryList, NodeList};

@@ -3,9 +3,9 @@
 ghost use Rattle.std.specs.Prelude.{◌≡◌, [], ◌∷◌, ◌++◌, codes, IfOk, OnOk};
 ghost use Rattle.std.specs.List.{flat_map};
 ghost use Rattle.fy_types.specs.Print.{name_text};
-ghost use Rattle.pe_code.specs.Print.{unary_word, binary_word, kind_word, datum_text, then_number, then_part, line, worded, printed};
+ghost use Rattle.pe_code.specs.Print.{unary_word, binary_word, kind_word, datum_text, then_number, then_part, line, worded, purpose_text as text_of_purpose, printed};
 
-use crate::code::{PeInsn, StraightPart};
+use crate::code::{PeInsn, Purpose, StraightPart};
 use fy_base::{BinOp, Datum, OutOfMemory, PutKind, Text, UnOp};
 use fy_types::{Name, Names};
 use std::alloc::Global;
@@ -54,6 +54,7 @@ fn put_insn(text: &mut Text, names: &Names, insn: &PeInsn) -> Result<(), OutOfMe
         PeInsn::Read(x) => put_line(text, b"read", &[*x]),
         PeInsn::Eval(parts) => put_straight(text, b"eval", &[], parts.as_slice()),
         PeInsn::Set(variable, parts) => put_straight(text, b"set", &[*variable], parts.as_slice()),
+        PeInsn::EvalFor(parts, purpose) => put_for(text, *purpose, parts.as_slice()),
     }
 }
 
@@ -103,6 +104,25 @@ fn put_straight(
 {
     put_line(text, keyword, numbers)?;
     put_parts(text, parts)
+}
+
+// A purpose, and straight code.
+fn put_for(text: &mut Text, purpose: Purpose, parts: &[StraightPart]) -> Result<(), OutOfMemory>
+    ensures { OnOk result (text.new ≡ text.old ++ (text_of_purpose purpose ++ flat_map then_part parts.now)) }
+{
+    put_purpose(text, purpose)?;
+    put_parts(text, parts)
+}
+
+fn put_purpose(text: &mut Text, purpose: Purpose) -> Result<(), OutOfMemory>
+    ensures { OnOk result (text.new ≡ text.old ++ text_of_purpose purpose) }
+{
+    match purpose {
+        Purpose::Choose(x, y) => put_line(text, b"choose", &[x, y]),
+        Purpose::Repeat(x) => put_line(text, b"repeat", &[x]),
+        Purpose::Store(x) => put_line(text, b"store", &[x]),
+        Purpose::Write(kind) => put_worded(text, b"write", kind_word(kind), &[]),
+    }
 }
 
 fn put_parts(text: &mut Text, parts: &[StraightPart]) -> Result<(), OutOfMemory>

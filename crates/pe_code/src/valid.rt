@@ -3,11 +3,11 @@
 ghost use Rattle.std.specs.Prelude.{◌≡◌, ℕ, ◌+◌, ◌*◌, ◌<◌, ◌≤◌, ◌↔◌, All, IfSome, IsTrue, Some, None, nat_lt, if◌then◌else◌, length};
 ghost use Rattle.std.specs.Option.{ForSome};
 ghost use Rattle.pe_code.specs.Entries.{AreInOrder};
-ghost use Rattle.pe_code.specs.Code.{beside, node_of, straight_of};
+ghost use Rattle.pe_code.specs.Code.{beside, node_of, served_by, straight_of};
 ghost use Rattle.pe_code.specs.Straight.{height_after, height_with as height_with_part};
 ghost use Rattle.pe_code.specs.Valid.{LeadsTo, IsThunkNode, IsSoundPart, IsSoundStraight, IsSoundItem, all_picked_from, parts_run_by, all_parts_run, places_in, all_places_in, IsSoundEntry, AreOnce, IsValid, asked_shapes};
 
-use crate::code::{Entry, PeCode, PeInsn, PeItem, StraightPart};
+use crate::code::{Entry, PeCode, PeInsn, PeItem, Purpose, StraightPart};
 
 const MOST_ITEMS: usize = 65_536;
 
@@ -114,6 +114,7 @@ fn has_sound_parts(code: &PeCode, depth: u32, insn: &PeInsn) -> bool
         PeInsn::Case(x, parts) => {
             leads_to(code, depth, *x) && all_lead(code, depth, parts.as_slice())
         }
+        PeInsn::EvalFor(_, purpose) => has_sound_purpose(code, depth, *purpose),
         PeInsn::UseVar(..)
         | PeInsn::Answer(_)
         | PeInsn::Bind(_)
@@ -126,6 +127,17 @@ fn has_sound_parts(code: &PeCode, depth: u32, insn: &PeInsn) -> bool
         | PeInsn::Accept(_)
         | PeInsn::Eval(_)
         | PeInsn::Set(..) => true,
+    }
+}
+
+fn has_sound_purpose(code: &PeCode, depth: u32, purpose: Purpose) -> bool
+    ensures { IsTrue result ↔ All (LeadsTo code.now depth) (served_by purpose) }
+{
+    match purpose {
+        Purpose::Choose(x, y) => all_lead(code, depth, &[x, y]),
+        Purpose::Repeat(x) => all_lead(code, depth, &[x]),
+        Purpose::Store(x) => all_lead(code, depth, &[x]),
+        Purpose::Write(_) => true,
     }
 }
 
@@ -160,6 +172,7 @@ fn has_sound_straight(code: &PeCode, depth: u32, insn: &PeInsn) -> bool
     match insn {
         PeInsn::Eval(parts) => is_sound_straight(code, depth, parts.as_slice()),
         PeInsn::Set(_, parts) => is_sound_straight(code, depth, parts.as_slice()),
+        PeInsn::EvalFor(parts, _) => is_sound_straight(code, depth, parts.as_slice()),
         _ => true,
     }
 }
@@ -312,6 +325,7 @@ fn parts_run_by(insn: &PeInsn) -> usize
     match insn {
         PeInsn::Eval(parts) => parts.len(),
         PeInsn::Set(_, parts) => parts.len(),
+        PeInsn::EvalFor(parts, _) => parts.len(),
         _ => 0,
     }
 }
@@ -320,7 +334,7 @@ fn places_in(insn: &PeInsn) -> usize
     ensures { result ≡ places_in insn.now }
 {
     match insn {
-        PeInsn::Eval(_) | PeInsn::Set(..) | PeInsn::Done => 1,
+        PeInsn::Eval(_) | PeInsn::Set(..) | PeInsn::EvalFor(..) | PeInsn::Done => 1,
         _ => 0,
     }
 }

@@ -18,6 +18,8 @@ use Rattle.fy_phrase.specs.Copy.{Which, own, element, byte_or_end}
 use Rattle.pe_code.specs.declared.code.PeInsn.{PeInsn}
 use Rattle.pe_code.specs.declared.code.PeInsn.TheVariants as insn
 use Rattle.pe_code.specs.declared.code.StraightPart.{StraightPart}
+use Rattle.pe_code.specs.declared.code.Purpose.{Purpose}
+use Rattle.pe_code.specs.declared.code.Purpose.TheVariants as purpose
 use Rattle.pe_code.specs.declared.code.PeItem.{PeItem}
 use Rattle.pe_code.specs.declared.code.SequenceShapes.{SequenceShapes}
 use Rattle.pe_code.specs.declared.code.PeCode.{PeCode}
@@ -327,6 +329,13 @@ outcome_move code misses go = loses
 abbrev pub straight_run : PeCode → List StraightPart → Option ℕ → PeState → (Datum → PeMove) → PeMove
 straight_run code ss r s go = outcome_move code (outcome_after (λ k. own_cell (frame_outside s.frames k r)) ss []) go
 
+-- the context that waits for its datum where the form is executed by parts
+abbrev pub waiting : Purpose → Pointer → PeContext
+waiting (purpose.Choose x y) here = if_c (record here { address = x }) (record here { address = y })
+waiting (purpose.Repeat x) here = while_c here (record here { address = x })
+waiting (purpose.Store x) here = assign_c (record here { address = x })
+waiting (purpose.Write kind) here = put_c kind
+
 -- ---- one step, by the focus
 
 -- an instruction that stands at an address and is executed in a frame
@@ -362,6 +371,7 @@ executed code (insn.Put kind x) d at here s = pushed (put_c kind) (record here {
 executed code (insn.Read x) d at here s = takes (λ byte. focus_on (code_at (record here { address = x })) (push (store_c (byte_or_end byte)) s))
 executed code (insn.Eval ss) d at here s = straight_run code ss here.frame s (λ v. focused (value v) s)
 executed code (insn.Set k ss) d at here s = straight_run code ss here.frame s (λ v. own_cell_set (frame_outside s.frames k here.frame) v s)
+executed code (insn.EvalFor ss u) d at here s = straight_run code ss here.frame s (λ v. datum_meets code v (waiting u here) s)
 
 -- where no item stands at the address, no step is defined
 abbrev pub item_executed : PeCode → Option PeItem → Pointer → PeState → PeMove

@@ -1,13 +1,15 @@
 //! What instructions do.
 
-ghost use Rattle.std.specs.Prelude.{◌≡◌, None};
+ghost use Rattle.std.specs.Prelude.{◌≡◌, ◌≢◌, Bool, None};
 ghost use Rattle.pe_code.specs.declared.code.PeCode.{PeCode};
 ghost use Rattle.pe_machine.specs.States.{PeState, to_thunk};
-ghost use Rattle.pe_machine.specs.Step.{bound, executed, item_executed, pe_step, pushed};
+ghost use Rattle.pe_machine.specs.Step.{bound, executed, item_executed, pe_step, pushed, waiting};
 ghost use Rattle.pe_code.specs.Code.{item_at, straight_of};
 ghost use Rattle.pe_machine.specs.Shown.{context_of, number_of, pointer_of, thunk_of};
 ghost use Rattle.pe_machine.specs.Names.{Frames, IsPlacedAct, IsPlacedContext, IsPlacedPointer, IsPlacedThunk, IsPlacedTurn};
 ghost use Rattle.pe_machine.specs.Turns.{IsFair, act_move, frames_of, plan_move, state_of};
+ghost use Rattle.pe_machine.specs.declared.contexts.Context.{Context};
+ghost use Rattle.pe_machine.specs.declared.frames.FrameName.{FrameName};
 
 use crate::answers::{complete, give_value, item_at, push};
 use crate::contexts::{Context, Focus, Pointer};
@@ -16,10 +18,10 @@ use crate::demands::enter;
 use crate::frames::Thunk;
 use crate::lookup::variable;
 use crate::plans::{answer, ask, finish, stay};
-use crate::straight::{assign, evaluate};
+use crate::straight::{assign, evaluate, meet};
 use crate::turns::{Act, Change, Demand, Plan, Turn};
 use fy_base::Place;
-use pe_code::{PeCode, PeInsn, PeItem};
+use pe_code::{PeCode, PeInsn, PeItem, Purpose};
 
 // Code at another address, in the same frame.
 fn beside(here: Pointer, address: u32) -> Pointer
@@ -84,6 +86,7 @@ fn act_of(insn: &PeInsn, depth: u32, at: Place, here: Pointer) -> Act
         PeInsn::Read(x) => Act::Now(Turn::Read(beside(here, *x))),
         PeInsn::Eval(_) => unreachable!(),
         PeInsn::Set(..) => unreachable!(),
+        PeInsn::EvalFor(..) => unreachable!(),
     }
 }
 
@@ -112,6 +115,20 @@ fn plan_of(code: &PeCode, act: Act, core: &Core) -> Plan
     }
 }
 
+// The context that waits for a datum of the purpose.
+fn waiting_for(purpose: Purpose, here: Pointer) -> Context
+    ensures is { context_of result ≡ waiting purpose (pointer_of here) }
+    ensures placed { (frames : Frames) → IsPlacedPointer frames here → IsPlacedContext frames result }
+    ensures apart { (is_written : Bool) (name : FrameName) → result ≢ Context.Element is_written name }
+{
+    match purpose {
+        Purpose::Choose(x, y) => Context::If(beside(here, x), beside(here, y)),
+        Purpose::Repeat(x) => Context::While(here, beside(here, x)),
+        Purpose::Store(x) => Context::Assign(beside(here, x)),
+        Purpose::Write(kind) => Context::Put(kind),
+    }
+}
+
 // What an item does.
 fn execute_item(code: &PeCode, item: &PeItem, here: Pointer, core: &Core) -> Plan
     requires { IsPlacedPointer (frames_of core.now) here }
@@ -123,6 +140,10 @@ fn execute_item(code: &PeCode, item: &PeItem, here: Pointer, core: &Core) -> Pla
         PeInsn::Eval(parts) => evaluate(code, parts.as_slice(), here.frame, core),
         PeInsn::Set(variable, parts) => {
             assign(code, *variable, parts.as_slice(), here.frame, core)
+        }
+        PeInsn::EvalFor(parts, purpose) => {
+            let context = waiting_for(*purpose, here);
+            meet(code, parts.as_slice(), context, here.frame, core)
         }
         insn => plan_of(code, act_of(insn, item.depth, item.place, here), core),
     }
