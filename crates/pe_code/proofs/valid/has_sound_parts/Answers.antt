@@ -67,3 +67,6 @@ returns-in-Op1 c = let parts = one_part (goal.at.returns-in-Op1 c).In-Op1 in rw 
 
 pub returns-in-Op2 : goal.returns-in-Op2
 returns-in-Op2 c = let parts = two_parts (goal.at.returns-in-Op2 c).In-Op2 in rw parts c.all_lead-in-Op2.ensures
+
+pub returns-in-EvalFor : goal.returns-in-EvalFor
+returns-in-EvalFor c = rw c.in-EvalFor.is c.has_sound_purpose.ensures
