@@ -1,8 +1,8 @@
 use fy_base::{BinOp, Datum, OutOfMemory, Place, PutKind, UnOp};
 use fy_types::Names;
 use pe_code::{
-    AddressList, Entry, EntryList, NodeList, PeCode, PeInsn, PeItem, PeItemList, SequenceShapes,
-    StraightList, StraightPart, is_valid, print_pe,
+    AddressList, Entry, EntryList, NodeList, PeCode, PeInsn, PeItem, PeItemList, Purpose,
+    SequenceShapes, StraightList, StraightPart, is_valid, print_pe,
 };
 use std::alloc::Global;
 use std::test::Fail;
@@ -45,6 +45,10 @@ const PRINTS: &[&str] = &[
     "put char 4",
     "eval lit -5 cell 0 add 3 not 4",
     "set 2 lit true",
+    "choose 1 2 cell 0",
+    "repeat 6 cell 0 not 4",
+    "store 3 lit -7",
+    "write char lit 65",
     "read 4294967295",
 ];
 
@@ -81,6 +85,25 @@ fn printed(alloc: Global, number: usize) -> Result<PeInsn, OutOfMemory> {
         19 => PeInsn::Set(
             2,
             straight(alloc, &[StraightPart::Literal(Datum::Bool(true))])?,
+        ),
+        20 => PeInsn::EvalFor(
+            straight(alloc, &[StraightPart::Cell(0)])?,
+            Purpose::Choose(1, 2),
+        ),
+        21 => PeInsn::EvalFor(
+            straight(
+                alloc,
+                &[StraightPart::Cell(0), StraightPart::Unary(UnOp::Not, 4)],
+            )?,
+            Purpose::Repeat(6),
+        ),
+        22 => PeInsn::EvalFor(
+            straight(alloc, &[StraightPart::Literal(Datum::Int(-7))])?,
+            Purpose::Store(3),
+        ),
+        23 => PeInsn::EvalFor(
+            straight(alloc, &[StraightPart::Literal(Datum::Char(65))])?,
+            Purpose::Write(PutKind::Char),
         ),
         _ => PeInsn::Read(4294967295),
     })
