@@ -8,6 +8,7 @@ use Rattle.pe_machine.specs.States.{Focus, code_at, value, completed, Held, PeSt
 use Rattle.pe_machine.specs.Step.{PeMove, goes, puts, takes, faults, sticks, loses, answered, completion_meets, step_at, pe_step}
 use Rattle.pe_machine.specs.Run.{Standing, going, ended, faulted, stuck, gone, standing_at, standing_of, PeRun, settled, ticked, tick, after_more, start_run, pe_after}
 use Rattle.pe_machine.proofs.RunLemmas.{after_zero, after_suc, after_both}
+use Rattle.pe_right.specs.Entered.{every}
 use Rattle.pe_right.specs.Ahead.{IsAheadOf, frames_made, KeepsAhead}
 use Rattle.pe_right.specs.Direct.{IsDirectOf}
 use Rattle.pe_right.specs.Follows.{FollowsCopyRule}
@@ -129,7 +130,7 @@ module _ (known : ℕ → Option Datum) where
   settled-swap sticks r = refl
   settled-swap loses r = refl
 
-module _ (g : Compiled) (made : PeCode) (direct : IsDirectOf g.phrase g.code made) (by_each : (k : ℕ) → g.straight k ≡ false) where
+module _ (g : Compiled) (made : PeCode) (direct : IsDirectOf g.phrase g.code made) (by_each : (k : ℕ) → g.straight k ≡ every) where
   abbrev Known : ℕ → Option Datum
   Known k = cv g made direct by_each k
 

@@ -21,7 +21,7 @@ use Rattle.pe_code.specs.Code.{item_at}
 use Rattle.pe_machine.specs.States.{Pointer, Frame, code_at, value, PeState, oldest}
 use Rattle.pe_machine.specs.Step.{PeMove, goes, focus_on, push, focused, pushed, operated, left_meets, executed, item_executed, pe_step}
 use Rattle.pe_right.specs.Constants.{value_of}
-use Rattle.pe_right.specs.Entered.{BinderKind, IsEntered, is_entered, within_first, within_later}
+use Rattle.pe_right.specs.Entered.{BinderKind, every, IsEntered, is_entered, within_first, within_later}
 use Rattle.pe_right.specs.Right.{Enters, IsItemAt}
 use Rattle.pe_right.proofs.ConstantLemmas.{unary-of, binary-of}
 use Rattle.pe_right.proofs.Evaluating.{nodes-some}
@@ -144,7 +144,7 @@ module _ (g : Compiled) where
   Item d k q t a = (item : PeItem) × (item_at g.code a ≡ Some item) × IsItemAt g.handed g.straight g.table g.code d k q t item
 
   -- in code that evaluates no node in one step
-  pub code-evaluated : (none : (k : ℕ) → g.straight k ≡ false) (q : Tree) (v : Datum) (d : List BinderKind) (k a : ℕ) (t : PlainShape) → value_of q ≡ Some v → IsEntered g.straight [] 0 g.phrase d k q → Enters g.table g.code k t a →
+  pub code-evaluated : (none : (k : ℕ) → g.straight k ≡ every) (q : Tree) (v : Datum) (d : List BinderKind) (k a : ℕ) (t : PlainShape) → value_of q ≡ Some v → IsEntered g.straight [] 0 g.phrase d k q → Enters g.table g.code k t a →
       Evaluates a q v
   code-evaluated none (lit u at) v d k a t e node en =
       let f : u ≡ v = cc in

@@ -12,8 +12,8 @@ use Rattle.pe_code.specs.declared.code.PeInsn.TheVariants as insn
 use Rattle.pe_code.specs.declared.code.PeCode.{PeCode}
 use Rattle.pe_code.specs.Code.{straight_of, entry_of}
 use Rattle.pe_machine.specs.Step.{is_assignment, a_cell, a_length, asked_at}
-use Rattle.pe_right.specs.Entered.{BinderKind}
-use Rattle.pe_right.specs.Right.{is_variable, Enters, EachEnters, IsNumberOf, AreSequencesOf, IsInsnAt, by_parts, at_once, IsInsnOf, of_var, of_lit, of_unary, of_binary, of_cond, of_case, of_lam, of_app, of_app_variable, of_app_datum, of_field, of_sel, of_let, of_let_variable, of_let_datum, of_rec, of_skip, of_seq, of_assign, of_while, of_forever, of_new, of_cells, of_escape, of_accept, of_put, of_read}
+use Rattle.pe_right.specs.Entered.{BinderKind, Entering, every, no_part}
+use Rattle.pe_right.specs.Right.{is_variable, Enters, EachEnters, IsNumberOf, AreSequencesOf, IsFedOf, of_condition, of_test, of_assigned, of_output, IsInsnAt, by_parts, at_once, fed, IsInsnOf, of_var, of_lit, of_unary, of_binary, of_cond, of_case, of_lam, of_app, of_app_variable, of_app_datum, of_field, of_sel, of_let, of_let_variable, of_let_datum, of_rec, of_skip, of_seq, of_assign, of_while, of_forever, of_new, of_cells, of_escape, of_accept, of_put, of_read}
 use Rattle.pe_right.proofs.Invariants.{Compiled}
 
 -- ---- the instruction of a form
@@ -163,11 +163,19 @@ form-plain (of_accept e) = refl
 form-plain (of_put e) = refl
 form-plain (of_read e) = refl
 
+-- a form that is executed with a part has a part that isn't entered
+pub fed-apart : {table : ShapeTable} {code : PeCode} {w : List BinderKind} {k : ℕ} {q : Tree} {t : PlainShape} {e : Entering} {i : PeInsn} → IsFedOf table code w k q t e i → e ≡ every → ⊥
+fed-apart (of_condition p x y) same = cc
+fed-apart (of_test p x) same = cc
+fed-apart (of_assigned p x) same = cc
+fed-apart (of_output p) same = cc
+
 module _ (g : Compiled) where
   -- where a node isn't evaluated in one step, its instruction is that of its form
-  pub plain-insn : {v : List BinderKind} {k : ℕ} {q : Tree} {t : PlainShape} {i : PeInsn} → g.straight k ≡ false → IsInsnAt g.handed g.straight g.table g.code v k q t i → IsInsnOf g.handed g.table g.code k q t i
+  pub plain-insn : {v : List BinderKind} {k : ℕ} {q : Tree} {t : PlainShape} {i : PeInsn} → g.straight k ≡ every → IsInsnAt g.handed g.straight g.table g.code v k q t i → IsInsnOf g.handed g.table g.code k q t i
   plain-insn plain (by_parts e h) = h
-  plain-insn plain (at_once e h) = let f : true ≡ false = sym e ∙ plain in absurd cc
+  plain-insn plain (at_once e h) = let f : no_part ≡ every = sym e ∙ plain in absurd cc
+  plain-insn plain (fed e h) = absurd (fed-apart h (sym e ∙ plain))
 
   -- a pair of the table has an entry, whatever number its shape goes by
   pub entry-found : (k n : ℕ) (s : PlainShape) → HasPairOf g.table k s → shape_at g.table n ≡ Some s → (a : ℕ) × (entry_of g.code k n ≡ Some a)

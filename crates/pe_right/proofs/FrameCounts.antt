@@ -20,7 +20,7 @@ use Rattle.pe_code.specs.declared.code.PeCode.{PeCode}
 use Rattle.pe_code.specs.Code.{item_at, entry_of}
 use Rattle.pe_machine.specs.States.{Pointer, Thunk, source, datum, cell_of, jump_of, sequence_of, to_thunk, Frame, Focus, code_at, value, completed, PeContext, Wanted, Sequence, Held, PeState, oldest, is_listed, frame_outside, datum_in, sequence_at, value_of, handed_on}
 use Rattle.pe_code.specs.Straight.{Outcome, leaves, fails, has_none, misses, outcome_after}
-use Rattle.pe_machine.specs.Step.{own_cell, cell_set, own_cell_set, faults_at, outcome_move, PeMove, goes, puts, takes, faults, sticks, loses, focused, pushed, bound, answered, taken, operated, left_meets, chosen, parts_at, focused_if_some, indexed, written, element_picked, counted, datum_meets, one_more, bound_filled, filled, datum_under, datum_focused, completion_meets, bind_meets, field_meets, accept_meets, loaded, assigned, assignment_meets, cell_entered, is_target, jumped, at_entry, if_listed, is_assignment, push, entered_plain, index_entered, index_meets, length_meets, Asked, a_cell, a_length, no_part, asked_at, sequence_asked, entered, with_variable, executed, item_executed, step_at, pe_step}
+use Rattle.pe_machine.specs.Step.{own_cell, cell_set, own_cell_set, faults_at, outcome_move, PeMove, goes, puts, takes, faults, sticks, loses, focused, pushed, bound, answered, taken, operated, left_meets, chosen, parts_at, focused_if_some, indexed, written, element_picked, counted, datum_meets, one_more, bound_filled, filled, datum_under, datum_focused, completion_meets, bind_meets, field_meets, accept_meets, loaded, assigned, assignment_meets, cell_entered, is_target, jumped, at_entry, if_listed, is_assignment, push, entered_plain, index_entered, index_meets, length_meets, Asked, a_cell, a_length, no_part, asked_at, sequence_asked, entered, with_variable, waiting, executed, item_executed, step_at, pe_step}
 
 -- the state that the move leads to has made at least n frames
 abbrev pub HasMade : ℕ → PeMove → Type 0
@@ -246,6 +246,9 @@ made-executed code (insn.Eval ss) d at here s =
 made-executed code (insn.Set j ss) d at here s =
     made-outcome code s.next (outcome_after (λ k. own_cell (frame_outside s.frames k here.frame)) ss []) (λ v. own_cell_set (frame_outside s.frames j here.frame) v s)
     (λ v. made-own_set (frame_outside s.frames j here.frame) v s)
+made-executed code (insn.EvalFor ss u) d at here s =
+    made-outcome code s.next (outcome_after (λ k. own_cell (frame_outside s.frames k here.frame)) ss []) (λ v. datum_meets code v (waiting u here) s)
+    (λ v. made-datum code v (waiting u here) s)
 made-executed code i d at here s = omega arith
 
 made-item : (code : PeCode) (o : Option PeItem) (here : Pointer) (s : PeState) → HasMade s.next (item_executed code o here s)

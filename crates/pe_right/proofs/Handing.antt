@@ -27,7 +27,7 @@ use Rattle.pe_right.specs.Right.{IsNodeUnder, in_first, in_later, itself, Enters
 use Rattle.pe_right.proofs.ConstantLemmas.{constant-value}
 use Rattle.pe_right.proofs.NodeLemmas.{under-part, entered-node, part-entered}
 use Rattle.pe_right.proofs.EntryLemmas.{plain-insn}
-use Rattle.pe_right.specs.Entered.{BinderKind, IsEntered, is_entered, within_first, within_later}
+use Rattle.pe_right.specs.Entered.{BinderKind, every, IsEntered, is_entered, within_first, within_later}
 use Rattle.pe_right.proofs.Invariants.{Compiled, FramesAnswer, ThunkAnswers, ContextTakes, procedure, escape_body, ContextsTake, FocusAnswers, Fills, Follows}
 use Rattle.pe_right.proofs.FrameLemmas.{Below}
 use Rattle.pe_right.proofs.Growing.{env-listed, extends-oldest, thunk-extends, variable-found}
@@ -74,7 +74,7 @@ picks-same (let_bound c) = refl
 picks-same (same none) = refl
 
 -- in code that evaluates no node in one step
-module _ (g : Compiled) (made : PeCode) (direct : IsDirectOf g.phrase g.code made) (by_each : (k : ℕ) → g.straight k ≡ false) where
+module _ (g : Compiled) (made : PeCode) (direct : IsDirectOf g.phrase g.code made) (by_each : (k : ℕ) → g.straight k ≡ every) where
   abbrev pub cv : ℕ → Option Datum
   cv k = known g.phrase k
 

@@ -15,10 +15,13 @@ use Rattle.fy_phrase.specs.WellMade.{IsClosedUnder, AreClosedUnder, HasDepthsUnd
 use Rattle.fy_phrase.specs.Contexts.{CopyContext, op_1, op_l, if_c, case_c, arg_c, pick_c, then_c, assign_c, store_c, while_c, loop_c, new_c, cells_c, put_c, esc_c}
 use Rattle.fy_phrase.specs.Copy.{CopyState, copy_step, byte_or_end}
 use Rattle.fy_phrase.specs.Copy as copy
+use Rattle.fy_base.specs.declared.data.PutKind.{PutKind}
+use Rattle.fy_base.specs.declared.data.PutKind.TheVariants as put_kind
 use Rattle.fy_derive.specs.Atoms.{data_atom, acceptor_atom, datum_atom, operand_atom, unary_atom, binary_atom, put_atom}
 use Rattle.fy_derive.specs.Shapes.{PlainShape, at_end, a_call, a_field, a_value, an_assignment, a_run, end_shape, erase}
 use Rattle.fy_derive.specs.ShapeTables.{HasPairOf}
 use Rattle.fy_derive.proofs.PathTyping.{paths_at, EachPath, IsRun, only}
+use Rattle.pe_code.specs.declared.code.Purpose.TheVariants as purpose
 use Rattle.pe_code.specs.declared.code.PeInsn.{PeInsn}
 use Rattle.pe_code.specs.declared.code.PeInsn.TheVariants as insn
 use Rattle.pe_code.specs.declared.code.PeItem.{PeItem}
@@ -26,22 +29,22 @@ use Rattle.pe_code.specs.Code.{item_at, picked_from}
 use Rattle.pe_machine.specs.States.{Pointer, source, datum, to_thunk, to_escape, Frame, PeContext, PeState, frame_outside, handed_on}
 use Rattle.pe_machine.specs.Step.{push, pushed, bound, bind_meets, field_meets, accept_meets, with_variable, entered, executed, item_executed}
 use Rattle.pe_right.specs.Closing.{phrase_at, closed_by, all_closed_by}
-use Rattle.pe_right.specs.Entered.{BinderKind, another, with_binders, IsEnteredAmong, is_entered, within_first, within_later}
+use Rattle.pe_right.specs.Entered.{BinderKind, another, Entering, every, later, first_alone, with_binders, IsEnteredAmong, is_entered, within_first, within_later}
 use Rattle.pe_right.specs.Straight.{IsStraightOf, of_value, of_assignment}
-use Rattle.pe_right.specs.Right.{IsInsnAt, by_parts, at_once, IsItemAt, IsRightAt, is_variable, Enters, EachEnters, no_parts, and_part}
+use Rattle.pe_right.specs.Right.{IsFedOf, of_condition, of_test, of_assigned, of_output, FeedsFew, IsInsnAt, by_parts, at_once, fed, IsItemAt, IsRightAt, is_variable, Enters, EachEnters, no_parts, and_part}
 use Rattle.pe_right.proofs.Demanding.{EachAnswers}
 use Rattle.pe_right.proofs.ClosingLemmas.{closed_with-more, closed_by-var, kind-closed}
 use Rattle.pe_right.proofs.FrameLemmas.{Below, oldest-itself, marks_in}
 use Rattle.pe_right.proofs.AnswerLemmas.{erase-below, run-up, data-erase, acceptor-erase, operand-erase, put-erase, run-erase, in_scope, answers-above, merge-left, merge-right, begins-shape}
 use Rattle.pe_right.proofs.Invariants.{Compiled, IndexKnown, Above, marked, rank_of, Answered, IsNode, IsBody, FramesAnswer, ThunkAnswers, CodeAnswers, EachCodeAnswers, ContextTakes, unary_operand, left_operand, condition, index, procedure, selected, first_command, assigned_value, acceptor, loop_test, endless_body, first_value, cells_wanted, put_datum, escape_body, Behind}
 use Rattle.pe_right.proofs.ConstantLemmas.{constant-value, value-closed, value-path}
-use Rattle.pe_right.proofs.Merges.{merges, value-merges}
-use Rattle.pe_right.proofs.NodeLemmas.{constant-spare, under, part, body, body-bound}
-use Rattle.pe_right.proofs.StraightSteps.{eval-followed, set-followed}
+use Rattle.pe_right.proofs.Merges.{merges, value-merges, quarter-spare}
+use Rattle.pe_right.proofs.NodeLemmas.{constant-spare, under, part, part-as, body, body-bound}
+use Rattle.pe_right.proofs.StraightSteps.{eval-followed, set-followed, fed-followed}
 use Rattle.pe_right.proofs.EntryLemmas.{insn-is, plain-insn}
 use Rattle.pe_right.proofs.Growing.{env-shut, variable-found, thunk-above}
 use Rattle.pe_right.proofs.ContextLemmas.{demanded-left, demanded-right, contexts-pushed}
-use Rattle.pe_right.proofs.Moves.{focus-step, no_step, rank-two, MovesIn, extra, takes_byte, one_move, no_move, IsExecuted, by_steps, executed-weaker, executed-earlier, moves-weaker, pushed-simulates, bound-simulates}
+use Rattle.pe_right.proofs.Moves.{focus-step, no_step, rank-two, MovesIn, extra, takes_byte, one_move, no_move, more_in, IsExecuted, by_steps, executed-weaker, executed-earlier, moves-weaker, pushed-simulates, bound-simulates}
 use Rattle.pe_right.proofs.TakingLemmas.{call-apart, pick-apart, acceptor-apart, taken-followed, lam-meets, field-meets, accept-meets}
 use Rattle.pe_right.proofs.EnteringLemmas.{entered-followed}
 
@@ -79,7 +82,7 @@ module _ (g : Compiled) where
     At r b c = MovesIn g (extra g) r b c (item_executed g.code (item_at g.code at_here.address) at_here s)
 
     abbrev pub Executed : ℕ → ℕ → CopyState → Type 0
-    Executed r b c = IsExecuted g (extra g) r b c (item_executed g.code (item_at g.code at_here.address) at_here s)
+    Executed r b c = IsExecuted g (extra g) (more_in g at_here.frame) r b c (item_executed g.code (item_at g.code at_here.address) at_here s)
 
     abbrev pub Here : ℕ → Pointer
     Here a = record at_here { address = a }
@@ -139,7 +142,7 @@ module _ (g : Compiled) where
       each-code v (j + nodes p) more t rest P ens e (λ i q a. node i q (within_later a)) closed.1 depths.1 each.1,
     )
 
-    app-followed : (p q : Tree) (at : Place) (k y : ℕ) (i : PeInsn) (d b : ℕ) (D : PlainPaths) (P : PlainPath) (c : CopyState) → IsNode g s.frames at_here.frame (length G) k (app p q at) → g.straight k ≡ false →
+    app-followed : (p q : Tree) (at : Place) (k y : ℕ) (i : PeInsn) (d b : ℕ) (D : PlainPaths) (P : PlainPath) (c : CopyState) → IsNode g s.frames at_here.frame (length G) k (app p q at) → g.straight k ≡ every →
         ((is_variable q ≡ None) × (i ≡ insn.Pass (k + 1 + nodes p) y)) ⊎ (((j : ℕ) × (is_variable q ≡ Some j) × (i ≡ insn.PassVar j y)) ⊎ ((v : Datum) × (g.handed q ≡ Some v) × (i ≡ insn.PassData v y))) →
         Answered g G (k + 1) p (call D P) → EachPath (λ R. Answered g G (k + 1 + nodes p) q R) D → Enters g.table g.code (k + 1) (a_call (erase P)) y →
         c.focus ≡ closed_by 0 qs (app p q at) → Behind g s c P → 1 ≤ b → MovesIn g (extra g) 0 b c (executed g.code i d at at_here s)
@@ -163,7 +166,7 @@ module _ (g : Compiled) where
         (code-as y (k + 1) p (call D P) (a_call (erase P)) refl (part g n plain (within_first is_entered) n.closed.0 n.depths.0) a en)
         (procedure (datum-thunk q v.0 (k + 1 + nodes p) D v.1 (part g n plain (within_later (within_first is_entered)) n.closed.1 n.depths.1) each)) w)
 
-    let-followed : (d : ℕ) (p r : Tree) (at : Place) (k y : ℕ) (i : PeInsn) (b : ℕ) (D : PlainPaths) (P : PlainPath) (c : CopyState) → IsNode g s.frames at_here.frame (length G) k (let_in d p r at) → g.straight k ≡ false →
+    let-followed : (d : ℕ) (p r : Tree) (at : Place) (k y : ℕ) (i : PeInsn) (b : ℕ) (D : PlainPaths) (P : PlainPath) (c : CopyState) → IsNode g s.frames at_here.frame (length G) k (let_in d p r at) → g.straight k ≡ every →
         ((is_variable p ≡ None) × (i ≡ insn.Let (k + 1) y)) ⊎ (((j : ℕ) × (is_variable p ≡ Some j) × (i ≡ insn.LetVar j y)) ⊎ ((v : Datum) × (g.handed p ≡ Some v) × (i ≡ insn.LetData v y))) →
         EachPath (λ R. Answered g G (k + 1) p R) D → Answered g (D ∷ G) (k + 1 + nodes p) r P → Enters g.table g.code (k + 1 + nodes p) (erase P) y →
         c.focus ≡ closed_by 0 qs (let_in d p r at) → Behind g s c P → 1 ≤ b → MovesIn g (extra g) 0 b c (executed g.code i d at at_here s)
@@ -244,7 +247,7 @@ module _ (g : Compiled) where
           ),
         )
 
-    plain-followed : (node : Tree) (k : ℕ) (P : PlainPath) (c : CopyState) (n : IsNode g s.frames at_here.frame (length G) k node) → g.straight k ≡ false → is_merge node ≡ false → Answered g G k node P → Enters g.table g.code k (erase P) at_here.address →
+    plain-followed : (node : Tree) (k : ℕ) (P : PlainPath) (c : CopyState) (n : IsNode g s.frames at_here.frame (length G) k node) → g.straight k ≡ every → is_merge node ≡ false → Answered g G k node P → Enters g.table g.code k (erase P) at_here.address →
         c.focus ≡ closed_by 0 qs node → Behind g s c P → At (rank_of node) (suc (suc (merges node))) c
     plain-followed (var j at) k P c n plain apart a e f w =
         let it : Item n.binders k (var j at) P = g.right.right n.binders k at_here.address (var j at) (erase P) n.stands e in
@@ -465,23 +468,63 @@ module _ (g : Compiled) where
     value-data (pick i P) e = absurd cc
 
     straight-executed : (node : Tree) (k : ℕ) (P : PlainPath) (c : CopyState) (n : IsNode g s.frames at_here.frame (length G) k node) (t : PlainShape) (i : PeInsn) (d : ℕ) (at : Place) → erase P ≡ t →
-        IsStraightOf g.code n.binders node t i → Below s.next s.frames → Answered g G k node P → c.focus ≡ closed_by 0 qs node → Behind g s c P → IsExecuted g (extra g) (rank_of node) 2 c (executed g.code i d at at_here s)
+        IsStraightOf g.code n.binders node t i → Below s.next s.frames → Answered g G k node P → c.focus ≡ closed_by 0 qs node → Behind g s c P →
+        IsExecuted g (extra g) (more_in g at_here.frame) (rank_of node) 2 c (executed g.code i d at at_here s)
     straight-executed node k P c n t i d at e (of_value {ss = ss} post height) lo a f w =
         let x = value-data P e in
         eval-followed g s at_here qs G env s.next lo node k x.0 P ss d at c n x.1 a post height f w
     straight-executed node k P c n t i d at e (of_assignment {j = j} {e = q} {here = place} {at = spot} {ss = ss} is post height) lo a f w =
         set-followed g s at_here qs G env s.next lo j q place spot k a.1.0 ss d at c n is a.1.2 a.1.3 post height f (subst (λ (R : PlainPath). Behind g s c R) a.1.1 w)
 
+    -- ---- a form that is executed with a part
+
+    put-data : (kind : PutKind) → (D : DataTy) × (put_atom kind ≡ data_atom D)
+    put-data put_kind.Int = (data_type.Int, refl)
+    put-data put_kind.Char = (data_type.Char, refl)
+    put-data put_kind.Bool = (data_type.Bool, refl)
+
+    fed-executed : (node : Tree) (k : ℕ) (P : PlainPath) (c : CopyState) (n : IsNode g s.frames at_here.frame (length G) k node) (t : PlainShape) (x : Entering) (i : PeInsn) (d : ℕ) (at : Place) → erase P ≡ t → g.straight k ≡ x →
+        FeedsFew (nodes g.phrase) x node → IsFedOf g.table g.code n.binders k node t x i → Answered g G k node P → Enters g.table g.code k (erase P) at_here.address → c.focus ≡ closed_by 0 qs node → Behind g s c P →
+        IsExecuted g (extra g) (more_in g at_here.frame) (rank_of node) 2 c (executed g.code i d at at_here s)
+    fed-executed node k P c n t x i d at same is few (of_condition {y = y} {z = z} {b = b} {p = p} {q = q} {at = spot} {ss = ss} feeds en em) a e f w =
+        fed-followed g s at_here qs G env s.next w.2 node b k (k + 1) (rank_of node) data_type.Bool P (purpose.Choose y z) (if_c (closed_by 0 qs p) (closed_by 0 qs q)) ss d at c n feeds
+        (quarter-spare (nodes b) g.phrase few) a.1 (focus-step c (conditional (closed_by 0 qs b) (closed_by 0 qs p) (closed_by 0 qs q) spot) f) (λ m there o. refl) (λ v there. refl) refl
+        (condition
+        (code-as y (k + 1 + nodes b) p P t same (part-as g later n is (within_first is_entered) n.closed.1 n.depths.1) a.2 en)
+        (code-as z (k + 1 + nodes b + nodes p) q P t same (part-as g later n is (within_later (within_first is_entered)) n.closed.2 n.depths.2) a.3 em))
+        w
+    fed-executed node k P c n t x i d at same is few (of_test {y = y} {b = b} {c = r} {at = spot} {ss = ss} feeds en) a e f w =
+        fed-followed g s at_here qs G env s.next w.2 node b k (k + 1) (rank_of node) data_type.Bool (end atoms.Comm) (purpose.Repeat y) (while_c (closed_by 0 qs node) (closed_by 0 qs r)) ss d at c n feeds
+        (quarter-spare (nodes b) g.phrase few) a.2 (focus-step c (while_do (closed_by 0 qs b) (closed_by 0 qs r) spot) f) (λ m there o. refl) (λ v there. refl) refl
+        (loop_test (itself-again k node P (end atoms.Comm) a.1 n a e)
+        (code-as y (k + 1 + nodes b) r (end atoms.Comm) (at_end a_run) refl (part-as g later n is (within_first is_entered) n.closed.1 n.depths.1) a.3 en))
+        (subst (λ (R : PlainPath). Behind g s c R) a.1 w)
+    fed-executed node k P c n t x i d at same is few (of_assigned {x = y} {p = p} {q = q} {at = spot} {ss = ss} feeds en) a e f w =
+        fed-followed g s at_here qs G env s.next w.2 node q k (k + 1 + nodes p) (rank_of node) a.1.0 (end atoms.Comm) (purpose.Store y) (assign_c (closed_by 0 qs p)) ss d at c n feeds
+        (quarter-spare (nodes q) g.phrase few) a.1.3 (focus-step c (assign (closed_by 0 qs p) (closed_by 0 qs q) spot) f) (λ m there o. refl) (λ v there. refl) refl
+        (assigned_value a.1.0 (code-as y (k + 1) p (end (acceptor_atom a.1.0)) (at_end an_assignment) (acceptor-erase a.1.0) (part-as g first_alone n is (within_first is_entered) n.closed.0 n.depths.0) a.1.2 en))
+        (subst (λ (R : PlainPath). Behind g s c R) a.1.1 w)
+    fed-executed node k P c n t x i d at same is few (of_output {kind = kind} {p = p} {at = spot} {ss = ss} feeds) a e f w =
+        let D = put-data kind in
+        fed-followed g s at_here qs G env s.next w.2 node p k (k + 1) (rank_of node) D.0 (end atoms.Comm) (purpose.Write kind) (put_c kind) ss d at c n feeds
+        (quarter-spare (nodes p) g.phrase few) (subst (λ (A : Atom). Answered g G (k + 1) p (end A)) D.1 a.2) (focus-step c (put kind (closed_by 0 qs p) spot) f) (λ m there o. refl) (λ v there. refl) refl
+        (subst (λ (A : Atom). ContextTakes g s.frames (put_c kind) (put_c kind) (end A) (end atoms.Comm)) D.1 put_datum)
+        (subst (λ (R : PlainPath). Behind g s c R) a.1 w)
+
     -- an item is executed
-    dispatch : (node : Tree) (k : ℕ) (P : PlainPath) (c : CopyState) (n : IsNode g s.frames at_here.frame (length G) k node) → Answered g G k node P → c.focus ≡ closed_by 0 qs node → Behind g s c P →
-        Item n.binders k node P → (g.straight k ≡ false → At (rank_of node) (suc (suc (merges node))) c) → Executed (rank_of node) (suc (suc (merges node))) c
-    dispatch node k P c n a f w it go = by it.2.insn
+    dispatch : (node : Tree) (k : ℕ) (P : PlainPath) (c : CopyState) (n : IsNode g s.frames at_here.frame (length G) k node) → Answered g G k node P → Enters g.table g.code k (erase P) at_here.address →
+        c.focus ≡ closed_by 0 qs node → Behind g s c P → Item n.binders k node P → (g.straight k ≡ every → At (rank_of node) (suc (suc (merges node))) c) → Executed (rank_of node) (suc (suc (merges node))) c
+    dispatch node k P c n a e f w it go = by it.2.insn
       where
         by : IsInsnAt g.handed g.straight g.table g.code n.binders k node (erase P) it.0.insn → Executed (rank_of node) (suc (suc (merges node))) c
         by (by_parts plain h) = by_steps (go plain)
         by (at_once is h) =
-            subst (λ (o : Option PeItem). IsExecuted g (extra g) (rank_of node) (suc (suc (merges node))) c (item_executed g.code o at_here s)) (sym it.1)
+            subst (λ (o : Option PeItem). IsExecuted g (extra g) (more_in g at_here.frame) (rank_of node) (suc (suc (merges node))) c (item_executed g.code o at_here s)) (sym it.1)
             (executed-weaker g {r = rank_of node} {a = 2} (omega arith) (omega arith) (straight-executed node k P c n (erase P) it.0.insn it.0.depth it.0.place refl h w.2 a f w))
+        by (fed {e = x} is h) =
+            subst (λ (o : Option PeItem). IsExecuted g (extra g) (more_in g at_here.frame) (rank_of node) (suc (suc (merges node))) c (item_executed g.code o at_here s)) (sym it.1)
+            (executed-weaker g {r = rank_of node} {a = 2} (omega arith) (omega arith)
+            (fed-executed node k P c n (erase P) x it.0.insn it.0.depth it.0.place refl is (subst (λ (y : Entering). FeedsFew (nodes g.phrase) y node) is (g.right.fits n.binders k node n.stands)) h a e f w))
 
     pub executed-followed : (node : Tree) (k : ℕ) (P : PlainPath) (c : CopyState) → IsNode g s.frames at_here.frame (length G) k node → Answered g G k node P → Enters g.table g.code k (erase P) at_here.address →
         c.focus ≡ closed_by 0 qs node → Behind g s c P → Executed (rank_of node) (suc (suc (merges node))) c
@@ -490,48 +533,48 @@ module _ (g : Compiled) where
         (λ j d m h en is v. executed-followed p j P d m h en is v) (λ j d m h en is v. executed-followed q j P d m h en is v)
     executed-followed (mark m at) k P c n a e f w = absurd a
     executed-followed (var j at) k P c n a e f w =
-        dispatch (var j at) k P c n a f w (g.right.right n.binders k at_here.address (var j at) (erase P) n.stands e) (λ plain. plain-followed (var j at) k P c n plain refl a e f w)
+        dispatch (var j at) k P c n a e f w (g.right.right n.binders k at_here.address (var j at) (erase P) n.stands e) (λ plain. plain-followed (var j at) k P c n plain refl a e f w)
     executed-followed (lit u at) k P c n a e f w =
-        dispatch (lit u at) k P c n a f w (g.right.right n.binders k at_here.address (lit u at) (erase P) n.stands e) (λ plain. plain-followed (lit u at) k P c n plain refl a e f w)
+        dispatch (lit u at) k P c n a e f w (g.right.right n.binders k at_here.address (lit u at) (erase P) n.stands e) (λ plain. plain-followed (lit u at) k P c n plain refl a e f w)
     executed-followed (unary op p at) k P c n a e f w =
-        dispatch (unary op p at) k P c n a f w (g.right.right n.binders k at_here.address (unary op p at) (erase P) n.stands e) (λ plain. plain-followed (unary op p at) k P c n plain refl a e f w)
+        dispatch (unary op p at) k P c n a e f w (g.right.right n.binders k at_here.address (unary op p at) (erase P) n.stands e) (λ plain. plain-followed (unary op p at) k P c n plain refl a e f w)
     executed-followed (binary op p q at) k P c n a e f w =
-        dispatch (binary op p q at) k P c n a f w (g.right.right n.binders k at_here.address (binary op p q at) (erase P) n.stands e) (λ plain. plain-followed (binary op p q at) k P c n plain refl a e f w)
+        dispatch (binary op p q at) k P c n a e f w (g.right.right n.binders k at_here.address (binary op p q at) (erase P) n.stands e) (λ plain. plain-followed (binary op p q at) k P c n plain refl a e f w)
     executed-followed (conditional b p q at) k P c n a e f w =
-        dispatch (conditional b p q at) k P c n a f w (g.right.right n.binders k at_here.address (conditional b p q at) (erase P) n.stands e) (λ plain. plain-followed (conditional b p q at) k P c n plain refl a e f w)
+        dispatch (conditional b p q at) k P c n a e f w (g.right.right n.binders k at_here.address (conditional b p q at) (erase P) n.stands e) (λ plain. plain-followed (conditional b p q at) k P c n plain refl a e f w)
     executed-followed (case i parts at) k P c n a e f w =
-        dispatch (case i parts at) k P c n a f w (g.right.right n.binders k at_here.address (case i parts at) (erase P) n.stands e) (λ plain. plain-followed (case i parts at) k P c n plain refl a e f w)
+        dispatch (case i parts at) k P c n a e f w (g.right.right n.binders k at_here.address (case i parts at) (erase P) n.stands e) (λ plain. plain-followed (case i parts at) k P c n plain refl a e f w)
     executed-followed (lam d As b at) k P c n a e f w =
-        dispatch (lam d As b at) k P c n a f w (g.right.right n.binders k at_here.address (lam d As b at) (erase P) n.stands e) (λ plain. plain-followed (lam d As b at) k P c n plain refl a e f w)
+        dispatch (lam d As b at) k P c n a e f w (g.right.right n.binders k at_here.address (lam d As b at) (erase P) n.stands e) (λ plain. plain-followed (lam d As b at) k P c n plain refl a e f w)
     executed-followed (app p q at) k P c n a e f w =
-        dispatch (app p q at) k P c n a f w (g.right.right n.binders k at_here.address (app p q at) (erase P) n.stands e) (λ plain. plain-followed (app p q at) k P c n plain refl a e f w)
+        dispatch (app p q at) k P c n a e f w (g.right.right n.binders k at_here.address (app p q at) (erase P) n.stands e) (λ plain. plain-followed (app p q at) k P c n plain refl a e f w)
     executed-followed (field i p at) k P c n a e f w =
-        dispatch (field i p at) k P c n a f w (g.right.right n.binders k at_here.address (field i p at) (erase P) n.stands e) (λ plain. plain-followed (field i p at) k P c n plain refl a e f w)
+        dispatch (field i p at) k P c n a e f w (g.right.right n.binders k at_here.address (field i p at) (erase P) n.stands e) (λ plain. plain-followed (field i p at) k P c n plain refl a e f w)
     executed-followed (sel p i at) k P c n a e f w =
-        dispatch (sel p i at) k P c n a f w (g.right.right n.binders k at_here.address (sel p i at) (erase P) n.stands e) (λ plain. plain-followed (sel p i at) k P c n plain refl a e f w)
+        dispatch (sel p i at) k P c n a e f w (g.right.right n.binders k at_here.address (sel p i at) (erase P) n.stands e) (λ plain. plain-followed (sel p i at) k P c n plain refl a e f w)
     executed-followed (let_in d p b at) k P c n a e f w =
-        dispatch (let_in d p b at) k P c n a f w (g.right.right n.binders k at_here.address (let_in d p b at) (erase P) n.stands e) (λ plain. plain-followed (let_in d p b at) k P c n plain refl a e f w)
+        dispatch (let_in d p b at) k P c n a e f w (g.right.right n.binders k at_here.address (let_in d p b at) (erase P) n.stands e) (λ plain. plain-followed (let_in d p b at) k P c n plain refl a e f w)
     executed-followed (rec d A b at) k P c n a e f w =
-        dispatch (rec d A b at) k P c n a f w (g.right.right n.binders k at_here.address (rec d A b at) (erase P) n.stands e) (λ plain. plain-followed (rec d A b at) k P c n plain refl a e f w)
+        dispatch (rec d A b at) k P c n a e f w (g.right.right n.binders k at_here.address (rec d A b at) (erase P) n.stands e) (λ plain. plain-followed (rec d A b at) k P c n plain refl a e f w)
     executed-followed (skip at) k P c n a e f w =
-        dispatch (skip at) k P c n a f w (g.right.right n.binders k at_here.address (skip at) (erase P) n.stands e) (λ plain. plain-followed (skip at) k P c n plain refl a e f w)
+        dispatch (skip at) k P c n a e f w (g.right.right n.binders k at_here.address (skip at) (erase P) n.stands e) (λ plain. plain-followed (skip at) k P c n plain refl a e f w)
     executed-followed (seq p q at) k P c n a e f w =
-        dispatch (seq p q at) k P c n a f w (g.right.right n.binders k at_here.address (seq p q at) (erase P) n.stands e) (λ plain. plain-followed (seq p q at) k P c n plain refl a e f w)
+        dispatch (seq p q at) k P c n a e f w (g.right.right n.binders k at_here.address (seq p q at) (erase P) n.stands e) (λ plain. plain-followed (seq p q at) k P c n plain refl a e f w)
     executed-followed (assign p q at) k P c n a e f w =
-        dispatch (assign p q at) k P c n a f w (g.right.right n.binders k at_here.address (assign p q at) (erase P) n.stands e) (λ plain. plain-followed (assign p q at) k P c n plain refl a e f w)
+        dispatch (assign p q at) k P c n a e f w (g.right.right n.binders k at_here.address (assign p q at) (erase P) n.stands e) (λ plain. plain-followed (assign p q at) k P c n plain refl a e f w)
     executed-followed (while_do b i at) k P c n a e f w =
-        dispatch (while_do b i at) k P c n a f w (g.right.right n.binders k at_here.address (while_do b i at) (erase P) n.stands e) (λ plain. plain-followed (while_do b i at) k P c n plain refl a e f w)
+        dispatch (while_do b i at) k P c n a e f w (g.right.right n.binders k at_here.address (while_do b i at) (erase P) n.stands e) (λ plain. plain-followed (while_do b i at) k P c n plain refl a e f w)
     executed-followed (forever i at) k P c n a e f w =
-        dispatch (forever i at) k P c n a f w (g.right.right n.binders k at_here.address (forever i at) (erase P) n.stands e) (λ plain. plain-followed (forever i at) k P c n plain refl a e f w)
+        dispatch (forever i at) k P c n a e f w (g.right.right n.binders k at_here.address (forever i at) (erase P) n.stands e) (λ plain. plain-followed (forever i at) k P c n plain refl a e f w)
     executed-followed (new d D i b at) k P c n a e f w =
-        dispatch (new d D i b at) k P c n a f w (g.right.right n.binders k at_here.address (new d D i b at) (erase P) n.stands e) (λ plain. plain-followed (new d D i b at) k P c n plain refl a e f w)
+        dispatch (new d D i b at) k P c n a e f w (g.right.right n.binders k at_here.address (new d D i b at) (erase P) n.stands e) (λ plain. plain-followed (new d D i b at) k P c n plain refl a e f w)
     executed-followed (cells d i b at) k P c n a e f w =
-        dispatch (cells d i b at) k P c n a f w (g.right.right n.binders k at_here.address (cells d i b at) (erase P) n.stands e) (λ plain. plain-followed (cells d i b at) k P c n plain refl a e f w)
+        dispatch (cells d i b at) k P c n a e f w (g.right.right n.binders k at_here.address (cells d i b at) (erase P) n.stands e) (λ plain. plain-followed (cells d i b at) k P c n plain refl a e f w)
     executed-followed (escape d b at) k P c n a e f w =
-        dispatch (escape d b at) k P c n a f w (g.right.right n.binders k at_here.address (escape d b at) (erase P) n.stands e) (λ plain. plain-followed (escape d b at) k P c n plain refl a e f w)
+        dispatch (escape d b at) k P c n a e f w (g.right.right n.binders k at_here.address (escape d b at) (erase P) n.stands e) (λ plain. plain-followed (escape d b at) k P c n plain refl a e f w)
     executed-followed (accept d D b at) k P c n a e f w =
-        dispatch (accept d D b at) k P c n a f w (g.right.right n.binders k at_here.address (accept d D b at) (erase P) n.stands e) (λ plain. plain-followed (accept d D b at) k P c n plain refl a e f w)
+        dispatch (accept d D b at) k P c n a e f w (g.right.right n.binders k at_here.address (accept d D b at) (erase P) n.stands e) (λ plain. plain-followed (accept d D b at) k P c n plain refl a e f w)
     executed-followed (put kind p at) k P c n a e f w =
-        dispatch (put kind p at) k P c n a f w (g.right.right n.binders k at_here.address (put kind p at) (erase P) n.stands e) (λ plain. plain-followed (put kind p at) k P c n plain refl a e f w)
+        dispatch (put kind p at) k P c n a e f w (g.right.right n.binders k at_here.address (put kind p at) (erase P) n.stands e) (λ plain. plain-followed (put kind p at) k P c n plain refl a e f w)
     executed-followed (read p at) k P c n a e f w =
-        dispatch (read p at) k P c n a f w (g.right.right n.binders k at_here.address (read p at) (erase P) n.stands e) (λ plain. plain-followed (read p at) k P c n plain refl a e f w)
+        dispatch (read p at) k P c n a e f w (g.right.right n.binders k at_here.address (read p at) (erase P) n.stands e) (λ plain. plain-followed (read p at) k P c n plain refl a e f w)

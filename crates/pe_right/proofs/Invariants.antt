@@ -30,7 +30,7 @@ use Rattle.pe_code.specs.Code.{item_at, picked_from}
 use Rattle.pe_machine.specs.States.{Pointer, Thunk, source, datum, cell_of, jump_of, sequence_of, Binding, to_thunk, to_cell, to_escape, to_sequence, Frame, Focus, code_at, value, completed, Wanted, PeContext, Held, PeState, oldest, is_named}
 use Rattle.pe_right.specs.Closing.{closed_by}
 use Rattle.pe_right.specs.Constants.{constant}
-use Rattle.pe_right.specs.Entered.{BinderKind, a_cell, another, IsEntered}
+use Rattle.pe_right.specs.Entered.{BinderKind, a_cell, another, Entering, IsEntered}
 use Rattle.pe_right.specs.Right.{is_variable, Enters, IsCodeOf}
 use Rattle.pe_right.specs.Typed.{IsTableOf}
 use Rattle.pe_right.specs.ReadsBack.{cells_in}
@@ -48,7 +48,7 @@ pub record Compiled : Type 0 where
   pub typed : IsTableOf phrase table
   pub handed : Tree → Option Datum
   pub constants : (q : Tree) (v : Datum) → handed q ≡ Some v → constant q ≡ Some v
-  pub straight : ℕ → Bool
+  pub straight : ℕ → Entering
   pub right : IsCodeOf handed straight phrase table code
 
 -- the fact holds of each path above one of the list

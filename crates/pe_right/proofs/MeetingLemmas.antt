@@ -204,7 +204,7 @@ module _ (g : Compiled) where
 
   -- ---- a datum
 
-  datum-followed : (v : Datum) (here : Place) (k : PeContext) (x : CopyContext) (P Q : PlainPath) (s : PeState) (c d : CopyState) →
+  pub datum-followed : (v : Datum) (here : Place) (k : PeContext) (x : CopyContext) (P Q : PlainPath) (s : PeState) (c d : CopyState) →
       copy_step d ≡ copy.datum_meets v here x c → P ≡ end (datum_atom v) → ContextTakes g s.frames k x P Q → ContextsTake g s.frames s.contexts c.contexts Q →
       store_after x c.store ≡ cells_in s.frames → Below s.next s.frames → c.next ≡ s.next → c.load ≡ s.load → IsFollowed g 0 2 d (datum_meets g.code v k s)
   datum-followed v here k x P Q s c d e i (unary_operand {op = op} {at = at}) t st lo nx ld =

@@ -1,5 +1,5 @@
 -- Merges in a phrase, and how many nodes are left beside them.
-use Rattle.std.proofs.Common.{ℕ, ◌+◌, ◌-◌, ◌≤◌, ◌≡◌, Some, refl, arith}
+use Rattle.std.proofs.Common.{ℕ, ◌+◌, ◌-◌, ◌*◌, ◌≤◌, ◌≡◌, Some, refl, arith}
 use Rattle.fy_base.specs.declared.data.Datum.{Datum}
 use Rattle.fy_phrase.specs.Tree.{Tree, Trees, no_trees, and_tree, var, lit, unary, binary, cond as conditional, case, lam, app, field, sel, merge, let_in, rec, skip, seq, assign, while_do, forever, new, cells, escape, accept, put, read, mark}
 use Rattle.fy_phrase.specs.Sizes.{nodes, all_nodes}
@@ -39,41 +39,51 @@ abbrev mutual
   all_merges (and_tree p ps) = merges p + all_merges ps
 
 mutual
-  -- fewer than the nodes
-  pub merges-few : (p : Tree) → merges p + 1 ≤ nodes p
-  merges-few (var k at) = omega arith
-  merges-few (lit v at) = omega arith
-  merges-few (unary op p at) = let h0 = merges-few p in omega arith
-  merges-few (binary op p q at) = let h0 = merges-few p in let h1 = merges-few q in omega arith
-  merges-few (conditional b p q at) = let h0 = merges-few b in let h1 = merges-few p in let h2 = merges-few q in omega arith
-  merges-few (case e parts at) = let h0 = merges-few e in let h1 = all-merges-few parts in omega arith
-  merges-few (lam n As b at) = let h0 = merges-few b in omega arith
-  merges-few (app p q at) = let h0 = merges-few p in let h1 = merges-few q in omega arith
-  merges-few (field i p at) = let h0 = merges-few p in omega arith
-  merges-few (sel p i at) = let h0 = merges-few p in omega arith
-  merges-few (merge p q at) = let h0 = merges-few p in let h1 = merges-few q in omega arith
-  merges-few (let_in n p b at) = let h0 = merges-few p in let h1 = merges-few b in omega arith
-  merges-few (rec n T b at) = let h0 = merges-few b in omega arith
-  merges-few (skip at) = omega arith
-  merges-few (seq p q at) = let h0 = merges-few p in let h1 = merges-few q in omega arith
-  merges-few (assign p q at) = let h0 = merges-few p in let h1 = merges-few q in omega arith
-  merges-few (while_do b c at) = let h0 = merges-few b in let h1 = merges-few c in omega arith
-  merges-few (forever c at) = let h0 = merges-few c in omega arith
-  merges-few (new n D e b at) = let h0 = merges-few e in let h1 = merges-few b in omega arith
-  merges-few (cells n e b at) = let h0 = merges-few e in let h1 = merges-few b in omega arith
-  merges-few (escape n b at) = let h0 = merges-few b in omega arith
-  merges-few (accept n D b at) = let h0 = merges-few b in omega arith
-  merges-few (put kind p at) = let h0 = merges-few p in omega arith
-  merges-few (read p at) = let h0 = merges-few p in omega arith
-  merges-few (mark m at) = omega arith
+  -- fewer than half the nodes
+  pub merges-half : (p : Tree) → 2 * merges p + 1 ≤ nodes p
+  merges-half (var k at) = omega arith
+  merges-half (lit v at) = omega arith
+  merges-half (unary op p at) = let h0 = merges-half p in omega arith
+  merges-half (binary op p q at) = let h0 = merges-half p in let h1 = merges-half q in omega arith
+  merges-half (conditional b p q at) = let h0 = merges-half b in let h1 = merges-half p in let h2 = merges-half q in omega arith
+  merges-half (case e parts at) = let h0 = merges-half e in let h1 = all-merges-half parts in omega arith
+  merges-half (lam n As b at) = let h0 = merges-half b in omega arith
+  merges-half (app p q at) = let h0 = merges-half p in let h1 = merges-half q in omega arith
+  merges-half (field i p at) = let h0 = merges-half p in omega arith
+  merges-half (sel p i at) = let h0 = merges-half p in omega arith
+  merges-half (merge p q at) = let h0 = merges-half p in let h1 = merges-half q in omega arith
+  merges-half (let_in n p b at) = let h0 = merges-half p in let h1 = merges-half b in omega arith
+  merges-half (rec n T b at) = let h0 = merges-half b in omega arith
+  merges-half (skip at) = omega arith
+  merges-half (seq p q at) = let h0 = merges-half p in let h1 = merges-half q in omega arith
+  merges-half (assign p q at) = let h0 = merges-half p in let h1 = merges-half q in omega arith
+  merges-half (while_do b c at) = let h0 = merges-half b in let h1 = merges-half c in omega arith
+  merges-half (forever c at) = let h0 = merges-half c in omega arith
+  merges-half (new n D e b at) = let h0 = merges-half e in let h1 = merges-half b in omega arith
+  merges-half (cells n e b at) = let h0 = merges-half e in let h1 = merges-half b in omega arith
+  merges-half (escape n b at) = let h0 = merges-half b in omega arith
+  merges-half (accept n D b at) = let h0 = merges-half b in omega arith
+  merges-half (put kind p at) = let h0 = merges-half p in omega arith
+  merges-half (read p at) = let h0 = merges-half p in omega arith
+  merges-half (mark m at) = omega arith
 
-  pub all-merges-few : (ps : Trees) → all_merges ps ≤ all_nodes ps
-  all-merges-few no_trees = omega arith
-  all-merges-few (and_tree p ps) = let h0 = merges-few p in let h1 = all-merges-few ps in omega arith
+  pub all-merges-half : (ps : Trees) → 2 * all_merges ps ≤ all_nodes ps
+  all-merges-half no_trees = omega arith
+  all-merges-half (and_tree p ps) = let h0 = merges-half p in let h1 = all-merges-half ps in omega arith
+
+pub merges-few : (p : Tree) → merges p + 1 ≤ nodes p
+merges-few p = let h = merges-half p in omega arith
+
+pub all-merges-few : (ps : Trees) → all_merges ps ≤ all_nodes ps
+all-merges-few ps = let h = all-merges-half ps in omega arith
 
 -- the nodes beside the merges, but one
 abbrev pub spare : Tree → ℕ
 spare p = nodes p - (merges p + 1)
+
+-- more than half of a quarter
+pub quarter-spare : (n : ℕ) (p : Tree) → 4 * n ≤ nodes p → 2 * n ≤ spare p
+quarter-spare n p few = let h = merges-half p in omega arith
 
 -- a constant has none
 pub value-merges : (q : Tree) (v : Datum) → value_of q ≡ Some v → merges q ≡ 0

@@ -67,11 +67,6 @@ module _ (g : Compiled) where
   abbrev pub Moves : (r b : ℕ) → CopyState → PeMove → Type 0
   Moves r b c m = MovesIn 0 r b c m
 
-  -- an instruction is executed: the machine faults before a phrase within which the copy rule faults
-  pub data IsExecuted (x : ℕ) : (r b : ℕ) → CopyState → PeMove → Type 0 where
-    by_steps : {r b : ℕ} {c : CopyState} {m : PeMove} → MovesIn x r b c m → IsExecuted x r b c m
-    fails_within : {r b j : ℕ} {kind : FaultKind} {at : Place} {c d : CopyState} → Steps j c d → suc j ≤ b + x → copy_step d ≡ copy.faults kind at → c.load ≤ d.load → IsExecuted x r b c (faults kind at)
-
   pub data IsFollowedIn (x : ℕ) : (r b : ℕ) → CopyState → PeMove → Type 0 where
     by_moves : {r b : ℕ} {c : CopyState} {m : PeMove} → MovesIn x r b c m → IsFollowedIn x r b c m
     puts_text : {r b : ℕ} {text : Bytes} {m : PeState} {c d : CopyState} → 1 ≤ b → copy_step c ≡ copy.puts text d → Simulates g 2 m d → IsFollowedIn x r b c (puts text m)
@@ -80,6 +75,17 @@ module _ (g : Compiled) where
 
   abbrev pub IsFollowed : (r b : ℕ) → CopyState → PeMove → Type 0
   IsFollowed r b c m = IsFollowedIn 0 r b c m
+
+  -- how many steps of the copy rule more may go with an instruction that is executed in a frame
+  abbrev pub more_in : Option ℕ → ℕ
+  more_in None = 0
+  more_in (Some n) = spare g.phrase
+
+  -- an instruction is executed: the machine faults before a phrase within which the copy rule faults, and goes on with a datum that the copy rule comes to after some steps, y more than b at most
+  pub data IsExecuted (x y : ℕ) : (r b : ℕ) → CopyState → PeMove → Type 0 where
+    by_steps : {r b : ℕ} {c : CopyState} {m : PeMove} → MovesIn x r b c m → IsExecuted x y r b c m
+    fails_within : {r b j : ℕ} {kind : FaultKind} {at : Place} {c d : CopyState} → Steps j c d → suc j ≤ b + x → copy_step d ≡ copy.faults kind at → c.load ≤ d.load → IsExecuted x y r b c (faults kind at)
+    meets_after : {r b j : ℕ} {m : PeMove} {c d : CopyState} → Steps j c d → 1 ≤ j → suc (suc j) ≤ b + y → c.load ≤ d.load → IsFollowed 2 2 d m → IsExecuted x y r b c m
 
   pub one_move : {x r b : ℕ} {m : PeState} {c d : CopyState} → copy_step c ≡ copy.goes d → 1 ≤ b → Simulates g 2 m d → MovesIn x r b c (goes m)
   one_move e l t = goes_on 2 (and_step e no_step) (omega arith) (λ z. absurd (omega arith)) (omega arith) t
@@ -107,17 +113,15 @@ module _ (g : Compiled) where
   followed-weaker q l (faults_at k e) = faults_at (omega arith) e
   followed-weaker q l (faults_within x k e t) = faults_within x (omega arith) e t
 
-  pub executed-weaker : {x r s a b : ℕ} {m : PeMove} {c : CopyState} → r ≤ s → a ≤ b → IsExecuted x r a c m → IsExecuted x s b c m
+  pub executed-weaker : {x y r s a b : ℕ} {m : PeMove} {c : CopyState} → r ≤ s → a ≤ b → IsExecuted x y r a c m → IsExecuted x y s b c m
   executed-weaker q l (by_steps x) = by_steps (moves-weaker q l x)
   executed-weaker q l (fails_within x k e t) = fails_within x (omega arith) e t
+  executed-weaker q l (meets_after x some k up t) = meets_after x some (omega arith) up t
 
-  pub executed-earlier : {x r s b : ℕ} {m : PeMove} {c d : CopyState} → copy_step c ≡ copy.goes d → c.load ≤ d.load → IsExecuted x r b d m → IsExecuted x s (suc b) c m
+  pub executed-earlier : {x y r s b : ℕ} {m : PeMove} {c d : CopyState} → copy_step c ≡ copy.goes d → c.load ≤ d.load → IsExecuted x y r b d m → IsExecuted x y s (suc b) c m
   executed-earlier e up (by_steps x) = by_steps (earlier e x)
   executed-earlier e up (fails_within x k f t) = fails_within (and_step e x) (omega arith) f (omega arith)
-
-  pub executed-is : {x r b : ℕ} {m : PeMove} {c : CopyState} → IsExecuted x r b c m → IsFollowedIn x r b c m
-  executed-is (by_steps x) = by_moves x
-  executed-is (fails_within x k e t) = faults_within x k e t
+  executed-earlier e up (meets_after x some k over t) = meets_after (and_step e x) (omega arith) (omega arith) (omega arith) t
 
   -- ---- words of the table
 

@@ -1,12 +1,12 @@
 -- Nodes of a phrase: a part of a node is one, it is no larger, and each has its number in preorder.
-use Rattle.std.proofs.Common.{ℕ, suc, ◌+◌, ◌≤◌, ◌≡◌, Bool, true, false, List, [], ◌∷◌, length, Option, Some, None, refl, sym, ap, ◌∙◌, subst, inl, arith}
+use Rattle.std.proofs.Common.{ℕ, suc, ◌+◌, ◌≤◌, ◌≡◌, List, [], ◌∷◌, length, Option, Some, None, refl, sym, ap, ◌∙◌, subst, inl, arith}
 use Rattle.fy_phrase.specs.Tree.{Tree, Trees, no_trees, and_tree, case, lam, let_in, rec, new, cells, escape, accept}
 use Rattle.fy_phrase.specs.Sizes.{nodes, all_nodes}
 use Rattle.fy_phrase.specs.WellMade.{IsClosedUnder, HasDepthsUnder}
 use Rattle.fy_derive.specs.Shapes.{of_trees, parts_of, IsNodeAt, IsNodeAmong, itself as itself_at, in_part as in_part_at, in_first as in_first_at, in_later as in_later_at}
 use Rattle.pe_right.specs.Right.{with_depth, parts_under, IsNodeUnder, IsNodeAmongUnder, itself, in_part, in_first, in_later}
 use Rattle.pe_right.proofs.Merges.{merges, all_merges, merges-few, spare}
-use Rattle.pe_right.specs.Entered.{BinderKind, with_binders, parts_within, entered_parts, none_straight, IsEntered, is_entered, within_part, IsEnteredAmong, within_first, within_later}
+use Rattle.pe_right.specs.Entered.{BinderKind, with_binders, parts_within, Entering, every, no_part, later, first_alone, but_first, the_first, behind_first, entered_parts, first_entered, none_straight, IsEntered, is_entered, within_part, IsEnteredAmong, within_first, within_later}
 use Rattle.pe_machine.specs.States.{Frame}
 use Rattle.pe_right.proofs.Invariants.{Compiled, IsBoundBy, IsNode, IsBody}
 
@@ -109,6 +109,10 @@ mutual
 pub constant-spare : {d m e k : ℕ} {p q : Tree} → IsNodeUnder d m p e k q → merges q ≡ 0 → nodes q ≤ spare p + 1
 constant-spare {p = p} u z = let l = under-spare u in let h = merges-few p in omega arith
 
+-- what stands beside other nodes of a node is smaller than what is spare
+pub part-spare : {d m e k : ℕ} {p q : Tree} (n : ℕ) → IsNodeUnder d m p e k q → n + merges q + 1 ≤ nodes q → n ≤ spare p
+part-spare {p = p} n u few = let l = under-spare u in let h = merges-few p in omega arith
+
 -- ---- nodes that are entered
 
 abbrev lengths : List (List BinderKind × Tree) → List (ℕ × Tree)
@@ -133,15 +137,30 @@ parts-lengths w (escape n b at) = ap (λ (d : ℕ). (d, b) ∷ []) (one-more w)
 parts-lengths w (accept n D b at) = ap (λ (d : ℕ). (d, b) ∷ []) (one-more w)
 parts-lengths w p = refl
 
-among-entered-parts : (b : Bool) (w : List BinderKind) (p : Tree) {m e k : ℕ} {q : Tree} → IsNodeAmongUnder m (lengths (entered_parts b w p)) e k q → IsNodeAmongUnder m (parts_under (length w) p) e k q
-among-entered-parts true w p a = elim a [ ]
-among-entered-parts false w p {m = m} {e = e} {k = k} {q = q} a = subst (λ (ps : List (ℕ × Tree)). IsNodeAmongUnder m ps e k q) (parts-lengths w p) a
+among-but-first : (n : ℕ) (xs : List (List BinderKind × Tree)) {d k : ℕ} {q : Tree} → IsNodeAmongUnder (behind_first n xs) (lengths (but_first xs)) d k q → IsNodeAmongUnder n (lengths xs) d k q
+among-but-first n [] a = a
+among-but-first n (x ∷ xs) a = in_later a
 
-module _ (straight : ℕ → Bool) where
+among-the-first : (n : ℕ) (xs : List (List BinderKind × Tree)) {d k : ℕ} {q : Tree} → IsNodeAmongUnder n (lengths (the_first xs)) d k q → IsNodeAmongUnder n (lengths xs) d k q
+among-the-first n [] a = a
+among-the-first n (x ∷ xs) (in_first u) = in_first u
+among-the-first n (x ∷ xs) (in_later a) = elim a [ ]
+
+among-parts-within : (n : ℕ) (w : List BinderKind) (p : Tree) {d k : ℕ} {q : Tree} → IsNodeAmongUnder n (lengths (parts_within w p)) d k q → IsNodeAmongUnder n (parts_under (length w) p) d k q
+among-parts-within n w p {d = d} {k = k} {q = q} a = subst (λ (ps : List (ℕ × Tree)). IsNodeAmongUnder n ps d k q) (parts-lengths w p) a
+
+among-entered-parts : (e : Entering) (w : List BinderKind) (m : ℕ) (p : Tree) {d k : ℕ} {q : Tree} → IsNodeAmongUnder (first_entered e m w p) (lengths (entered_parts e w p)) d k q →
+    IsNodeAmongUnder (m + 1) (parts_under (length w) p) d k q
+among-entered-parts every w m p a = among-parts-within (m + 1) w p a
+among-entered-parts no_part w m p a = elim a [ ]
+among-entered-parts later w m p a = among-parts-within (m + 1) w p (among-but-first (m + 1) (parts_within w p) a)
+among-entered-parts first_alone w m p a = among-parts-within (m + 1) w p (among-the-first (m + 1) (parts_within w p) a)
+
+module _ (straight : ℕ → Entering) where
   mutual
     pub entered-node : {w v : List BinderKind} {m k : ℕ} {p q : Tree} → IsEntered straight w m p v k q → IsNodeUnder (length w) m p (length v) k q
     entered-node is_entered = itself
-    entered-node (within_part {w = w} {m = m} {p = p} a) = in_part (among-entered-parts (straight m) w p (entered-among a))
+    entered-node (within_part {w = w} {m = m} {p = p} a) = in_part (among-entered-parts (straight m) w m p (entered-among a))
 
     entered-among : {v : List BinderKind} {m k : ℕ} {ps : List (List BinderKind × Tree)} {q : Tree} → IsEnteredAmong straight m ps v k q → IsNodeAmongUnder m (lengths ps) (length v) k q
     entered-among (within_first u) = in_first (entered-node u)
@@ -149,19 +168,25 @@ module _ (straight : ℕ → Bool) where
 
   -- parts of a node that is entered
   mutual
-    within-node : {w v u : List BinderKind} {m k j : ℕ} {p q r : Tree} → IsEntered straight w m p v k q → IsEnteredAmong straight (k + 1) (entered_parts (straight k) v q) u j r → IsEntered straight w m p u j r
+    within-node : {w v u : List BinderKind} {m k j : ℕ} {p q r : Tree} → IsEntered straight w m p v k q → IsEnteredAmong straight (first_entered (straight k) k v q) (entered_parts (straight k) v q) u j r →
+        IsEntered straight w m p u j r
     within-node is_entered a = within_part a
     within-node (within_part b) a = within_part (within-among b a)
 
-    within-among : {v u : List BinderKind} {m k j : ℕ} {ps : List (List BinderKind × Tree)} {q r : Tree} → IsEnteredAmong straight m ps v k q → IsEnteredAmong straight (k + 1) (entered_parts (straight k) v q) u j r →
+    within-among : {v u : List BinderKind} {m k j : ℕ} {ps : List (List BinderKind × Tree)} {q r : Tree} → IsEnteredAmong straight m ps v k q →
+        IsEnteredAmong straight (first_entered (straight k) k v q) (entered_parts (straight k) v q) u j r →
         IsEnteredAmong straight m ps u j r
     within-among (within_first n) a = within_first (within-node n a)
     within-among (within_later b) a = within_later (within-among b a)
 
-  pub part-entered : {v u : List BinderKind} {k j : ℕ} {p q r : Tree} → IsEntered straight [] 0 p v k q → straight k ≡ false → IsEnteredAmong straight (k + 1) (parts_within v q) u j r →
+  pub part-entered-as : {v u : List BinderKind} {k j : ℕ} {p q r : Tree} (e : Entering) → IsEntered straight [] 0 p v k q → straight k ≡ e → IsEnteredAmong straight (first_entered e k v q) (entered_parts e v q) u j r →
       IsEntered straight [] 0 p u j r
-  part-entered {v = v} {u = u} {k = k} {j = j} {q = q} {r = r} n plain a =
-      within-node n (subst (λ (b : Bool). IsEnteredAmong straight (k + 1) (entered_parts b v q) u j r) (sym plain) a)
+  part-entered-as {v = v} {u = u} {k = k} {j = j} {q = q} {r = r} e n is a =
+      within-node n (subst (λ (x : Entering). IsEnteredAmong straight (first_entered x k v q) (entered_parts x v q) u j r) (sym is) a)
+
+  pub part-entered : {v u : List BinderKind} {k j : ℕ} {p q r : Tree} → IsEntered straight [] 0 p v k q → straight k ≡ every → IsEnteredAmong straight (k + 1) (parts_within v q) u j r →
+      IsEntered straight [] 0 p u j r
+  part-entered n plain a = part-entered-as every n plain a
 
 -- where no node is evaluated in one step, each is entered
 mutual
@@ -195,13 +220,18 @@ module _ (g : Compiled) where
   pub node-size : {fs : List Frame} {r : Option ℕ} {d k : ℕ} {q : Tree} → IsNode g fs r d k q → nodes q ≤ nodes g.phrase
   node-size n = under-size (under n)
 
-  -- a part under no binder of the node's own, where the node is evaluated by parts
-  pub part : {fs : List Frame} {x : Option ℕ} {d k j : ℕ} {q r : Tree} (n : IsNode g fs x d k q) → g.straight k ≡ false → IsEnteredAmong g.straight (k + 1) (parts_within n.binders q) n.binders j r →
+  -- a part under no binder of the node's own, where it is entered
+  pub part-as : {fs : List Frame} {x : Option ℕ} {d k j : ℕ} {q r : Tree} (e : Entering) (n : IsNode g fs x d k q) → g.straight k ≡ e →
+      IsEnteredAmong g.straight (first_entered e k n.binders q) (entered_parts e n.binders q) n.binders j r → IsClosedUnder d r → HasDepthsUnder d r → IsNode g fs x d j r
+  part-as e n is a closed depths = record { binders = n.binders; stands = part-entered-as g.straight e n.stands is a; many = n.many; bound = n.bound; closed = closed; depths = depths }
+
+  -- where the node is evaluated by parts
+  pub part : {fs : List Frame} {x : Option ℕ} {d k j : ℕ} {q r : Tree} (n : IsNode g fs x d k q) → g.straight k ≡ every → IsEnteredAmong g.straight (k + 1) (parts_within n.binders q) n.binders j r →
       IsClosedUnder d r → HasDepthsUnder d r → IsNode g fs x d j r
   part n plain a closed depths = record { binders = n.binders; stands = part-entered g.straight n.stands plain a; many = n.many; bound = n.bound; closed = closed; depths = depths }
 
   -- the body under its binder
-  pub body : {fs : List Frame} {x : Option ℕ} {y : BinderKind} {d k j : ℕ} {q r : Tree} (n : IsNode g fs x d k q) → g.straight k ≡ false →
+  pub body : {fs : List Frame} {x : Option ℕ} {y : BinderKind} {d k j : ℕ} {q r : Tree} (n : IsNode g fs x d k q) → g.straight k ≡ every →
       IsEnteredAmong g.straight (k + 1) (parts_within n.binders q) (y ∷ n.binders) j r → IsClosedUnder (suc d) r → HasDepthsUnder (suc d) r → IsBody g fs x y d j r
   body n plain a closed depths = record { binders = n.binders; stands = part-entered g.straight n.stands plain a; many = n.many; bound = n.bound; closed = closed; depths = depths }
 

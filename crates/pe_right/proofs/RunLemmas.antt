@@ -7,6 +7,7 @@ use Rattle.fy_base.specs.Outside.{Bytes}
 use Rattle.fy_types.specs.declared.types.Atom.TheVariants as atoms
 use Rattle.fy_types.specs.Paths.{PlainPath, end}
 use Rattle.fy_derive.specs.Shapes.{PlainShape, at_end, a_run}
+use Rattle.fy_phrase.specs.declared.shapes.ShapeTable.{ShapeTable}
 use Rattle.fy_phrase.specs.Tree.{Tree, merge, skip}
 use Rattle.fy_phrase.specs.Contexts.{CopyContext, Pushed}
 use Rattle.fy_phrase.specs.Sizes.{nodes}
@@ -15,6 +16,10 @@ use Rattle.fy_phrase.specs.Copy as copy
 use Rattle.fy_phrase.proofs.Runs.{after_zero, after_suc, after_first, after_both, over_later}
 use Rattle.fy_derive.specs.Atoms.{datum_atom}
 use Rattle.fy_derive.proofs.Asking.{datum_asked, run_asked}
+use Rattle.fy_base.specs.declared.data.Datum.TheVariants as datum
+use Rattle.fy_base.specs.Arithmetic.{written_text}
+use Rattle.pe_code.specs.declared.code.Purpose.{Purpose}
+use Rattle.pe_code.specs.declared.code.Purpose.TheVariants as purpose
 use Rattle.pe_code.specs.declared.code.PeInsn.{PeInsn}
 use Rattle.pe_code.specs.declared.code.PeInsn.TheVariants as insn
 use Rattle.pe_code.specs.declared.code.PeItem.{PeItem}
@@ -23,12 +28,12 @@ use Rattle.pe_code.specs.Code.{item_at, straight_of}
 use Rattle.pe_code.specs.Straight.{Outcome, leaves, fails, has_none, misses}
 use Rattle.fy_base.specs.declared.data.FaultKind.{FaultKind}
 use Rattle.pe_machine.specs.States.{Pointer, Frame, Focus, code_at, value, completed, Held, PeState}
-use Rattle.pe_machine.specs.Step.{PeMove, goes, puts, takes, faults, sticks, loses, focus_on, focused, own_cell_set, faults_at as faults_there, outcome_move, executed, item_executed, step_at, pe_step}
+use Rattle.pe_machine.specs.Step.{PeMove, goes, puts, takes, faults, sticks, loses, focus_on, focused, own_cell_set, faults_at as faults_there, outcome_move, datum_meets, written, waiting, executed, item_executed, step_at, pe_step}
 use Rattle.pe_machine.specs.Run.{Standing, going, ended, faulted, stuck, gone, standing_at, standing_of, PeRun, settled, ticked, start_run, pe_start, pe_after}
 use Rattle.pe_machine.proofs.RunLemmas.{after_zero as pe_zero, after_suc as pe_suc}
-use Rattle.pe_right.specs.Entered.{IsEntered, is_entered, within_first, within_later}
+use Rattle.pe_right.specs.Entered.{Entering, IsEntered, is_entered, within_first, within_later}
 use Rattle.pe_right.specs.Straight.{IsStraightOf, of_value, of_assignment}
-use Rattle.pe_right.specs.Right.{Enters, IsInsnAt, by_parts, at_once, IsItemAt}
+use Rattle.pe_right.specs.Right.{Enters, IsFedOf, of_condition, of_test, of_assigned, of_output, IsInsnAt, by_parts, at_once, fed, IsItemAt}
 use Rattle.pe_right.proofs.EntryLemmas.{form-plain}
 use Rattle.pe_right.specs.Follows.{StandAlike, StandNearlyAlike, HasFaulted, IsReached, IsAsFarAs, FollowsCopyRule}
 use Rattle.pe_right.proofs.ClosingLemmas.{closed_by-nothing}
@@ -36,7 +41,7 @@ use Rattle.pe_right.proofs.DerivedLemmas.{table-answers}
 use Rattle.pe_right.proofs.Invariants.{Compiled, ContextsTake, FocusAnswers, Behind, Simulates, Fills, Follows}
 use Rattle.pe_right.proofs.Merges.{merges, merges-few, spare}
 use Rattle.pe_right.proofs.NodeLemmas.{under, part-entered, under-merges, whole}
-use Rattle.pe_right.proofs.Moves.{Steps, no_step, and_step, at_rest_in, rank-two, extra, MovesIn, executed-is, executed-weaker, goes_on, fills, takes_byte, IsFollowedIn, by_moves, puts_text, faults_at, faults_within, followed-weaker}
+use Rattle.pe_right.proofs.Moves.{Steps, no_step, and_step, at_rest_in, rank-two, extra, MovesIn, executed-weaker, goes_on, fills, takes_byte, IsFollowedIn, by_moves, puts_text, faults_at, faults_within, followed-weaker, more_in, IsExecuted, by_steps, fails_within, meets_after}
 use Rattle.pe_right.proofs.MeetingLemmas.{value-followed, finished-followed, fills-followed}
 use Rattle.pe_right.proofs.InstructionLemmas.{executed-followed}
 use Rattle.pe_right.proofs.Reading.{state-reads}
@@ -178,6 +183,36 @@ outcome-goes code (fails kind a) go m e f k l = by (item_at code a) e
 outcome-goes code has_none go m e f k l = absurd (k (sym e))
 outcome-goes code misses go m e f k l = absurd (l (sym e))
 
+-- a form comes to no datum where its part's datum meets it
+written-none : (o : Option Bytes) (s : PeState) → focus_in (written o s) ≡ None
+written-none (Some text) s = refl
+written-none None s = refl
+
+no-datum : (code : PeCode) (u : Purpose) (v w : Datum) (here : Pointer) → focus_in (datum_meets code v (waiting u here) pe_start) ≡ Some (value w) → ⊥
+no-datum code (purpose.Choose x y) (datum.Bool true) w here e = cc
+no-datum code (purpose.Choose x y) (datum.Bool false) w here e = cc
+no-datum code (purpose.Choose x y) v w here e = cc
+no-datum code (purpose.Repeat x) (datum.Bool true) w here e = cc
+no-datum code (purpose.Repeat x) (datum.Bool false) w here e = cc
+no-datum code (purpose.Repeat x) v w here e = cc
+no-datum code (purpose.Store x) v w here e = cc
+no-datum code (purpose.Write kind) v w here e = let n = written-none (written_text kind v) pe_start in let f : None ≡ Some (value w) = sym n ∙ e in cc
+
+-- nor does it make a frame
+abbrev frames_in : PeMove → List Frame
+frames_in (goes s) = s.frames
+frames_in m = []
+
+still-none : (code : PeCode) (u : Purpose) (v : Datum) (here : Pointer) (s : PeState) → datum_meets code v (waiting u here) pe_start ≡ goes s → s.frames ≡ []
+still-none code (purpose.Choose x y) (datum.Bool true) here s e = sym (ap frames_in e)
+still-none code (purpose.Choose x y) (datum.Bool false) here s e = sym (ap frames_in e)
+still-none code (purpose.Choose x y) v here s e = absurd cc
+still-none code (purpose.Repeat x) (datum.Bool true) here s e = sym (ap frames_in e)
+still-none code (purpose.Repeat x) (datum.Bool false) here s e = sym (ap frames_in e)
+still-none code (purpose.Repeat x) v here s e = absurd cc
+still-none code (purpose.Store x) v here s e = sym (ap frames_in e)
+still-none code (purpose.Write kind) v here s e = let n = written-none (written_text kind v) pe_start in let f : None ≡ Some s.focus = sym n ∙ ap focus_in e in absurd cc
+
 -- where the first step comes to a datum, no context is there
 first-datum : (code : PeCode) (i : PeInsn) (d : ℕ) (at : Place) (here : Pointer) (s : PeState) (v : Datum) → executed code i d at here pe_start ≡ goes s → s.focus ≡ value v → s.contexts ≡ []
 first-datum code (insn.Answer w) d at here s v e f = let x : focus_on (value w) pe_start ≡ s = cc in ap (λ (t : PeState). t.contexts) (sym x)
@@ -189,6 +224,9 @@ first-datum code (insn.Set j ss) d at here s v e f =
     let y = outcome-goes code _ (λ w. own_cell_set None w pe_start) (goes s) e (λ kind there q. cc) (λ q. cc) (λ q. cc) in
     let x : loses ≡ goes s = y.1 in
     absurd cc
+first-datum code (insn.EvalFor ss u) d at here s v e f =
+    let y = outcome-goes code _ (λ w. datum_meets code w (waiting u here) pe_start) (goes s) e (λ kind there q. cc) (λ q. cc) (λ q. cc) in
+    absurd (no-datum code u y.0 v here (ap focus_in y.1 ∙ ap Some f))
 first-datum code i d at here s v e f = let x = sym (ap focus_in e ∙ ap Some f) in absurd cc
 
 -- and where it comes to a finished command, no frame is
@@ -203,6 +241,9 @@ first-end code (insn.Set j ss) d at here s e f =
     let y = outcome-goes code _ (λ w. own_cell_set None w pe_start) (goes s) e (λ kind there q. cc) (λ q. cc) (λ q. cc) in
     let x : loses ≡ goes s = y.1 in
     absurd cc
+first-end code (insn.EvalFor ss u) d at here s e f =
+    let y = outcome-goes code _ (λ w. datum_meets code w (waiting u here) pe_start) (goes s) e (λ kind there q. cc) (λ q. cc) (λ q. cc) in
+    still-none code u y.0 here s y.1
 first-end code i d at here s e f = let x = sym (ap focus_in e ∙ ap Some f) in absurd cc
 
 first-item-end : (code : PeCode) (o : Option PeItem) (here : Pointer) (s : PeState) → item_executed code o here pe_start ≡ goes s → s.focus ≡ completed → s.frames ≡ []
@@ -221,12 +262,20 @@ is_fault m = false
 plain-starts : (code : PeCode) (i : PeInsn) (d : ℕ) (at : Place) (here : Pointer) (kind : FaultKind) (there : Place) → straight_of i ≡ None → executed code i d at here pe_start ≢ faults kind there
 plain-starts code (insn.Eval ss) d at here kind there n e = absurd cc
 plain-starts code (insn.Set j ss) d at here kind there n e = absurd cc
+plain-starts code (insn.EvalFor ss u) d at here kind there n e = absurd cc
 plain-starts code i d at here kind there n e = let x : is_fault (executed code i d at here pe_start) ≡ true = ap is_fault e in absurd cc
 
 -- no command is evaluated in one step within no binder
 no-straight : (code : PeCode) (q : Tree) (t : PlainShape) (i : PeInsn) → t ≡ at_end a_run → IsStraightOf code [] q t i → ⊥
 no-straight code q t i e (of_value post height) = cc
 no-straight code q t i e (of_assignment is post height) = cc
+
+-- and no form is executed with a part
+none-fed : {table : ShapeTable} {code : PeCode} {k : ℕ} {q : Tree} {t : PlainShape} {e : Entering} {i : PeInsn} → IsFedOf table code [] k q t e i → ⊥
+none-fed (of_condition feeds x y) = feeds.within
+none-fed (of_test feeds x) = feeds.within
+none-fed (of_assigned feeds x) = feeds.within
+none-fed (of_output feeds) = feeds.within
 
 is_it_going : (st : Standing) → (st ≡ going) ⊎ (st ≢ going)
 is_it_going going = inl refl
@@ -248,6 +297,12 @@ module _ (g : Compiled) where
   more (code_at p) = extra g
   more (value v) = 0
   more completed = 0
+
+  -- and before it meets a datum
+  abbrev far : Focus → ℕ
+  far (code_at p) = more_in g p.frame
+  far (value v) = 0
+  far completed = 0
 
   -- what is left for a step to a datum, which is due only with the step behind it
   abbrev gap : Focus → ℕ
@@ -278,11 +333,38 @@ module _ (g : Compiled) where
   gap-less stuck f = omega arith
   gap-less gone f = omega arith
 
-  -- a step's count is within one phrase's nodes and one more, with what was left before and what is left then
-  abbrev Room : (x b h : ℕ) → PeMove → Type 0
-  Room x b h m =
-      ((n : ℕ) (s : PeState) (d : CopyState) → m ≡ goes s → Simulates g n s d → b + at_rest_in x s.frames s.focus + gap s.focus ≤ nodes g.phrase + 1 + h)
-      × ((kind : FaultKind) (at : Place) → m ≡ faults kind at → b + x ≤ nodes g.phrase + 1 + h)
+  -- a step's count is within the most, with what is left then
+  abbrev Room : (x b most : ℕ) → PeMove → Type 0
+  Room x b most m =
+      ((n : ℕ) (s : PeState) (d : CopyState) → m ≡ goes s → Simulates g n s d → b + at_rest_in x s.frames s.focus + gap s.focus ≤ most)
+      × ((kind : FaultKind) (at : Place) → m ≡ faults kind at → b + x ≤ most)
+
+  -- which is one phrase's nodes and one more, with what was left before
+  abbrev most_after : ℕ → ℕ
+  most_after h = nodes g.phrase + 1 + h
+
+  -- the count of a step from the focus, also where it meets a datum
+  abbrev StepRoom : ℕ → Focus → PeMove → Type 0
+  StepRoom h f m = Room (more f) (base f) (most_after h) m × (base f + far f + spare g.phrase ≤ most_after h)
+
+  no-rest : (fs : List Frame) (f : Focus) → at_rest_in 0 fs f ≡ 0
+  no-rest fs (code_at p) = refl
+  no-rest fs (value v) = refl
+  no-rest [] completed = refl
+  no-rest (e ∷ fs) completed = refl
+
+  -- of a step from a datum
+  datum-room : (m : PeMove) → Room 0 2 (2 + spare g.phrase) m
+  datum-room m = ((λ n s d e t. let none = no-rest s.frames s.focus in let few = gap-few s.focus in omega (arith, none, few)), λ kind at e. omega arith)
+
+  far-few : (o : Option ℕ) → more_in g o ≤ spare g.phrase
+  far-few None = omega arith
+  far-few (Some n) = omega arith
+
+  room-far : (f : Focus) → base f + far f + spare g.phrase ≤ nodes g.phrase + 1 + gap f
+  room-far (code_at p) = let h = all-nodes in let few = far-few p.frame in omega (arith, h, few)
+  room-far (value v) = let h = all-nodes in omega arith
+  room-far completed = let h = all-nodes in omega arith
 
   room-between : (f : Focus) (fs : List Frame) (e : Focus) → base f + at_rest_in (more f) fs e + gap e ≤ nodes g.phrase + 1 + gap f
   room-between (code_at p) fs (code_at q) = let h = all-nodes in omega arith
@@ -317,6 +399,7 @@ module _ (g : Compiled) where
       executed g.code i d at here pe_start ≢ faults kind there
   starts-well k q i d at here kind there (by_parts plain h) e = plain-starts g.code i d at here kind there (form-plain h) e
   starts-well k q i d at here kind there (at_once is h) e = no-straight g.code q (at_end a_run) i refl h
+  starts-well k q i d at here kind there (fed is h) e = none-fed h
 
   node-starts : (q : Tree) (k : ℕ) (kind : FaultKind) (at : Place) → IsEntered g.straight [] 0 g.phrase [] k q → Enters g.table g.code k (at_end a_run) 0 → pe_step g.code pe_start ≢ faults kind at
   node-starts (merge p q place) k kind at n en e =
@@ -349,23 +432,26 @@ module _ (g : Compiled) where
           let a = subst (λ (f : Focus). FocusAnswers g n s.frames f d.focus t.0) i t.1 in
           absurd (no-contexts s.frames d.contexts t.0 v a.2 (subst (λ (cs : List Held). ContextsTake g s.frames cs d.contexts t.0) none t.2.0))
 
-  first-room : Room (more pe_start.focus) (base pe_start.focus) 0 (pe_step g.code pe_start)
-  first-room = ((λ n s d e t. first-goes n s d e t), λ kind at e. absurd (first-fault kind at e))
+  first-room : StepRoom 0 pe_start.focus (pe_step g.code pe_start)
+  first-room = (((λ n s d e t. first-goes n s d e t), λ kind at e. absurd (first-fault kind at e)), (let h = all-nodes in omega arith))
 
   -- a step from a state that simulates, where a command that is finished has a context
-  step-followed : (k : ℕ) (f : Focus) (P : PlainPath) (s : PeState) (c : CopyState) → FocusAnswers g k s.frames f c.focus P → Behind g s c P → standing_at f s.contexts ≡ going →
-      IsFollowedIn g (more f) k (base f) c (step_at g.code f s)
-  step-followed k (code_at p) P s c a b up =
-      executed-is g (executed-weaker g a.1 (let l = under-merges (under g a.0.4) in omega arith) (executed-followed g s p a.0.2 a.0.3 a.0.7 a.0.1 a.0.0 P c a.0.4 a.0.5 a.0.6 a.0.8 b))
-  step-followed k (value v) P s c a b up = followed-weaker g (omega arith) (omega arith) (value-followed g v a.0 s c P a.1 a.2 b)
-  step-followed k completed P s c a b up =
-      followed-weaker g (omega arith) (omega arith)
-      (finished-followed g a.0 s c P a.1 a.2 (λ none. let f = sym (ap (λ (cs : List Held). standing_at completed cs) none) ∙ up in cc) b)
+  abbrev IsStep : (k : ℕ) → Focus → CopyState → PeMove → Type 0
+  IsStep k f c m = IsFollowedIn g (more f) k (base f) c m ⊎ IsExecuted g (more f) (far f) k (base f) c m
 
-  state-followed : (k : ℕ) (s : PeState) (c : CopyState) → Follows g k s c → standing_of s ≡ going → IsFollowedIn g (more s.focus) k (base s.focus) c (pe_step g.code s)
+  step-followed : (k : ℕ) (f : Focus) (P : PlainPath) (s : PeState) (c : CopyState) → FocusAnswers g k s.frames f c.focus P → Behind g s c P → standing_at f s.contexts ≡ going →
+      IsStep k f c (step_at g.code f s)
+  step-followed k (code_at p) P s c a b up =
+      inr (executed-weaker g a.1 (let l = under-merges (under g a.0.4) in omega arith) (executed-followed g s p a.0.2 a.0.3 a.0.7 a.0.1 a.0.0 P c a.0.4 a.0.5 a.0.6 a.0.8 b))
+  step-followed k (value v) P s c a b up = inl (followed-weaker g (omega arith) (omega arith) (value-followed g v a.0 s c P a.1 a.2 b))
+  step-followed k completed P s c a b up =
+      inl (followed-weaker g (omega arith) (omega arith)
+      (finished-followed g a.0 s c P a.1 a.2 (λ none. let f = sym (ap (λ (cs : List Held). standing_at completed cs) none) ∙ up in cc) b))
+
+  state-followed : (k : ℕ) (s : PeState) (c : CopyState) → Follows g k s c → standing_of s ≡ going → IsStep k s.focus c (pe_step g.code s)
   state-followed k s c (inl t) up = step-followed k s.focus t.0 s c t.1 t.2 up
   state-followed k s c (inr h) up =
-      subst (λ (f : Focus). IsFollowedIn g (more f) k (base f) c (pe_step g.code s)) (sym h.focus) (followed-weaker g (omega arith) (omega arith) (fills-followed g s c h))
+      subst (λ (f : Focus). IsStep k f c (pe_step g.code s)) (sym h.focus) (inl (followed-weaker g (omega arith) (omega arith) (fills-followed g s c h)))
 
   standing-alike : (k : ℕ) (fs : List Frame) (f : Focus) (q : Tree) (cs : List Held) (xs : List (Pushed CopyContext)) (P : PlainPath) → FocusAnswers g k fs f q P →
       ContextsTake g fs cs xs P → StandNearlyAlike (standing_at f cs) (copy.standing_at q xs)
@@ -401,11 +487,11 @@ module _ (g : Compiled) where
     output : r.output ≡ c.output
     fresh : r.standing ≡ going → (standing_of r.state ≡ going) × (c.standing ≡ copy.standing_of c.state)
 
-  -- what a step of the machine comes to: some steps of the copy rule, or none and a lower rank; h was left before
-  record Ticked (h k : ℕ) (r : PeRun) (c : CopyRun) : Type 0 where
+  -- what a step of the machine comes to: some steps of the copy rule, with what is left then the most, or none and a lower rank
+  record Ticked (most k : ℕ) (r : PeRun) (c : CopyRun) : Type 0 where
     steps : ℕ
     rank : ℕ
-    few : steps + gap_of r.standing r.state.focus ≤ nodes g.phrase + 1 + h
+    few : steps + gap_of r.standing r.state.focus ≤ most
     least : rank ≤ 2
     lower : r.standing ≡ going → steps ≡ 0 → rank < k
     same : SameRun rank r (copy.after_more steps c)
@@ -423,7 +509,7 @@ module _ (g : Compiled) where
     fresh = λ up. (up, refl);
   }
 
-  moves-tick : {x b : ℕ} (h k : ℕ) (r : PeRun) (c : CopyRun) (m : PeMove) → Room x b h m → b + spare g.phrase ≤ nodes g.phrase + 1 → c.standing ≡ copy.standing_of c.state → r.input ≡ c.input → r.output ≡ c.output →
+  moves-tick : {x b : ℕ} (h k : ℕ) (r : PeRun) (c : CopyRun) (m : PeMove) → Room x b h m → b + spare g.phrase ≤ h → c.standing ≡ copy.standing_of c.state → r.input ≡ c.input → r.output ≡ c.output →
       MovesIn g x k b c.state m → Ticked h k (settled m r) c
   moves-tick h k r c m room left st ei eo (goes_on {j = j} {m = s} {d = d} n x l z w t) =
       let y = after-steps c refl st x in
@@ -482,7 +568,7 @@ module _ (g : Compiled) where
         before = one.1;
       }
 
-  followed-tick : {x b : ℕ} (h k : ℕ) (r : PeRun) (c : CopyRun) (m : PeMove) → Room x b h m → b + spare g.phrase ≤ nodes g.phrase + 1 → Follows g k r.state c.state → k ≤ 2 → c.standing ≡ copy.standing_of c.state → r.input ≡ c.input → r.output ≡ c.output →
+  followed-tick : {x b : ℕ} (h k : ℕ) (r : PeRun) (c : CopyRun) (m : PeMove) → Room x b h m → b + spare g.phrase ≤ h → r.state.load ≤ c.state.load → k ≤ 2 → c.standing ≡ copy.standing_of c.state → r.input ≡ c.input → r.output ≡ c.output →
       IsFollowedIn g x k b c.state m → Ticked h k (settled m r) c
   followed-tick h k r c m room left now least st ei eo (by_moves x) = moves-tick h k r c m room left st ei eo x
   followed-tick h k r c m room left now least st ei eo (puts_text {text = text} {m = s} {d = d} l e t) =
@@ -491,7 +577,7 @@ module _ (g : Compiled) where
       record {
         steps = 1;
         rank = 2;
-        few = (let most = gap-few s.focus in let less = gap-less (standing_of s) s.focus in let whole = all-nodes in omega (arith, most, less, whole));
+        few = (let most = gap-few s.focus in let less = gap-less (standing_of s) s.focus in omega (arith, most, less, left, l));
         least = omega arith;
         lower = λ up none. absurd (omega arith);
         same = subst (λ (z : CopyRun). SameRun 2 (settled (puts text s) r) z) (sym one.0)
@@ -505,12 +591,12 @@ module _ (g : Compiled) where
       record {
         steps = 1;
         rank = k;
-        few = (let whole = all-nodes in omega (arith, whole));
+        few = omega (arith, left, l);
         least = least;
         lower = λ up none. absurd (omega arith);
         same = subst (λ (z : CopyRun). SameRun k (settled (faults kind at) r) z) (sym one.0) (record {
           state = inl tt;
-          load = subst (λ (d : CopyState). r.state.load ≤ d.load) (sym y.state) (le_of_eq (sym (same-load k r.state c.state now)));
+          load = subst (λ (d : CopyState). r.state.load ≤ d.load) (sym y.state) now;
           standing = refl;
           input = ei ∙ sym y.input;
           output = eo ∙ sym y.output;
@@ -529,7 +615,7 @@ module _ (g : Compiled) where
         lower = λ going none. absurd (omega arith);
         same = subst (λ (z : CopyRun). SameRun k (settled (faults kind at) r) z) (sym one.0) (record {
           state = inl tt;
-          load = subst (λ (z : CopyState). r.state.load ≤ z.load) (sym y.state) (let same = same-load k r.state c.state now in omega (arith, up, same));
+          load = subst (λ (z : CopyState). r.state.load ≤ z.load) (sym y.state) (omega (arith, up, now));
           standing = refl;
           input = ei ∙ sym y.input;
           output = eo ∙ sym y.output;
@@ -538,8 +624,36 @@ module _ (g : Compiled) where
         before = one.1;
       }
 
+  -- steps of the copy rule before one that goes on
+  after-tick : (i n h k : ℕ) (r t : PeRun) (c : CopyRun) → 1 ≤ i → i + n ≤ h → ((j : ℕ) → j < i → (copy.after_more j c).standing ≡ copy.going) → Ticked n 2 t (copy.after_more i c) → Ticked h k t c
+  after-tick i n h k r t c some few before x = record {
+    steps = i + x.steps;
+    rank = x.rank;
+    few = (let f = x.few in omega (arith, f, few));
+    least = x.least;
+    lower = λ up none. absurd (omega (arith, some, none));
+    same = subst (λ (z : CopyRun). SameRun x.rank t z) (sym (after_both i x.steps c)) x.same;
+    before = λ j l. elim (cases_lt j i) [
+      | inl less ↦ before j less
+      | inr more ↦
+          let e : j ≡ i + (j - i) = omega arith in
+          ap (λ (n : ℕ). (copy.after_more n c).standing) e ∙ ap (λ (z : CopyRun). z.standing) (after_both i (j - i) c) ∙ x.before (j - i) (omega arith)
+    ];
+  }
+
+  executed-tick : {x y b : ℕ} (h k : ℕ) (r : PeRun) (c : CopyRun) (m : PeMove) → Room x b h m → b + spare g.phrase ≤ h → b + y + spare g.phrase ≤ h → r.state.load ≤ c.state.load → k ≤ 2 →
+      c.standing ≡ copy.standing_of c.state → r.input ≡ c.input → r.output ≡ c.output → IsExecuted g x y k b c.state m → Ticked h k (settled m r) c
+  executed-tick h k r c m room left far now least st ei eo (by_steps x) = moves-tick h k r c m room left st ei eo x
+  executed-tick h k r c m room left far now least st ei eo (fails_within x l e up) = followed-tick h k r c m room left now least st ei eo (faults_within x l e up)
+  executed-tick h k r c m room left far now least st ei eo (meets_after {j = j} {d = d} x some l up t) =
+      let y = after-steps c refl st x in
+      let n = copy.after_more j c in
+      after-tick j (2 + spare g.phrase) h k r (settled m r) c some (omega (arith, l, far)) y.before
+      (followed-tick (2 + spare g.phrase) 2 r n m (datum-room m) (omega arith) (subst (λ (e : CopyState). r.state.load ≤ e.load) (sym y.state) (omega (arith, now, up))) (omega arith)
+      (y.standing ∙ ap (λ (e : CopyState). copy.standing_of e) (sym y.state)) (ei ∙ sym y.input) (eo ∙ sym y.output) (subst (λ (e : CopyState). IsFollowedIn g 0 2 2 e m) (sym y.state) t))
+
   -- a run that is over stays
-  no-tick : (h k : ℕ) (r : PeRun) (c : CopyRun) → k ≤ 2 → r.standing ≢ going → SameRun k r c → Ticked h k r c
+  no-tick : (h k : ℕ) (r : PeRun) (c : CopyRun) → k ≤ 2 → r.standing ≢ going → SameRun k r c → Ticked (most_after h) k r c
   no-tick h k r c least over same = record {
     steps = 0;
     rank = k;
@@ -554,12 +668,18 @@ module _ (g : Compiled) where
   still-followed : (k : ℕ) (r : PeRun) (c : CopyRun) → r.standing ≡ going → SameRun k r c → Follows g k r.state c.state
   still-followed k r c e same = elim same.state [ inl f ↦ absurd (subst (λ (st : Standing). HasFaulted st) e f) | inr t ↦ t ]
 
-  run-tick : (h k : ℕ) (r : PeRun) (c : CopyRun) (st : Standing) → (r.standing ≡ going → Room (more r.state.focus) (base r.state.focus) h (pe_step g.code r.state)) → r.standing ≡ st → k ≤ 2 → SameRun k r c →
-      Ticked h k (ticked g.code st r) c
+  run-tick : (h k : ℕ) (r : PeRun) (c : CopyRun) (st : Standing) → (r.standing ≡ going → StepRoom h r.state.focus (pe_step g.code r.state)) → r.standing ≡ st → k ≤ 2 → SameRun k r c → Ticked (most_after h) k (ticked g.code st r) c
   run-tick h k r c going room e least same =
       let up = same.fresh e in
       let now = still-followed k r c e same in
-      followed-tick h k r c (pe_step g.code r.state) (room e) (room-left r.state.focus) now least up.1 same.input same.output (state-followed k r.state c.state now up.0)
+      let f = r.state.focus in
+      let m = pe_step g.code r.state in
+      let low = le_of_eq (sym (same-load k r.state c.state now)) in
+      let left : base f + spare g.phrase ≤ most_after h = (let l = room-left f in omega (arith, l)) in
+      elim (state-followed k r.state c.state now up.0) [
+        | inl x ↦ followed-tick (most_after h) k r c m (room e).0 left low least up.1 same.input same.output x
+        | inr x ↦ executed-tick (most_after h) k r c m (room e).0 left (room e).1 low least up.1 same.input same.output x
+      ]
   run-tick h k r c ended room e least same = no-tick h k r c least (λ f. let q = sym e ∙ f in cc) same
   run-tick h k r c (faulted kind at) room e least same = no-tick h k r c least (λ f. let q = sym e ∙ f in cc) same
   run-tick h k r c stuck room e least same = no-tick h k r c least (λ f. let q = sym e ∙ f in cc) same
@@ -620,7 +740,7 @@ module _ (g : Compiled) where
   was-going r stuck f e = e
   was-going r gone f e = e
 
-  before-more : (input : Bytes) (n : ℕ) (r : PeRun) (h : Reached input n) (t : Ticked (left n (pe_after g.code input n)) h.rank r (copy_after g.phrase input h.steps)) (i : ℕ) → i < h.steps + t.steps →
+  before-more : (input : Bytes) (n : ℕ) (r : PeRun) (h : Reached input n) (t : Ticked (most_after (left n (pe_after g.code input n))) h.rank r (copy_after g.phrase input h.steps)) (i : ℕ) → i < h.steps + t.steps →
       (copy_after g.phrase input i).standing ≡ copy.going
   before-more input n r h t i l =
       elim (cases_lt i h.steps) [
@@ -632,19 +752,19 @@ module _ (g : Compiled) where
       ]
 
   room-after : (input : Bytes) (n : ℕ) → (pe_after g.code input n).standing ≡ going →
-      Room (more (pe_after g.code input n).state.focus) (base (pe_after g.code input n).state.focus) (left n (pe_after g.code input n)) (pe_step g.code (pe_after g.code input n).state)
+      StepRoom (left n (pe_after g.code input n)) (pe_after g.code input n).state.focus (pe_step g.code (pe_after g.code input n).state)
   room-after input zero up =
-      subst (λ (r : PeRun). Room (more r.state.focus) (base r.state.focus) 0 (pe_step g.code r.state)) (sym (pe_zero g.code (start_run input))) first-room
+      subst (λ (r : PeRun). StepRoom 0 r.state.focus (pe_step g.code r.state)) (sym (pe_zero g.code (start_run input))) first-room
   room-after input (suc n) up =
       let r = pe_after g.code input (suc n) in
-      subst (λ (st : Standing). Room (more r.state.focus) (base r.state.focus) (gap_of st r.state.focus) (pe_step g.code r.state)) (sym up)
-      ((λ i s d e t. room-between r.state.focus s.frames s.focus), λ kind at e. room-faulting r.state.focus)
+      subst (λ (st : Standing). StepRoom (gap_of st r.state.focus) r.state.focus (pe_step g.code r.state)) (sym up)
+      (((λ i s d e t. room-between r.state.focus s.frames s.focus), λ kind at e. room-faulting r.state.focus), room-far r.state.focus)
 
   reached-more : (input : Bytes) (n : ℕ) → Reached input n → Reached input (suc n)
   reached-more input n h =
       let r = pe_after g.code input n in
       let c = copy_after g.phrase input h.steps in
-      let t : Ticked (left n r) h.rank (ticked g.code r.standing r) c = run-tick (left n r) h.rank r c r.standing (room-after input n) refl h.least h.same in
+      let t : Ticked (most_after (left n r)) h.rank (ticked g.code r.standing r) c = run-tick (left n r) h.rank r c r.standing (room-after input n) refl h.least h.same in
       let next : pe_after g.code input (suc n) ≡ ticked g.code r.standing r = pe_suc g.code n (start_run input) in
       let both : copy_after g.phrase input (h.steps + t.steps) ≡ copy.after_more t.steps c = after_both h.steps t.steps (copy.start_run g.phrase input) in
       record {

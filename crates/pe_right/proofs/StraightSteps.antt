@@ -1,5 +1,5 @@
 -- A node is evaluated in one step of the machine, where the copy rule takes some.
-use Rattle.std.proofs.Common.{ℕ, suc, ◌+◌, ◌≤◌, ◌≡◌, List, [], ◌∷◌, ◌++◌, length, Option, Some, refl, sym, ap, ◌∙◌, subst, inl, inr, arith, append-nil, nat_eq, slice_get}
+use Rattle.std.proofs.Common.{ℕ, suc, ◌+◌, ◌*◌, ◌≤◌, ◌≡◌, List, [], ◌∷◌, ◌++◌, length, Option, Some, refl, sym, ap, ◌∙◌, subst, inl, inr, arith, append-nil, nat_eq, slice_get}
 use Rattle.std.proofs.lemmas.Bool.{cond_both}
 use Rattle.fy_base.specs.declared.data.Place.{Place}
 use Rattle.fy_base.specs.declared.data.Datum.{Datum}
@@ -10,19 +10,20 @@ use Rattle.fy_types.specs.PathOrder.{HasBelow}
 use Rattle.fy_phrase.specs.declared.phrase.DataTy.{DataTy}
 use Rattle.fy_phrase.specs.declared.phrase.DataTy.TheVariants as data_type
 use Rattle.fy_phrase.specs.declared.phrase.MarkKind.TheVariants as marks
-use Rattle.fy_phrase.specs.Tree.{Tree, var, assign, skip, mark}
+use Rattle.fy_phrase.specs.Tree.{Tree, var, lit, assign, skip, mark}
 use Rattle.fy_phrase.specs.Sizes.{nodes}
-use Rattle.fy_phrase.specs.Contexts.{assign_c, store_c}
-use Rattle.fy_phrase.specs.Copy.{Row, own, CopyState, copy_step, value_of, with_value}
+use Rattle.fy_phrase.specs.Contexts.{CopyContext, assign_c, store_c}
+use Rattle.fy_phrase.specs.Copy.{Row, own, CopyState, copy_step, store_after, value_of, with_value}
 use Rattle.fy_phrase.specs.Copy as copy
 use Rattle.fy_derive.specs.Atoms.{data_atom, acceptor_atom, cell_type, datum_atom}
 use Rattle.fy_derive.proofs.PathTyping.{paths_at}
 use Rattle.pe_code.specs.declared.code.StraightPart.{StraightPart}
+use Rattle.pe_code.specs.declared.code.Purpose.{Purpose}
 use Rattle.pe_code.specs.declared.code.PeInsn.TheVariants as insn
 use Rattle.pe_code.specs.declared.code.PeItem.{PeItem}
 use Rattle.pe_code.specs.Straight.{Outcome, leaves, fails, outcome_after, height_after}
 use Rattle.pe_machine.specs.States.{Pointer, Thunk, Binding, to_cell, Frame, handed_on, value, completed, PeState, frame_outside, datum_in, with_cell}
-use Rattle.pe_machine.specs.Step.{PeMove, faults, focused, executed, own_cell, cell_set, own_cell_set, faults_at, outcome_move, straight_run}
+use Rattle.pe_machine.specs.Step.{PeMove, faults, focused, executed, own_cell, cell_set, own_cell_set, faults_at, outcome_move, straight_run, waiting, datum_meets}
 use Rattle.pe_right.specs.Closing.{phrase_at, closed_by}
 use Rattle.pe_right.specs.Entered.{BinderKind, a_cell}
 use Rattle.pe_right.specs.ReadsBack.{cells_in}
@@ -31,14 +32,22 @@ use Rattle.pe_right.proofs.ClosingLemmas.{closed_by-var}
 use Rattle.pe_right.proofs.AnswerLemmas.{end-same, in_scope, cell-paths, acceptor_atom-same}
 use Rattle.pe_right.proofs.Growing.{variable-found}
 use Rattle.pe_right.proofs.FrameLemmas.{written, Below, Below-with_binding, HasFrame, HasFrame-map, cells-changed, with_value-changes}
-use Rattle.pe_right.proofs.Invariants.{Compiled, rank_of, Answered, IsNode, FramesAnswer, ThunkAnswers, HasCell, ContextsTake, Behind}
+use Rattle.pe_right.proofs.Invariants.{Compiled, AreBoundBy, rank_of, Answered, IsNode, FramesAnswer, ThunkAnswers, HasCell, ContextTakes, ContextsTake, Behind}
 use Rattle.pe_right.proofs.ContextLemmas.{contexts-written}
 use Rattle.pe_right.proofs.CellLemmas.{reads-under}
 use Rattle.pe_right.proofs.Evaluating.{joined}
 use Rattle.pe_right.proofs.Merges.{merges, spare}
 use Rattle.pe_right.proofs.NodeLemmas.{under, constant-spare}
-use Rattle.pe_right.proofs.Moves.{Steps, no_step, and_step, at_rest_in, extra, goes_on, IsExecuted, by_steps, fails_within}
-use Rattle.pe_right.proofs.StraightLemmas.{bound-found, is-cell, stored-own, Comes, comes_to, fails_in, comes}
+use Rattle.pe_right.proofs.MeetingLemmas.{datum-followed}
+use Rattle.pe_right.proofs.Moves.{Steps, no_step, and_step, at_rest_in, extra, goes_on, followed-weaker, more_in, IsExecuted, by_steps, fails_within, meets_after}
+use Rattle.pe_right.specs.Right.{IsWithin, IsFeeding}
+use Rattle.pe_right.proofs.StraightLemmas.{bound-found, is-cell, stored-own, Comes, comes_to, fails_in, IsReading, comes}
+
+-- some frame is named where some binder is around
+pub named-within : (fs : List Frame) (r : Option ℕ) (w : List BinderKind) → AreBoundBy fs r w → IsWithin w → (n : ℕ) × (r ≡ Some n)
+named-within [] r w h within = absurd (subst IsWithin h.1 within)
+named-within (f ∷ fs) r w (inl h) within = (f.number, h.0)
+named-within (f ∷ fs) r w (inr h) within = named-within fs r w h.1 within
 
 module _ (g : Compiled) where
   -- straight code has no merge
@@ -52,16 +61,16 @@ module _ (g : Compiled) where
     -- where the code comes to a fault, the machine faults at the place of the item
     fails-followed : {r z j : ℕ} {c e : CopyState} (ss : List StraightPart) (go : Datum → PeMove) (kind : FaultKind) (i : ℕ) (here : Place) → Steps j c e → suc j ≤ z + extra g → copy_step e ≡ copy.faults kind here →
         c.load ≤ e.load → outcome_after (λ k. own_cell (frame_outside s.frames k at_here.frame)) ss [] ≡ fails kind i → HasPlace g.code i here →
-        IsExecuted g (extra g) r z c (straight_run g.code ss at_here.frame s go)
+        IsExecuted g (extra g) (more_in g at_here.frame) r z c (straight_run g.code ss at_here.frame s go)
     fails-followed {r = r} {z = z} {c = c} ss go kind i here steps l fault up is place =
-        subst (λ (o : Outcome). IsExecuted g (extra g) r z c (outcome_move g.code o go)) (sym is)
-        (subst (λ (o : Option PeItem). IsExecuted g (extra g) r z c (faults_at kind o)) (sym place.1)
-        (subst (λ (x : Place). IsExecuted g (extra g) r z c (faults kind x)) (sym place.2) (fails_within steps l fault up)))
+        subst (λ (o : Outcome). IsExecuted g (extra g) (more_in g at_here.frame) r z c (outcome_move g.code o go)) (sym is)
+        (subst (λ (o : Option PeItem). IsExecuted g (extra g) (more_in g at_here.frame) r z c (faults_at kind o)) (sym place.1)
+        (subst (λ (x : Place). IsExecuted g (extra g) (more_in g at_here.frame) r z c (faults kind x)) (sym place.2) (fails_within steps l fault up)))
 
     -- a phrase is evaluated
     pub eval-followed : (q : Tree) (k : ℕ) (D : DataTy) (P : PlainPath) (ss : List StraightPart) (d : ℕ) (at : Place) (c : CopyState) (n : IsNode g s.frames at_here.frame (length G) k q) → P ≡ end (data_atom D) →
         Answered g G k q P → IsPostfix g.code n.binders q ss → height_after ss 0 ≡ Some 1 → c.focus ≡ closed_by 0 qs q → Behind g s c P →
-        IsExecuted g (extra g) (rank_of q) 2 c (executed g.code (insn.Eval ss) d at at_here s)
+        IsExecuted g (extra g) (more_in g at_here.frame) (rank_of q) 2 c (executed g.code (insn.Eval ss) d at at_here s)
     eval-followed q k D P ss d at c n is a post height f w =
         let same : ss ++ [] ≡ ss = append-nil ss in
         let few = constant-spare (under g n) (postfix-merges post) in
@@ -73,15 +82,42 @@ module _ (g : Compiled) where
         from {j = j} {e = e} steps = subst (λ (d : CopyState). Steps j d e) (ap (λ (t : Tree). copy.focus_on t c) (sym f)) steps
 
         by : nodes q ≤ spare g.phrase + 1 → ss ++ [] ≡ ss → Comes g n.binders s.frames at_here.frame qs G b lo env n.bound q D c ss [] [] →
-            IsExecuted g (extra g) (rank_of q) 2 c (executed g.code (insn.Eval ss) d at at_here s)
+            IsExecuted g (extra g) (more_in g at_here.frame) (rank_of q) 2 c (executed g.code (insn.Eval ss) d at at_here s)
         by few same (comes_to v here l some steps typed run) =
             let e : outcome_after (λ j. own_cell (frame_outside s.frames j at_here.frame)) ss [] ≡ leaves (v ∷ []) =
             sym (ap (λ (us : List StraightPart). outcome_after (λ j. own_cell (frame_outside s.frames j at_here.frame)) us []) same) ∙ run in
-            subst (λ (o : Outcome). IsExecuted g (extra g) (rank_of q) 2 c (outcome_move g.code o (λ u. focused (value u) s))) (sym e)
+            subst (λ (o : Outcome). IsExecuted g (extra g) (more_in g at_here.frame) (rank_of q) 2 c (outcome_move g.code o (λ u. focused (value u) s))) (sym e)
             (by_steps (goes_on 0 (from steps) (omega (arith, l, few)) some (omega arith) (P, (here, refl, is ∙ ap end (sym typed)), w)))
         by few same (fails_in kind i here l steps fault up may run place) =
             fails-followed ss (λ u. focused (value u) s) kind i here (from steps) (omega (arith, l, few)) fault up
             (sym (ap (λ (us : List StraightPart). outcome_after (λ j. own_cell (frame_outside s.frames j at_here.frame)) us []) same) ∙ run) place
+
+    -- a form goes on with the datum of its part
+    pub fed-followed : (q e : Tree) (k j r : ℕ) (D : DataTy) (P : PlainPath) (u : Purpose) (x : CopyContext) (ss : List StraightPart) (d : ℕ) (at : Place) (c : CopyState) (n : IsNode g s.frames at_here.frame (length G) k q) →
+        IsFeeding g.code n.binders e ss → 2 * nodes e ≤ spare g.phrase → Answered g G j e (end (data_atom D)) → copy_step c ≡ copy.pushed x (closed_by 0 qs e) c →
+        IsReading g n.binders s.frames at_here.frame qs G b lo env n.bound (copy.push x c).contexts →
+        ((v : Datum) (there : Place) → copy_step (copy.focus_on (lit v there) (copy.push x c)) ≡ copy.datum_meets v there x (copy.focus_on (lit v there) c)) → store_after x c.store ≡ c.store →
+        ContextTakes g s.frames (waiting u at_here) x (end (data_atom D)) P → Behind g s c P → IsExecuted g (extra g) (more_in g at_here.frame) r 2 c (executed g.code (insn.EvalFor ss u) d at at_here s)
+    fed-followed q e k j r D P u x ss d at c n feeds few a start reads meets left takes w =
+        let same : ss ++ [] ≡ ss = append-nil ss in
+        by same (named-within s.frames at_here.frame n.binders n.bound feeds.within)
+        (comes g n.binders s.frames at_here.frame qs G b lo env n.bound e j D [] [] 1 (copy.push x c) feeds.postfix a
+        (ap (λ (us : List StraightPart). height_after us 0) same ∙ feeds.one) w.1 reads)
+      where
+        by : ss ++ [] ≡ ss → (m : ℕ) × (at_here.frame ≡ Some m) → Comes g n.binders s.frames at_here.frame qs G b lo env n.bound e D (copy.push x c) ss [] [] →
+            IsExecuted g (extra g) (more_in g at_here.frame) r 2 c (executed g.code (insn.EvalFor ss u) d at at_here s)
+        by same named (fails_in kind i there l steps fault up may run place) =
+            fails-followed ss (λ v. datum_meets g.code v (waiting u at_here) s) kind i there (and_step start steps) (omega (arith, l, few)) fault (omega arith)
+            (sym (ap (λ (us : List StraightPart). outcome_after (λ m. own_cell (frame_outside s.frames m at_here.frame)) us []) same) ∙ run) place
+        by same named (comes_to v there l some steps typed run) =
+            let is : outcome_after (λ m. own_cell (frame_outside s.frames m at_here.frame)) ss [] ≡ leaves (v ∷ []) =
+            sym (ap (λ (us : List StraightPart). outcome_after (λ m. own_cell (frame_outside s.frames m at_here.frame)) us []) same) ∙ run in
+            let far : more_in g at_here.frame ≡ spare g.phrase = ap (λ (o : Option ℕ). more_in g o) named.1 in
+            subst (λ (o : Outcome). IsExecuted g (extra g) (more_in g at_here.frame) r 2 c (outcome_move g.code o (λ z. datum_meets g.code z (waiting u at_here) s))) (sym is)
+            (meets_after (and_step start steps) (omega arith) (omega (arith, l, few, far)) (omega arith)
+            (followed-weaker g (omega arith) (omega arith)
+            (datum-followed g v there (waiting u at_here) x (end (data_atom D)) P s (copy.focus_on (lit v there) c) (copy.focus_on (lit v there) (copy.push x c)) (meets v there) (ap end (sym typed))
+            takes w.0 (left ∙ w.1) w.2 w.3 w.4)))
 
     -- where a cell was written, some frame is there
     rest-written : (x n : ℕ) (v : Datum) (F : Binding → Type 0) (fs : List Frame) → HasFrame F n fs → at_rest_in x (with_cell n v fs) completed ≡ x
@@ -91,7 +127,7 @@ module _ (g : Compiled) where
     -- an assignment to a cell is made
     pub set-followed : (j : ℕ) (q : Tree) (here at : Place) (k : ℕ) (D : DataTy) (ss : List StraightPart) (d : ℕ) (place : Place) (c : CopyState) (n : IsNode g s.frames at_here.frame (length G) k (assign (var j here) q at)) →
         slice_get n.binders j ≡ Some a_cell → Answered g G (k + 1) (var j here) (end (acceptor_atom D)) → Answered g G (k + 1 + 1) q (end (data_atom D)) → IsPostfix g.code n.binders q ss → height_after ss 0 ≡ Some 1 →
-        c.focus ≡ closed_by 0 qs (assign (var j here) q at) → Behind g s c (end atoms.Comm) → IsExecuted g (extra g) 0 2 c (executed g.code (insn.Set j ss) d place at_here s)
+        c.focus ≡ closed_by 0 qs (assign (var j here) q at) → Behind g s c (end atoms.Comm) → IsExecuted g (extra g) (more_in g at_here.frame) 0 2 c (executed g.code (insn.Set j ss) d place at_here s)
     set-followed j q here at k D ss d place c n is ax aq post height f w =
         let x = bound-found s.frames b j at_here.frame n.binders a_cell lo n.bound is in
         let y = variable-found g s.frames b j at_here.frame qs G here lo env (in_scope G j (end (acceptor_atom D)) ax.1) in
@@ -123,7 +159,7 @@ module _ (g : Compiled) where
 
         by : (x : Frame) (u : Datum) (there : Place) (X : DataTy) → frame_outside s.frames j at_here.frame ≡ Some x → x.binding ≡ to_cell u → HasFrame (λ e. e ≡ to_cell u) x.number s.frames →
             closed_by 0 qs (var j here) ≡ mark (marks.Cell x.number) there → HasCell own X x.number s.frames → X ≡ D → nodes (assign (var j here) q at) ≤ spare g.phrase + 1 → ss ++ [] ≡ ss →
-            Comes g n.binders s.frames at_here.frame qs G b lo env n.bound q D (copy.push (assign_c (closed_by 0 qs (var j here))) c) ss [] [] → IsExecuted g (extra g) 0 2 c (executed g.code (insn.Set j ss) d place at_here s)
+            Comes g n.binders s.frames at_here.frame qs G b lo env n.bound q D (copy.push (assign_c (closed_by 0 qs (var j here))) c) ss [] [] → IsExecuted g (extra g) (more_in g at_here.frame) 0 2 c (executed g.code (insn.Set j ss) d place at_here s)
         by x u there X found bound stands phrase has typed few same (fails_in kind i at_fault l steps fault up may run item) =
             fails-followed ss (λ v. own_cell_set (frame_outside s.frames j at_here.frame) v s) kind i at_fault (from (and_step refl steps)) (omega (arith, l, few)) fault (omega arith)
             (sym (ap (λ (us : List StraightPart). outcome_after (λ m. own_cell (frame_outside s.frames m at_here.frame)) us []) same) ∙ run) item
@@ -140,9 +176,9 @@ module _ (g : Compiled) where
             let all = from (and_step refl (joined steps (and_step refl (and_step last no_step)))) in
             let rest = rest-written (extra g) x.number v (λ e. e ≡ to_cell u) s.frames stands in
             let change = with_value-changes own x.number v s.frames in
-            subst (λ (o : Outcome). IsExecuted g (extra g) 0 2 c (outcome_move g.code o (λ z. own_cell_set (frame_outside s.frames j at_here.frame) z s))) (sym e)
-            (subst (λ (o : Option Frame). IsExecuted g (extra g) 0 2 c (own_cell_set o v s)) (sym found)
-            (subst (λ (o : Binding). IsExecuted g (extra g) 0 2 c (cell_set (datum_in o) x.number v s)) (sym bound)
+            subst (λ (o : Outcome). IsExecuted g (extra g) (more_in g at_here.frame) 0 2 c (outcome_move g.code o (λ z. own_cell_set (frame_outside s.frames j at_here.frame) z s))) (sym e)
+            (subst (λ (o : Option Frame). IsExecuted g (extra g) (more_in g at_here.frame) 0 2 c (own_cell_set o v s)) (sym found)
+            (subst (λ (o : Binding). IsExecuted g (extra g) (more_in g at_here.frame) 0 2 c (cell_set (datum_in o) x.number v s)) (sym bound)
             (by_steps (goes_on 2 all (omega (arith, l, few, rest)) (λ none. absurd (omega arith)) (omega arith) (
               end atoms.Comm,
               (there, refl, refl),

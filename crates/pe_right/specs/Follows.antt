@@ -1,5 +1,5 @@
 -- The code of a phrase does what the copy rule does, and is never without a step.
-use Rattle.std.specs.Prelude.{Bool, ℕ, ◌+◌, ◌*◌, ◌≤◌, ◌≡◌, ◌≢◌, ◌⊎◌, ◌++◌, Option, Some}
+use Rattle.std.specs.Prelude.{ℕ, ◌+◌, ◌*◌, ◌≤◌, ◌≡◌, ◌≢◌, ◌⊎◌, ◌++◌, Option, Some}
 use Rattle.fy_base.specs.declared.data.Datum.{Datum}
 use Rattle.fy_base.specs.Outside.{Bytes}
 use Rattle.fy_phrase.specs.declared.shapes.ShapeTable.{ShapeTable}
@@ -11,6 +11,7 @@ use Rattle.fy_phrase.specs.Copy as copy
 use Rattle.pe_code.specs.declared.code.PeCode.{PeCode}
 use Rattle.pe_machine.specs.Run.{PeRun, Standing, going, ended, faulted, stuck, gone, pe_after}
 use Rattle.pe_right.specs.Constants.{constant}
+use Rattle.pe_right.specs.Entered.{Entering}
 use Rattle.pe_right.specs.ReadsBack.{ReadsBack}
 use Rattle.pe_right.specs.Right.{IsCodeOf}
 use Rattle.pe_right.specs.Typed.{IsTableOf}
@@ -63,5 +64,5 @@ pub record FollowsCopyRule (handed : Tree → Option Datum) (p : Tree) (code : P
 -- right code for a closed phrase and the table of an accepted derivation does so, where the data that are known are those of constants
 abbrev pub RightCodeFollows : Type 0
 RightCodeFollows =
-    (handed : Tree → Option Datum) (straight : ℕ → Bool) (p : Tree) (table : ShapeTable) (code : PeCode) → ((q : Tree) (v : Datum) → handed q ≡ Some v → constant q ≡ Some v) →
+    (handed : Tree → Option Datum) (straight : ℕ → Entering) (p : Tree) (table : ShapeTable) (code : PeCode) → ((q : Tree) (v : Datum) → handed q ≡ Some v → constant q ≡ Some v) →
     IsClosed p → HasDepths p → IsTableOf p table → IsCodeOf handed straight p table code → FollowsCopyRule handed p code

@@ -1,5 +1,5 @@
 -- Which code is that of a phrase and a table of demand shapes.
-use Rattle.std.specs.Prelude.{ℕ, ◌+◌, ◌≡◌, ◌⊎◌, ◌↔◌, Bool, true, false, List, [], ◌∷◌, ◌++◌, length, map, slice_get, Option, Some, None, unwrap_or}
+use Rattle.std.specs.Prelude.{ℕ, ◌+◌, ◌*◌, ◌≤◌, ◌≡◌, ◌⊎◌, ◌↔◌, true, false, List, [], ◌∷◌, ◌++◌, length, map, slice_get, Option, Some, None, unwrap_or}
 use Rattle.fy_base.specs.declared.data.Place.{Place}
 use Rattle.fy_base.specs.declared.data.Datum.{Datum}
 use Rattle.fy_base.specs.declared.data.UnOp.{UnOp}
@@ -14,14 +14,17 @@ use Rattle.fy_derive.specs.Kinds.{Kind, kind_of}
 use Rattle.fy_derive.specs.Rules.{Binder, nothing, first, given, Premise, of_parts, premises}
 use Rattle.fy_derive.specs.Shapes.{PlainShape, at_end, a_call, a_field, a_value, an_assignment, a_run, shape_begins}
 use Rattle.fy_derive.specs.ShapeTables.{shape_at}
+use Rattle.pe_code.specs.declared.code.StraightPart.{StraightPart}
+use Rattle.pe_code.specs.declared.code.Purpose.TheVariants as purpose
 use Rattle.pe_code.specs.declared.code.PeInsn.{PeInsn}
 use Rattle.pe_code.specs.declared.code.PeInsn.TheVariants as insn
 use Rattle.pe_code.specs.declared.code.PeItem.{PeItem}
 use Rattle.pe_code.specs.declared.code.PeCode.{PeCode}
 use Rattle.pe_code.specs.declared.code.SequenceShapes.{SequenceShapes}
 use Rattle.pe_code.specs.Code.{item_at, entry_of}
-use Rattle.pe_right.specs.Entered.{BinderKind, IsEntered}
-use Rattle.pe_right.specs.Straight.{IsStraightOf}
+use Rattle.pe_code.specs.Straight.{height_after}
+use Rattle.pe_right.specs.Entered.{BinderKind, Entering, every, no_part, later, first_alone, IsEntered}
+use Rattle.pe_right.specs.Straight.{IsPostfix, IsStraightOf}
 
 -- ---- nodes of a phrase, with the number of binders around them
 
@@ -169,12 +172,47 @@ module _ (handed : Tree → Option Datum) (table : ShapeTable) (code : PeCode) w
     pub depth : item.depth ≡ d
     pub place : item.place ≡ place_of q
 
--- `straight` tells which nodes are evaluated in one step
-module _ (handed : Tree → Option Datum) (straight : ℕ → Bool) (table : ShapeTable) (code : PeCode) where
-  -- an instruction evaluates a node in one step where that is told, and else it is that of the form
+-- ---- a form that is executed with a part that is straight code
+
+-- some binder is around
+abbrev pub IsWithin : List BinderKind → Type 0
+IsWithin [] = ⊥
+IsWithin (b ∷ w) = Unit {0}
+
+-- the straight code of a part
+pub record IsFeeding (code : PeCode) (w : List BinderKind) (q : Tree) (ss : List StraightPart) : Type 0 where
+  pub within : IsWithin w
+  pub postfix : IsPostfix code w q ss
+  pub one : height_after ss 0 ≡ Some 1
+
+module _ (table : ShapeTable) (code : PeCode) where
+  -- the instruction goes on with the datum of straight code as the form does with that of its part; the other parts are entered
+  pub data IsFedOf (w : List BinderKind) (k : ℕ) : Tree → PlainShape → Entering → PeInsn → Type 0 where
+    of_condition : {y z : ℕ} {b p q : Tree} {at : Place} {s : PlainShape} {ss : List StraightPart} → IsFeeding code w b ss →
+        Enters table code (k + 1 + nodes b) s y → Enters table code (k + 1 + nodes b + nodes p) s z → IsFedOf w k (cond b p q at) s later (insn.EvalFor ss (purpose.Choose y z))
+    of_test : {y : ℕ} {b c : Tree} {at : Place} {s : PlainShape} {ss : List StraightPart} → IsFeeding code w b ss →
+        Enters table code (k + 1 + nodes b) (at_end a_run) y → IsFedOf w k (while_do b c at) s later (insn.EvalFor ss (purpose.Repeat y))
+    of_assigned : {x : ℕ} {p q : Tree} {at : Place} {s : PlainShape} {ss : List StraightPart} → IsFeeding code w q ss →
+        Enters table code (k + 1) (at_end an_assignment) x → IsFedOf w k (assign p q at) s first_alone (insn.EvalFor ss (purpose.Store x))
+    of_output : {kind : PutKind} {p : Tree} {at : Place} {s : PlainShape} {ss : List StraightPart} → IsFeeding code w p ss →
+        IsFedOf w k (put kind p at) s later (insn.EvalFor ss (purpose.Write kind))
+
+-- a part that is straight code has at most a quarter of so many nodes
+abbrev pub FeedsFew : ℕ → Entering → Tree → Type 0
+FeedsFew n every q = Unit {0}
+FeedsFew n later (cond b p q at) = 4 * nodes b ≤ n
+FeedsFew n later (while_do b c at) = 4 * nodes b ≤ n
+FeedsFew n later (put kind p at) = 4 * nodes p ≤ n
+FeedsFew n first_alone (assign p q at) = 4 * nodes q ≤ n
+FeedsFew n e q = Unit {0}
+
+-- `straight` tells which parts of a node are entered
+module _ (handed : Tree → Option Datum) (straight : ℕ → Entering) (table : ShapeTable) (code : PeCode) where
+  -- an instruction evaluates a node in one step, or goes on with a part's datum, where that is told, and else it is that of the form
   pub data IsInsnAt (w : List BinderKind) (k : ℕ) (q : Tree) (s : PlainShape) (i : PeInsn) : Type 0 where
-    by_parts : straight k ≡ false → IsInsnOf handed table code k q s i → IsInsnAt w k q s i
-    at_once : straight k ≡ true → IsStraightOf code w q s i → IsInsnAt w k q s i
+    by_parts : straight k ≡ every → IsInsnOf handed table code k q s i → IsInsnAt w k q s i
+    at_once : straight k ≡ no_part → IsStraightOf code w q s i → IsInsnAt w k q s i
+    fed : {e : Entering} → straight k ≡ e → IsFedOf table code w k q s e i → IsInsnAt w k q s i
 
   -- the item of a node with the binders w around it
   pub record IsItemAt (w : List BinderKind) (k : ℕ) (q : Tree) (s : PlainShape) (item : PeItem) : Type 0 where
@@ -185,7 +223,7 @@ module _ (handed : Tree → Option Datum) (straight : ℕ → Bool) (table : Sha
   -- what stands where node k is entered at a shape: a merge, which isn't evaluated in one step, is entered where the operand that takes the demand is, every other form at its own item
   abbrev pub IsRightAt : (w : List BinderKind) (k : ℕ) → Tree → PlainShape → ℕ → Type 0
   IsRightAt w k (merge p q at) s a =
-      (kind : Kind) × (kind_of q ≡ Some kind) × (straight k ≡ false)
+      (kind : Kind) × (kind_of q ≡ Some kind) × (straight k ≡ every)
       × ((shape_begins kind s ≡ true) × Enters table code (k + 1 + nodes p) s a ⊎ (shape_begins kind s ≡ false) × Enters table code (k + 1) s a)
   IsRightAt w k q s a = (item : PeItem) × (item_at code a ≡ Some item) × IsItemAt w k q s item
 
@@ -201,13 +239,14 @@ pub record AreSequencesOf (table : ShapeTable) (shapes : SequenceShapes) : Type 
   pub row_length : IsNumberOf table shapes.row_length (a_field 0 (at_end a_value))
 
 -- the code is that of the phrase and the table, with the data that are known in place of thunks, and evaluates some nodes in one step
-pub record IsCodeOf (handed : Tree → Option Datum) (straight : ℕ → Bool) (p : Tree) (table : ShapeTable) (code : PeCode) : Type 0 where
+pub record IsCodeOf (handed : Tree → Option Datum) (straight : ℕ → Entering) (p : Tree) (table : ShapeTable) (code : PeCode) : Type 0 where
   -- there is an entry for each pair of the table, and for no other
   pub entries : (k n : ℕ) → (((i : ℕ) × (slice_get table.pairs i ≡ Some (record { node = k; shape = n }))) ↔ ((a : ℕ) × (entry_of code k n ≡ Some a)))
   -- the program's own entry is item 0
   pub program : Enters table code 0 (at_end a_run) 0
-  -- of a node that is evaluated in one step no part is entered
+  -- a part that is evaluated with the node around it isn't entered
   pub right : (w : List BinderKind) (k a : ℕ) (q : Tree) (s : PlainShape) → IsEntered straight [] 0 p w k q → Enters table code k s a → IsRightAt handed straight table code w k q s a
+  pub fits : (w : List BinderKind) (k : ℕ) (q : Tree) → IsEntered straight [] 0 p w k q → FeedsFew (nodes p) (straight k) q
   pub shapes : code.shapes ≡ length table.shapes
   pub assignment : IsNumberOf table code.assignment (at_end an_assignment)
   pub sequences : AreSequencesOf table code.sequences
