@@ -15,6 +15,7 @@ use Rattle.pe_code.specs.declared.code.PeCode.{PeCode}
 use Rattle.pe_code.specs.declared.code.PeItem.{PeItem}
 use Rattle.pe_code.specs.Code.{body_of, straight_of}
 use Rattle.pe_code.specs.Valid.{IsValid}
+use Rattle.pe_right.specs.Entered.{Entering}
 use Rattle.pe_right.specs.Constants.{constant}
 use Rattle.pe_right.specs.Right.{IsCodeOf}
 use Rattle.pe_gen.specs.Sizes.{HasSizesOf}
@@ -35,7 +36,7 @@ some_shapes [] n s h = absurd (cc)
 some_shapes (x ∷ shapes) n s h = omega arith
 
 -- the program's own entry has a shape
-pub has_shapes : (straight : ℕ → Bool) (p : Tree) (table : ShapeTable) (code : PeCode) → IsCodeOf constant straight p table code → 1 ≤ code.shapes
+pub has_shapes : (straight : ℕ → Entering) (p : Tree) (table : ShapeTable) (code : PeCode) → IsCodeOf constant straight p table code → 1 ≤ code.shapes
 has_shapes straight p table code right =
     let run = right.program in
     let some = some_shapes table.shapes run.0 _ run.1 in
