@@ -144,6 +144,7 @@ module _ (p : Tree) (table : ShapeTable) (code : PeCode) (made : IsMade p table 
         let zero_is : x.0 ≡ 0 = same-address 0 x.0 made.program _ made.sites.first site (sym named) in
         (made.program.shape, made.program_shape, x.1 ∙ ap Some zero_is);
     right = right-plain no_data table code p (λ d k a q s node enters. right-at q d k a s node enters);
+    fits = λ w k q node. tt;
     shapes = made.shapes;
     assignment = made.assignment;
     sequences = made.sequences;

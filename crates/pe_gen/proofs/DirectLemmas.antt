@@ -102,6 +102,7 @@ module _ (p : Tree) (table : ShapeTable) (code made : PeCode) (direct : IsDirect
         );
     program = enters 0 right.program;
     right = right-plain constant table made p (λ d k a q s node e. kept-right q d k a s node (plain-right no_data table code p right d k a q s node (leaves k e)));
+    fits = λ w k q node. tt;
     shapes = direct.shapes ∙ right.shapes;
     assignment = λ n. let r = right.assignment n in (λ h. r.0 (sym direct.assignment ∙ h), λ h. direct.assignment ∙ r.1 h);
     sequences = subst (λ shapes. AreSequencesOf table shapes) (sym direct.sequences) right.sequences;

@@ -34,5 +34,6 @@ pub mod OneCode
 pub mod BinderLemmas
 pub mod PostfixLemmas
 pub mod MannerLemmas
+pub mod RangeLemmas
 pub mod OwnerLemmas
 pub mod StraightLemmas

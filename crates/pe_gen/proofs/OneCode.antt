@@ -26,7 +26,7 @@ use Rattle.pe_right.specs.Right.{IsNodeUnder, itself, is_variable, Enters, EachE
 use Rattle.pe_right.specs.Typed.{IsTableOf}
 use Rattle.pe_gen.specs.Layout.{IsOwn, IsLaidOut}
 use Rattle.pe_gen.specs.declared.manners.Manner.{Manner}
-use Rattle.pe_gen.specs.Manners.{manners_of, item_by}
+use Rattle.pe_gen.specs.Manners.{all_manners, item_by}
 use Rattle.pe_gen.specs.OneCode.{LaidOutCodeIsOne, StraightenedCodeIsOne}
 use Rattle.pe_gen.specs.Preorder.{preorder}
 use Rattle.pe_gen.specs.Sites.{is_merge, pair, IsBefore}
@@ -434,7 +434,7 @@ evaluated-one p manners code one other laid g h =
     (g.shapes ∙ sym h.shapes) (g.assignment ∙ sym h.assignment) (g.sequences ∙ sym h.sequences) (g.thunks ∙ sym h.thunks)
 
 pub straightened-is-one : StraightenedCodeIsOne
-straightened-is-one p code one other laid g h = by (evaluated-one p (manners_of code [] 0 p) code g.straight h.straight laid g.evaluated h.evaluated) g.is h.is
+straightened-is-one p code one other laid g h = by (evaluated-one p (all_manners code p) code g.straight h.straight laid g.evaluated h.evaluated) g.is h.is
   where
     by : g.straight ≡ h.straight → (IsValid g.straight × (one ≡ g.straight)) ⊎ ((IsValid g.straight → ⊥) × (one ≡ code)) → (IsValid h.straight × (other ≡ h.straight)) ⊎ ((IsValid h.straight → ⊥) × (other ≡ code)) →
         one ≡ other

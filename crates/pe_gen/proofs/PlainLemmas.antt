@@ -1,5 +1,5 @@
 -- Code that evaluates no node in one step, by the number of the binders around each node.
-use Rattle.std.proofs.Common.{ℕ, ◌+◌, ◌≡◌, true, false, ◌⊎◌, List, [], length, Option, Some, refl, subst}
+use Rattle.std.proofs.Common.{ℕ, ◌+◌, ◌≡◌, true, false, ◌⊎◌, List, [], length, Option, Some, refl, sym, subst}
 use Rattle.fy_base.specs.declared.data.Datum.{Datum}
 use Rattle.fy_phrase.specs.declared.shapes.ShapeTable.{ShapeTable}
 use Rattle.fy_phrase.specs.Sizes.{nodes}
@@ -11,7 +11,8 @@ use Rattle.pe_code.specs.declared.code.PeItem.{PeItem}
 use Rattle.pe_code.specs.declared.code.PeInsn.{PeInsn}
 use Rattle.pe_code.specs.Code.{item_at}
 use Rattle.pe_right.specs.Entered.{BinderKind, none_straight, IsEntered}
-use Rattle.pe_right.specs.Right.{IsNodeUnder, Enters, IsInsnOf, IsItemOf, IsInsnAt, by_parts, at_once, IsItemAt, IsRightAt, IsCodeOf}
+use Rattle.pe_right.specs.Right.{IsNodeUnder, Enters, IsInsnOf, IsItemOf, IsInsnAt, by_parts, at_once, fed, IsItemAt, IsRightAt, IsCodeOf}
+use Rattle.pe_right.proofs.EntryLemmas.{fed-apart}
 use Rattle.pe_right.proofs.NodeLemmas.{entered-node, node-entered}
 use Rattle.pe_gen.specs.Sites.{is_merge}
 
@@ -26,6 +27,7 @@ module _ (handed : Tree → Option Datum) (table : ShapeTable) (code : PeCode) w
   plain-insn : {w : List BinderKind} {k : ℕ} {q : Tree} {s : PlainShape} {i : PeInsn} → IsInsnAt handed none_straight table code w k q s i → IsInsnOf handed table code k q s i
   plain-insn (by_parts plain h) = h
   plain-insn (at_once is h) = absurd cc
+  plain-insn (fed is h) = absurd (fed-apart h (sym is))
 
   plain-item : (w : List BinderKind) (k : ℕ) (q : Tree) (s : PlainShape) (a : ℕ) →
       (item : PeItem) × (item_at code a ≡ Some item) × IsItemAt handed none_straight table code w k q s item → (item : PeItem) × (item_at code a ≡ Some item) × IsItemOf handed table code (length w) k q s item

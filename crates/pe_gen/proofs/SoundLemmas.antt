@@ -282,6 +282,7 @@ module _ (p : Tree) (table : ShapeTable) (code : PeCode) (made : IsMade p table 
   run-by-none : (i : PeInsn) → straight_of i ≡ None → parts_run_by i ≡ 0
   run-by-none (insn.Eval ss) e = absurd cc
   run-by-none (insn.Set k ss) e = absurd cc
+  run-by-none (insn.EvalFor ss u) e = absurd cc
   run-by-none i e = refl
 
   none-run : (is : List PeItem) → ((i : ℕ) (item : PeItem) → slice_get is i ≡ Some item → straight_of item.insn ≡ None) → all_parts_run is ≡ 0

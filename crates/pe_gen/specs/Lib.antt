@@ -12,3 +12,4 @@ pub mod Postfix
 pub mod Manners
 pub mod Straightened
 pub mod OneCode
+pub mod Ranges

@@ -67,6 +67,10 @@ pub fn copied_insn(alloc: Global, insn: &PeInsn) -> Result<PeInsn, OutOfMemory>
             *variable,
             copied_straight(alloc, parts.as_slice())?,
         ),
+        PeInsn::EvalFor(parts, purpose) => PeInsn::EvalFor(
+            copied_straight(alloc, parts.as_slice())?,
+            *purpose,
+        ),
     })
 }
 

@@ -1,13 +1,14 @@
 //! How the nodes of a phrase are evaluated.
 
-ghost use Rattle.std.specs.Prelude.{◌≡◌, ◌+◌, ◌-◌, ◌≤◌, ◌∷◌, ◌++◌, [], IfOk, OnOk, replicate};
+ghost use Rattle.std.specs.Prelude.{List, ◌≡◌, ◌+◌, ◌-◌, ◌<◌, ◌≤◌, ◌∷◌, ◌++◌, [], Some, IfOk, OnOk, length};
 ghost use Rattle.fy_phrase.specs.Reads.{reads, reads_parts};
 ghost use Rattle.fy_phrase.specs.Sizes.{nodes as count, all_nodes as count_all};
-ghost use Rattle.pe_gen.specs.Manners.{manners_below, manners_of as manners_of_tree, manners_of_all, nodes_run as nodes_run_by};
+ghost use Rattle.pe_gen.specs.declared.manners.Manner.{Manner};
+ghost use Rattle.pe_gen.specs.Manners.{FitsBelow, all_manners, covered, manners_below, manners_of as manners_of_tree, manners_of_all, with_manner};
+ghost use Rattle.pe_gen.specs.Ranges.{before_inside as before_inside_of, many_inside as many_inside_of};
 ghost use Rattle.pe_gen.specs.Scopes.{binders};
-ghost use Rattle.pe_gen.specs.declared.manners.Manner.TheVariants as manner;
 
-use crate::postfix::{OneStep, straight_at};
+use crate::postfix::{OneStep, feed_room, straight_at};
 use crate::scope::Scope;
 use fy_base::OutOfMemory;
 use fy_phrase::{Parts, Phrase};
@@ -25,13 +26,21 @@ pub enum Manner {
     Inside,
 }
 
-/// How each node of the phrase is evaluated, in preorder: the greatest ones that can be in one step.
+/// How each node of the phrase is evaluated, in preorder: the greatest ones that can be in one step, and those that can be with an expression.
 pub fn manners_of(alloc: Global, p: &Phrase, code: &PeCode) -> Result<Vec<Manner>, OutOfMemory>
     requires { count (reads p.now) ≤ 65536 }
-    ensures { IfOk result (λ made. made.items ≡ manners_of_tree code.now [] 0 (reads p.now)) }
+    ensures { IfOk result (λ made. made.items ≡ all_manners code.now (reads p.now)) }
 {
     let mut manners = Vec::new(alloc);
-    add_manners(alloc, code, &Scope::Program, 0, p, &mut manners)?;
+    add_manners(
+        alloc,
+        feed_room(p),
+        code,
+        &Scope::Program,
+        0,
+        p,
+        &mut manners,
+    )?;
     Ok(manners)
 }
 
@@ -39,6 +48,7 @@ pub fn manners_of(alloc: Global, p: &Phrase, code: &PeCode) -> Result<Vec<Manner
 #[cycle(deciding)]
 fn add_manners(
     alloc: Global,
+    room: u32,
     code: &PeCode,
     scope: &Scope<'_>,
     number: u32,
@@ -47,18 +57,17 @@ fn add_manners(
 ) -> Result<u32, OutOfMemory>
     requires { number + count (reads p.now) ≤ 65536 }
     ensures number { IfOk result (λ n. n ≡ count (reads p.now)) }
-    ensures listed { OnOk result (manners.new.items ≡ manners.old.items ++ manners_of_tree code.now (binders scope.now) number (reads p.now)) }
+    ensures listed { OnOk result (manners.new.items ≡ manners.old.items ++ manners_of_tree room code.now (binders scope.now) number (reads p.now)) }
 {
-    match straight_at(alloc, code, scope, number, p)? {
+    let start = manners.len();
+    manners.push(Manner::ByParts)?;
+    let below = add_below(alloc, room, code, scope, number, p, manners)?;
+    match straight_at(alloc, room, code, scope, number, p)? {
         Some(step) => {
-            let size = add_straight(step, manners)?;
-            Ok(size)
-        }
-        None => {
-            manners.push(Manner::ByParts)?;
-            let below = add_below(alloc, code, scope, number, p, manners)?;
+            put_step(step, start, manners);
             Ok(below + 1)
         }
+        None => Ok(below + 1),
     }
 }
 
@@ -66,6 +75,7 @@ fn add_manners(
 #[cycle(deciding)]
 fn add_below(
     alloc: Global,
+    room: u32,
     code: &PeCode,
     scope: &Scope<'_>,
     number: u32,
@@ -74,7 +84,7 @@ fn add_below(
 ) -> Result<u32, OutOfMemory>
     requires { number + count (reads p.now) ≤ 65536 }
     ensures number { IfOk result (λ n. n + 1 ≡ count (reads p.now)) }
-    ensures listed { OnOk result (manners.new.items ≡ manners.old.items ++ manners_below code.now (binders scope.now) number (reads p.now)) }
+    ensures listed { OnOk result (manners.new.items ≡ manners.old.items ++ manners_below room code.now (binders scope.now) number (reads p.now)) }
 {
     let first = number + 1;
     match p {
@@ -84,13 +94,13 @@ fn add_below(
         | Phrase::Sel(q, _, _)
         | Phrase::Forever(q, _)
         | Phrase::Put(_, q, _)
-        | Phrase::Read(q, _) => add_manners(alloc, code, scope, first, q, manners),
+        | Phrase::Read(q, _) => add_manners(alloc, room, code, scope, first, q, manners),
         Phrase::Lam(_, _, body, _)
         | Phrase::Rec(_, _, body, _)
         | Phrase::Escape(_, body, _)
         | Phrase::Accept(_, _, body, _) => {
             let inner = Scope::Under(false, &*scope);
-            add_manners(alloc, code, &inner, first, body, manners)
+            add_manners(alloc, room, code, &inner, first, body, manners)
         }
         Phrase::Binary(_, q, r, _)
         | Phrase::App(q, r, _)
@@ -98,31 +108,39 @@ fn add_below(
         | Phrase::Seq(q, r, _)
         | Phrase::Assign(q, r, _)
         | Phrase::WhileDo(q, r, _) => {
-            let size = add_manners(alloc, code, scope, first, q, manners)?;
-            let behind = add_manners(alloc, code, scope, first + size, r, manners)?;
+            let size = add_manners(alloc, room, code, scope, first, q, manners)?;
+            let behind = add_manners(alloc, room, code, scope, first + size, r, manners)?;
             Ok(size + behind)
         }
         Phrase::LetIn(_, q, body, _) | Phrase::Cells(_, q, body, _) => {
-            let size = add_manners(alloc, code, scope, first, q, manners)?;
+            let size = add_manners(alloc, room, code, scope, first, q, manners)?;
             let inner = Scope::Under(false, &*scope);
-            let behind = add_manners(alloc, code, &inner, first + size, body, manners)?;
+            let behind = add_manners(alloc, room, code, &inner, first + size, body, manners)?;
             Ok(size + behind)
         }
         Phrase::New(_, _, q, body, _) => {
-            let size = add_manners(alloc, code, scope, first, q, manners)?;
+            let size = add_manners(alloc, room, code, scope, first, q, manners)?;
             let inner = Scope::Under(true, &*scope);
-            let behind = add_manners(alloc, code, &inner, first + size, body, manners)?;
+            let behind = add_manners(alloc, room, code, &inner, first + size, body, manners)?;
             Ok(size + behind)
         }
         Phrase::Cond(b, q, r, _) => {
-            let test = add_manners(alloc, code, scope, first, b, manners)?;
-            let size = add_manners(alloc, code, scope, first + test, q, manners)? + test;
-            let behind = add_manners(alloc, code, scope, first + size, r, manners)?;
+            let test = add_manners(alloc, room, code, scope, first, b, manners)?;
+            let size = add_manners(alloc, room, code, scope, first + test, q, manners)? + test;
+            let behind = add_manners(alloc, room, code, scope, first + size, r, manners)?;
             Ok(size + behind)
         }
         Phrase::Case(e, parts, _) => {
-            let size = add_manners(alloc, code, scope, first, e, manners)?;
-            let behind = add_manners_of_all(alloc, code, scope, first + size, parts, manners)?;
+            let size = add_manners(alloc, room, code, scope, first, e, manners)?;
+            let behind = add_manners_of_all(
+                alloc,
+                room,
+                code,
+                scope,
+                first + size,
+                parts,
+                manners,
+            )?;
             Ok(size + behind)
         }
     }
@@ -132,6 +150,7 @@ fn add_below(
 #[cycle(deciding)]
 fn add_manners_of_all(
     alloc: Global,
+    room: u32,
     code: &PeCode,
     scope: &Scope<'_>,
     number: u32,
@@ -140,36 +159,58 @@ fn add_manners_of_all(
 ) -> Result<u32, OutOfMemory>
     requires { number + count_all (reads_parts parts.now) ≤ 65536 }
     ensures number { IfOk result (λ n. n ≡ count_all (reads_parts parts.now)) }
-    ensures listed { OnOk result (manners.new.items ≡ manners.old.items ++ manners_of_all code.now (binders scope.now) number (reads_parts parts.now)) }
+    ensures listed { OnOk result (manners.new.items ≡ manners.old.items ++ manners_of_all room code.now (binders scope.now) number (reads_parts parts.now)) }
 {
     let mut size = 0;
     for part in parts.as_slice() {
-        size += add_manners(alloc, code, scope, number + size, part, manners)?;
+        size += add_manners(alloc, room, code, scope, number + size, part, manners)?;
     }
     Ok(size)
 }
 
-// Adds those of a node that is evaluated in the step, and gives how many nodes it has.
-fn add_straight(step: OneStep, manners: &mut Vec<Manner>) -> Result<u32, OutOfMemory>
-    requires { nodes_run_by step ≤ 65536 }
-    ensures number { IfOk result (λ n. n ≡ nodes_run_by step) }
-    ensures listed { OnOk result (manners.new.items ≡ manners.old.items ++ (manner.AtOnce step ∷ replicate (nodes_run_by step - 1) manner.Inside)) }
+// The node at a place is evaluated in the step, and so are some of those behind it, which are below it.
+fn put_step(step: OneStep, place: usize, manners: &mut Vec<Manner>)
+    requires within { place < length manners.old.items }
+    requires fits { FitsBelow step (length manners.old.items - (place + 1)) }
+    ensures { (before below : List Manner) (own : Manner) → manners.old.items ≡ before ++ own ∷ below → place ≡ length before
+        → manners.new.items ≡ before ++ with_manner (Some step) below }
 {
-    let size = nodes_run(&step);
-    manners.push(Manner::AtOnce(step))?;
-    for _ in 1..size {
-        manners.push(Manner::Inside)?;
-    }
-    Ok(size)
+    let first = place + 1;
+    let most = manners.len() - first;
+    let before = before_inside(&step);
+    let many = many_inside(&step, most);
+    cover(first + before, many, manners);
+    manners[place] = Manner::AtOnce(step);
 }
 
-// How many nodes are evaluated in the step.
-fn nodes_run(step: &OneStep) -> u32
-    requires { nodes_run_by step.now ≤ 65536 }
-    ensures { result ≡ nodes_run_by step.now }
+// How many of the nodes below one stand before those that are evaluated in the step.
+fn before_inside(step: &OneStep) -> usize
+    ensures { result ≡ before_inside_of step.now }
 {
     match step {
-        OneStep::Evaluates(parts) => parts.len() as u32,
-        OneStep::Assigns(_, parts) => parts.len() as u32 + 2,
+        OneStep::Evaluates(_) => 0,
+        OneStep::Assigns(..) => 0,
+        OneStep::Feeds(before, _) => *before as usize,
+    }
+}
+
+// How many these are, where so many are below.
+fn many_inside(step: &OneStep, most: usize) -> usize
+    ensures { result ≡ many_inside_of step.now most }
+{
+    match step {
+        OneStep::Evaluates(_) => most,
+        OneStep::Assigns(..) => most,
+        OneStep::Feeds(_, parts) => parts.len(),
+    }
+}
+
+// So many manners from a place on are those of nodes inside.
+fn cover(start: usize, many: usize, manners: &mut Vec<Manner>)
+    requires { start + many ≤ length manners.old.items }
+    ensures { manners.new.items ≡ covered start many manners.old.items }
+{
+    for i in 0..many {
+        manners[start + i] = Manner::Inside;
     }
 }

@@ -8,8 +8,8 @@ use Rattle.pe_gen.proofs.manners.+deciding.Given as goal
 abbrev pub invariant-add_manners_of_all-loop-part : goal.invariant-add_manners_of_all-loop-part
 invariant-add_manners_of_all-loop-part l = record {
   size : l.size + all_nodes (trees_from (map reads (drop l.part-index l.part-items))) ≡ all_nodes (reads_parts l.parts);
-  listed : l.manners.items ++ manners_of_all l.code (binders l.scope) (l.number + l.size) (trees_from (map reads (drop l.part-index l.part-items)))
-      ≡ l.initial.manners.items ++ manners_of_all l.code (binders l.scope) l.number (reads_parts l.parts);
+  listed : l.manners.items ++ manners_of_all l.room l.code (binders l.scope) (l.number + l.size) (trees_from (map reads (drop l.part-index l.part-items)))
+      ≡ l.initial.manners.items ++ manners_of_all l.room l.code (binders l.scope) l.number (reads_parts l.parts);
 }
 
 abbrev pub decreases-add_manners : goal.decreases-add_manners
