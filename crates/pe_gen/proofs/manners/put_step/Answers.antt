@@ -1,6 +1,6 @@
-use Rattle.std.proofs.Common.{◌+◌, ◌-◌, ◌≡◌, length, refl, ap, ◌∙◌, arith}
+use Rattle.std.proofs.Common.{◌+◌, ◌-◌, ◌≡◌, length, ap, ◌∙◌, arith}
 use Rattle.pe_gen.specs.Manners.{covered}
-use Rattle.pe_gen.specs.Ranges.{before_inside, many_inside}
+use Rattle.pe_gen.specs.Ranges.{many_inside}
 use Rattle.pe_gen.proofs.RangeLemmas.{covered-long, fits-range, step-put}
 use Rattle.pe_gen.proofs.manners.put_step.Goals as goal
 
