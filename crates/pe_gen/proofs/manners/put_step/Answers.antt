@@ -1,7 +1,8 @@
 use Rattle.std.proofs.Common.{◌+◌, ◌-◌, ◌≡◌, length, ap, ◌∙◌, arith}
 use Rattle.pe_gen.specs.Manners.{covered}
 use Rattle.pe_gen.specs.Ranges.{many_inside}
-use Rattle.pe_gen.proofs.RangeLemmas.{covered-long, fits-range, step-put}
+use Rattle.pe_gen.proofs.MannerLemmas.{covered-length}
+use Rattle.pe_gen.proofs.RangeLemmas.{fits-range, step-put}
 use Rattle.pe_gen.proofs.manners.put_step.Goals as goal
 
 pub cover-requires : goal.cover-requires
@@ -11,7 +12,7 @@ cover-requires c =
     omega (arith, fits, c.requires.within, c.before_inside-before.ensures, c.many_inside-many.ensures ∙ ap (many_inside c.args.step) most)
 
 pub index_mut-requires : goal.index_mut-requires
-index_mut-requires c = omega (arith, c.requires.within, ap length c.cover.ensures, covered-long (c.args.place + 1 + c.before_inside-before.result) c.many_inside-many.result c.args.manners.now.items)
+index_mut-requires c = omega (arith, c.requires.within, ap length c.cover.ensures, covered-length (c.args.place + 1 + c.before_inside-before.result) c.many_inside-many.result c.args.manners.now.items)
 
 pub returns : goal.returns
 returns c = λ before below own is at.
