@@ -1,5 +1,5 @@
 -- A thunk is entered, and an instruction is executed.
-use Rattle.std.proofs.Common.{ℕ, Bool, length, Option, Some, None, refl, sym, subst, nat_eq}
+use Rattle.std.proofs.Common.{ℕ, Bool, List, length, Option, Some, None, refl, sym, subst, nat_eq}
 use Rattle.fy_base.specs.declared.data.Place.{Place}
 use Rattle.fy_base.specs.declared.data.Datum.{Datum}
 use Rattle.fy_base.specs.declared.data.Datum.TheVariants as datum_kind
@@ -8,18 +8,20 @@ use Rattle.fy_phrase.specs.Contexts.{op_1, op_l, if_c, case_c, arg_c, pick_c, th
 use Rattle.fy_phrase.specs.Copy.{own, byte_or_end}
 use Rattle.pe_code.specs.declared.code.PeInsn.{PeInsn}
 use Rattle.pe_code.specs.declared.code.PeInsn.TheVariants as insn
+use Rattle.pe_code.specs.declared.code.Purpose.{Purpose}
+use Rattle.pe_code.specs.declared.code.Purpose.TheVariants as purpose
 use Rattle.pe_code.specs.declared.code.PeItem.{PeItem}
 use Rattle.pe_code.specs.declared.code.PeCode.{PeCode}
 use Rattle.pe_code.specs.Code.{item_at, entry_of}
-use Rattle.pe_machine.specs.States.{Thunk, source, datum, Sequence, to_thunk, to_escape, Focus, code_at, value, completed, Wanted, PeState, is_listed, oldest, frame_outside, sequence_at}
+use Rattle.pe_machine.specs.States.{Frame, Thunk, source, datum, Sequence, to_thunk, to_escape, Focus, code_at, value, completed, Wanted, PeState, is_listed, oldest, frame_outside, sequence_at}
 use Rattle.pe_machine.specs.Step as machine
 use Rattle.pe_machine.specs.Step.{PeMove, goes, is_assignment, Asked, a_cell, a_length, no_part, asked_at, pe_step}
 use Rattle.pe_machine.proofs.FrameLemmas.{numbered_oldest}
 use Rattle.pe_items.specs.Items as items
-use Rattle.pe_items.specs.Items.{address_on, FoundContext, frame_from, escape_at, ItemState}
+use Rattle.pe_items.specs.Items.{Item, address_on, FoundContext, frame_from, escape_at, ItemState}
 use Rattle.pe_items.specs.Step as moves
 use Rattle.pe_items.specs.Step.{item_step}
-use Rattle.pe_items.proofs.Lays.{escape_frame, IsAt, AreAt, IsSequenceAt, ThunkStands, a_source, a_datum, a_cell, a_jump, a_sequence, at_op_1, at_op_l, at_if, at_case, at_arg, at_pick, at_then, at_assign, at_store, at_while, at_loop, at_new, at_cells, at_element, at_put, at_escape, FocusStands, at_code, at_value, at_end, thunk_bound, escape_bound, UnderState, Stands, at_rest, at_fill}
+use Rattle.pe_items.proofs.Lays.{escape_frame, IsAt, AreAt, IsSequenceAt, ContextStands, ThunkStands, a_source, a_datum, a_cell, a_jump, a_sequence, at_op_1, at_op_l, at_if, at_case, at_arg, at_pick, at_then, at_assign, at_store, at_while, at_loop, at_new, at_cells, at_element, at_put, at_escape, FocusStands, at_code, at_value, at_end, thunk_bound, escape_bound, UnderState, Stands, at_rest, at_fill}
 use Rattle.pe_items.proofs.Standing.{at-listed, name-listed, kept-context, names-kept, thunk-kept}
 use Rattle.pe_items.proofs.VariableLemmas.{variable-at}
 use Rattle.pe_items.proofs.SequenceLemmas.{sequence-found}
@@ -110,6 +112,13 @@ entered-alike code shape c e s t (a_sequence {n = n} {x = x} a) u = sequence-ali
 
 -- ---- instructions
 
+waiting-alike : (w : Purpose) (a : ℕ) (r x : Option ℕ) (fs : List Frame) (is : List Item) → AreAt fs is r x →
+    ContextStands fs is (machine.waiting w (record { address = a; frame = r })) (machine.waiting w (record { address = a; frame = x }))
+waiting-alike (purpose.Choose y z) a r x fs is k = at_if k k
+waiting-alike (purpose.Repeat y) a r x fs is k = at_while k k
+waiting-alike (purpose.Store y) a r x fs is k = at_assign k
+waiting-alike (purpose.Write kind) a r x fs is k = at_put
+
 module _ (code : PeCode) where
   executed-alike : (i : PeInsn) (d : ℕ) (at : Place) (a : ℕ) (r x : Option ℕ) (s : PeState) (t : ItemState) → AreAt s.frames t.items r x → UnderState s t →
       Alike (machine.executed code i d at (record { address = a; frame = r }) s) (moves.executed code i d at (record { address = a; frame = x }) t)
@@ -168,6 +177,7 @@ module _ (code : PeCode) where
       })
   executed-alike (insn.Eval ss) d at a r x s t k u = straight-alike code ss r x s t _ _ k u (λ v. focused-alike (value v) (value v) s t at_value u)
   executed-alike (insn.Set j ss) d at a r x s t k u = assignment-alike code j ss r x s t k u
+  executed-alike (insn.EvalFor ss w) d at a r x s t k u = straight-alike code ss r x s t _ _ k u (λ v. datum-alike code v _ _ s t (waiting-alike w a r x s.frames t.items k) u)
 
   item-alike : (o : Option PeItem) (a : ℕ) (r x : Option ℕ) (s : PeState) (t : ItemState) → AreAt s.frames t.items r x → UnderState s t →
       Alike (machine.item_executed code o (record { address = a; frame = r }) s) (moves.item_executed code o (record { address = a; frame = x }) t)

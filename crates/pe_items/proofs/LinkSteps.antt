@@ -16,12 +16,14 @@ use Rattle.fy_phrase.specs.Contexts.{op_1, op_l, op_r, if_c, case_c, arg_c, pick
 use Rattle.fy_phrase.specs.Copy.{Which, own, element, byte_or_end}
 use Rattle.pe_code.specs.declared.code.PeInsn.{PeInsn}
 use Rattle.pe_code.specs.declared.code.PeInsn.TheVariants as insn
+use Rattle.pe_code.specs.declared.code.Purpose.{Purpose}
+use Rattle.pe_code.specs.declared.code.Purpose.TheVariants as purpose
 use Rattle.pe_code.specs.declared.code.PeItem.{PeItem}
 use Rattle.pe_code.specs.declared.code.PeCode.{PeCode}
 use Rattle.pe_code.specs.Code.{item_at, entry_of}
 use Rattle.pe_code.specs.Straight.{Outcome, leaves, fails, has_none, misses, outcome_after}
 use Rattle.pe_machine.specs.States.{Pointer, Thunk, source, datum, cell_of, jump_of, sequence_of, Sequence, Focus, code_at, value, completed, Wanted, PeContext}
-use Rattle.pe_machine.specs.Step.{is_assignment, parts_at, Asked, a_cell, a_length, no_part, asked_at}
+use Rattle.pe_machine.specs.Step.{is_assignment, parts_at, waiting, Asked, a_cell, a_length, no_part, asked_at}
 use Rattle.pe_items.specs.Items.{ItemBinding, to_thunk, to_cell, to_escape, Item, frame, context, sequence, address_on, FoundContext, context_at, FoundFrame, frame_from, datum_in, handed_by, escape_at, sequence_at, value_at, ItemState}
 use Rattle.pe_items.specs.Step.{ItemMove, goes, puts, takes, faults, sticks, focused, push, pushed, bound, answered, taken, newest_of, operated, left_meets, chosen, focused_if_some, indexed, written, loaded, assigned, assignment_meets, cell_entered, element_picked, with_cells, counted, one_more, bound_filled, filled, datum_meets, completion_meets, bind_meets, field_meets, accept_meets, left_by, jumped, at_entry, entered_plain, index_entered, index_meets, length_meets, sequence_asked, entered, with_variable, own_cell, cell_set, own_cell_set, faults_at, outcome_move, executed, item_executed, step_at, item_step}
 use Rattle.pe_items.specs.Links.{LeadsToFrame, LeadsToContext, HasSequence, IsThunkLinked, IsBindingLinked, IsContextLinked, AreLinked, IsFocusLinked, IsLinked}
@@ -316,6 +318,12 @@ outcome-linked code misses go h = tt
 
 -- ---- instructions
 
+waiting-linked : (is : List Item) (w : Purpose) (p : Pointer) → LeadsToFrame is p.frame → IsContextLinked is (waiting w p)
+waiting-linked is (purpose.Choose y z) p k = (k, k)
+waiting-linked is (purpose.Repeat y) p k = (k, k)
+waiting-linked is (purpose.Store y) p k = k
+waiting-linked is (purpose.Write kind) p k = tt
+
 module _ (code : PeCode) where
   executed-linked : (i : PeInsn) (d : ℕ) (at : Place) (p : Pointer) (s : ItemState) → LeadsToFrame s.items p.frame → IsRooted s → IsMoveLinked (executed code i d at p s)
   executed-linked (insn.UseVar j shape) d at p s k u =
@@ -358,6 +366,8 @@ module _ (code : PeCode) where
       outcome-linked code (outcome_after (λ j. own_cell (frame_from s.items j p.frame)) ss []) (λ v. focused (value v) s) (λ v. focused-linked (value v) s tt u)
   executed-linked (insn.Set j ss) d at p s k u =
       outcome-linked code (outcome_after (λ i. own_cell (frame_from s.items i p.frame)) ss []) (λ v. own_cell_set (frame_from s.items j p.frame) v s) (λ v. own-set-linked (frame_from s.items j p.frame) v s u)
+  executed-linked (insn.EvalFor ss w) d at p s k u =
+      outcome-linked code (outcome_after (λ j. own_cell (frame_from s.items j p.frame)) ss []) (λ v. datum_meets code v (waiting w p) s) (λ v. datum-linked code v (waiting w p) s (waiting-linked s.items w p k) u)
 
   item-linked : (o : Option PeItem) (p : Pointer) (s : ItemState) → LeadsToFrame s.items p.frame → IsRooted s → IsMoveLinked (item_executed code o p s)
   item-linked (Some i) p s k u = executed-linked i.insn i.depth i.place p s k u

@@ -23,7 +23,7 @@ use Rattle.pe_code.specs.declared.code.PeCode.{PeCode}
 use Rattle.pe_code.specs.Code.{item_at, entry_of}
 use Rattle.pe_code.specs.Straight.{Reading, no_frame, cell_read, Outcome, leaves, fails, has_none, misses, outcome_after}
 use Rattle.pe_machine.specs.States.{Pointer, Thunk, source, datum, cell_of, jump_of, sequence_of, Sequence, Focus, code_at, value, completed, Wanted, PeContext}
-use Rattle.pe_machine.specs.Step.{is_assignment, parts_at, Asked, a_cell, a_length, no_part, asked_at}
+use Rattle.pe_machine.specs.Step.{is_assignment, parts_at, waiting, Asked, a_cell, a_length, no_part, asked_at}
 use Rattle.pe_items.specs.Items.{ItemBinding, to_thunk, to_cell, to_escape, frame, context, sequence, address_on, FoundContext, context_at, FoundFrame, frame_from, datum_in, handed_by, escape_at, sequence_at, value_at, with_value, ItemState}
 
 -- where a step leads, as the push-enter machine's does
@@ -301,6 +301,7 @@ executed code (insn.Put kind x) d at here s = pushed (put_c kind) (record here {
 executed code (insn.Read x) d at here s = takes (λ byte. focus_on (code_at (record here { address = x })) (push (store_c (byte_or_end byte)) s))
 executed code (insn.Eval ss) d at here s = straight_run code ss here.frame s (λ v. focused (value v) s)
 executed code (insn.Set k ss) d at here s = straight_run code ss here.frame s (λ v. own_cell_set (frame_from s.items k here.frame) v s)
+executed code (insn.EvalFor ss u) d at here s = straight_run code ss here.frame s (λ v. datum_meets code v (waiting u here) s)
 
 abbrev pub item_executed : PeCode → Option PeItem → Pointer → ItemState → ItemMove
 item_executed code (Some i) here s = executed code i.insn i.depth i.place here s
