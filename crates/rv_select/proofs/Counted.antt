@@ -7,6 +7,7 @@ use Rattle.std.proofs.Math.Seq.{drop-cons}
 use Rattle.fy_base.specs.declared.data.UnOp.TheVariants.{Neg, Not, Ord, Chr}
 use Rattle.fy_base.specs.declared.data.BinOp.TheVariants.{Add, Sub, Mul, Div, Rem}
 use Rattle.pe_code.specs.declared.code.PeInsn.TheVariants as insn
+use Rattle.pe_code.specs.declared.code.Purpose.TheVariants as purpose
 use Rattle.std.proofs.lemmas.Bool.{cases_lt, cond_both}
 use Rattle.std.proofs.lemmas.List.{take_all}
 use Rattle.std.proofs.lemmas.Option.{same_Some, get_or_from_slice_get}
@@ -60,6 +61,8 @@ block_count_few (insn.Op2 Rem x y) = omega arith
 block_count_few (insn.Op2 op x y) = omega arith
 block_count_few (insn.Eval ss) = let faults = faults_few ss in omega arith
 block_count_few (insn.Set k ss) = let faults = faults_few ss in omega arith
+block_count_few (insn.EvalFor ss (purpose.Repeat x)) = let faults = faults_few ss in omega arith
+block_count_few (insn.EvalFor ss u) = let faults = faults_few ss in omega arith
 block_count_few i = omega arith
 
 blocks_few : (is : List PeItem) → blocks_in is ≤ 4 * length is + 2 * all_parts_run is
@@ -70,6 +73,7 @@ blocks_few (i ∷ is) = let rest = blocks_few is in let here = block_count_few i
 place_few : (i : PeInsn) → places_in i ≤ 1
 place_few (insn.Eval ss) = omega arith
 place_few (insn.Set k ss) = omega arith
+place_few (insn.EvalFor ss u) = omega arith
 place_few insn.Done = omega arith
 place_few i = omega arith
 

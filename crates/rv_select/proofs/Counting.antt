@@ -1,5 +1,5 @@
 -- How many words the blocks of an item take, and its entries.
-use Rattle.std.proofs.Common.{◌≡◌, ℕ, zero, suc, ◌+◌, ◌-◌, ◌*◌, ◌^◌, ◌<◌, ◌≤◌, Bool, true, false, List, [], ◌∷◌, ◌++◌, length, Option, Some, None, refl, arith}
+use Rattle.std.proofs.Common.{◌≡◌, ℕ, zero, suc, ◌+◌, ◌*◌, ◌^◌, ◌<◌, ◌≤◌, false, List, [], ◌∷◌, ◌++◌, length, Option, Some, None, refl, arith}
 use Rattle.std.proofs.lemmas.Bool.{cond_both, ltb-false}
 use Rattle.std.specs.Prelude.{nat_lt, nat_le, if◌then◌else◌}
 use Rattle.std.specs.Option.{ForSome}
@@ -11,10 +11,12 @@ use Rattle.fy_base.specs.declared.data.PutKind.{PutKind}
 use Rattle.fy_base.specs.declared.data.PutKind.TheVariants as kind
 use Rattle.pe_code.specs.declared.code.PeInsn.{PeInsn}
 use Rattle.pe_code.specs.declared.code.PeInsn.TheVariants as insn
+use Rattle.pe_code.specs.declared.code.Purpose.{Purpose}
+use Rattle.pe_code.specs.declared.code.Purpose.TheVariants as purpose
 use Rattle.pe_code.specs.declared.code.PeCode.{PeCode}
 use Rattle.pe_code.specs.Code.{shape_of, picked_from}
 use Rattle.pe_code.specs.Valid.{parts_run_by, places_in}
-use Rattle.pe_frame.specs.Frames.{frame_words, display_start, words_of_context}
+use Rattle.pe_frame.specs.Frames.{frame_words, words_of_context}
 use Rattle.rv_insn.specs.declared.instructions.RegOp.TheVariants as reg
 use Rattle.rv_word.specs.declared.micros.Register.TheVariants.{Frame, Context, Top, Datum, First, Second, Third}
 use Rattle.rv_word.specs.declared.micros.Micro.{Micro}
@@ -25,7 +27,7 @@ use Rattle.rv_operators.specs.Operators.{word_of}
 use Rattle.rv_straight.specs.Straight.{straight_code}
 use Rattle.rv_straight.proofs.Sizes.{reach_few, short as straight_short}
 use Rattle.rv_select.specs.Numbers.{meet, entry_count, label_of, entry_number, entry_word, column_word, column_of, row_address}
-use Rattle.rv_select.specs.Blocks.{behind, reach, open_context, at_top, push, push_frame, bind, put_entry, index_block, main_block, left_block, new_block, unary_fault_blocks, binary_fault_blocks, blocks_of}
+use Rattle.rv_select.specs.Blocks.{reach, open_context, at_top, push, push_frame, bind, put_entry, index_block, purpose_block, main_block, left_block, new_block, unary_fault_blocks, binary_fault_blocks, blocks_of}
 use Rattle.rv_select.proofs.Wp.{set_most}
 
 -- ---- operations
@@ -57,10 +59,10 @@ words_joined (x ∷ xs) ys = let rest = words_joined xs ys in omega arith
 reach_then : (k : ℕ) (rest : List Micro) → block_words (reach k ++ rest) ≤ 11 + block_words rest
 reach_then k rest = let near = (reach_few First k).words in let all = words_behind (reach k) rest in omega arith
 
-pub push_words : (entry label : ℕ) → entry < 2 ^ 28 → block_words (push entry label) ≤ 20
+pub push_words : (entry label : ℕ) → entry < 2 ^ 28 → block_words (push entry label) ≤ 17
 push_words entry label lt = let few = set_short (entry_word entry) (omega arith) in omega arith
 
-pub push_frame_words : (entry label : ℕ) → entry < 2 ^ 28 → block_words (push_frame entry label) ≤ 21
+pub push_frame_words : (entry label : ℕ) → entry < 2 ^ 28 → block_words (push_frame entry label) ≤ 18
 push_frame_words entry label lt = let few = set_short (entry_word entry) (omega arith) in omega arith
 
 -- an index is entered through a row
@@ -118,7 +120,7 @@ module _ (code : PeCode) (a : ℕ) where
     left_words Div x y lt = let few = set_short (entry_word (entry_number code a + 2)) (omega arith) in omega arith
     left_words op x y lt = let few = set_short (entry_word (entry_number code a + 2)) (omega arith) in omega arith
 
-    own_push : {i : PeInsn} → IsSmall code d i → block_words (push_frame (entry_number code a + 1) 0) ≤ 21
+    own_push : {i : PeInsn} → IsSmall code d i → block_words (push_frame (entry_number code a + 1) 0) ≤ 18
     own_push h = let small = h.entries a in push_frame_words (entry_number code a + 1) 0 (omega arith)
 
     own_set : {i : PeInsn} → IsSmall code d i → set_cost (entry_word (entry_number code a + 2)) ≤ 2
@@ -131,6 +133,14 @@ module _ (code : PeCode) (a : ℕ) where
     put_few kind.Int = omega arith
     put_few kind.Char = omega arith
     put_few kind.Bool = omega arith
+
+    purpose_words : (u : Purpose) → entry_number code a ≤ 2 ^ 20 → block_words (purpose_block code a d u) ≤ 21
+    purpose_words (purpose.Choose x y) lt = omega arith
+    purpose_words (purpose.Repeat x) lt = let main = push_frame_words (entry_number code a + 1) 0 (omega arith) in omega arith
+    purpose_words (purpose.Store x) lt = omega arith
+    purpose_words (purpose.Write kind.Int) lt = omega arith
+    purpose_words (purpose.Write kind.Char) lt = omega arith
+    purpose_words (purpose.Write kind.Bool) lt = omega arith
 
     -- straight code that an item runs takes at most 23 words a part
     pub insn_words : (i : PeInsn) → IsSmall code d i → 2 * entry_count i + blocks_words (blocks_of code a d i) + 23 * places_in i ≤ 58 + 2 * length (picked_from i) + 23 * parts_run_by i
@@ -197,4 +207,14 @@ module _ (code : PeCode) (a : ℕ) where
         let own = (straight_short ss (label_of code a + 1)).words in
         let tail = reach_then k (Window First 3 ∷ Save First 2 Datum ∷ Jump meet ∷ []) in
         let all = words_behind (straight_code ss 0 (label_of code a + 1)) (reach k ++ (Window First 3 ∷ Save First 2 Datum ∷ Jump meet ∷ [])) in
+        omega arith
+    insn_words (insn.EvalFor ss (purpose.Repeat x)) h =
+        let own = (straight_short ss (label_of code a + 2)).words in
+        let tail = purpose_words (purpose.Repeat x) (h.entries a) in
+        let all = words_behind (straight_code ss 0 (label_of code a + 2)) (purpose_block code a d (purpose.Repeat x)) in
+        omega arith
+    insn_words (insn.EvalFor ss u) h =
+        let own = (straight_short ss (label_of code a + 1)).words in
+        let all = words_behind (straight_code ss 0 (label_of code a + 1)) (purpose_block code a d u) in
+        let tail = purpose_words u (h.entries a) in
         omega arith

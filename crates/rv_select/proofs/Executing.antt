@@ -1,5 +1,5 @@
 -- The block of an item does what the item does.
-use Rattle.std.proofs.Common.{◌≡◌, ℕ, ◌+◌, ◌-◌, ◌*◌, ◌^◌, ◌<◌, ◌≤◌, List, ◌∷◌, ◌++◌, length, drop, Some, None, refl, sym, ap, ◌∙◌, subst, inl, arith, length-append}
+use Rattle.std.proofs.Common.{◌≡◌, ℕ, ◌+◌, ◌-◌, ◌*◌, ◌^◌, ◌<◌, ◌≤◌, List, [], ◌∷◌, ◌++◌, length, drop, Some, None, refl, sym, ap, ◌∙◌, subst, inl, inr, arith, length-append}
 use Rattle.std.proofs.lemmas.Bool.{cond_both, le-leb}
 use Rattle.std.proofs.lemmas.Option.{slice_get_within, get_or_from_slice_get}
 use Rattle.std.proofs.lemmas.List.Elements.{All-drop}
@@ -16,23 +16,28 @@ use Rattle.fy_phrase.specs.Contexts.{op_1, op_l, if_c, case_c, arg_c, pick_c, th
 use Rattle.fy_phrase.specs.Copy.{byte_or_end}
 use Rattle.pe_code.specs.declared.code.PeInsn.{PeInsn}
 use Rattle.pe_code.specs.declared.code.PeInsn.TheVariants as insn
+use Rattle.pe_code.specs.declared.code.Purpose.{Purpose}
+use Rattle.pe_code.specs.declared.code.Purpose.TheVariants as purpose
+use Rattle.pe_code.specs.declared.code.StraightPart.{StraightPart}
 use Rattle.pe_code.specs.declared.code.PeCode.{PeCode}
 use Rattle.pe_code.specs.Code.{item_at, body_of, straight_of}
 use Rattle.pe_code.specs.Valid.{LeadsTo, IsThunkNode, IsSoundItem}
 use Rattle.pe_frame.specs.Frames.{frame_words}
-use Rattle.pe_machine.specs.States.{Pointer, Thunk, source, datum, code_at, PeContext}
+use Rattle.pe_machine.specs.States.{Pointer, Thunk, source, datum, code_at, value, PeContext}
+use Rattle.pe_machine.specs.Step.{waiting}
 use Rattle.pe_items.specs.Items.{to_thunk, to_escape, Item, frame, context, address_on, FoundContext, FoundFrame, frame_from, handed_by, ItemState}
 use Rattle.pe_items.specs.Step as item
-use Rattle.pe_items.specs.Step.{ItemMove, bind_meets, field_meets, accept_meets, taken, newest_of, with_variable, executed}
+use Rattle.pe_items.specs.Step.{ItemMove, bind_meets, field_meets, accept_meets, taken, newest_of, with_variable, own_cell_set, executed}
 use Rattle.rv_word.specs.declared.micros.Register.TheVariants.{Frame, Context, Top, Datum, First, Second, Third}
 use Rattle.rv_word.specs.declared.micros.Micro.{Micro}
-use Rattle.rv_word.specs.declared.micros.Micro.TheVariants.{Set, Window, Get, Save}
+use Rattle.rv_word.specs.declared.micros.Micro.TheVariants.{Set, Window, Get, Save, Jump}
 use Rattle.rv_word.specs.Word.{Data, Code, Led, word_address, taken_in, block}
 use Rattle.rv_operators.specs.Operators.{word_of}
 use Rattle.rv_operators.specs.Laws.{IsDatum}
 use Rattle.rv_straight.specs.Laws.{AreInRange}
-use Rattle.rv_select.specs.Numbers.{label_of, entry_number, entry_word, pop_entry, column_word, datum_column, escape_column, column_of}
-use Rattle.rv_select.specs.Blocks.{move, reach, at_top, open_context, open_frame, bind, put_entry, main_block}
+use Rattle.rv_straight.specs.Straight.{straight_code, fault_blocks}
+use Rattle.rv_select.specs.Numbers.{meet, label_of, entry_number, entry_word, pop_entry, column_word, datum_column, escape_column, column_of}
+use Rattle.rv_select.specs.Blocks.{move, reach, at_top, open_context, open_frame, bind, put_entry, purpose_block, main_block, again_block, blocks_of}
 use Rattle.rv_select.specs.Layout.{word_in, frame_word, frames_from, column, payload, IsGoodThunk, ContextIsLaid, HasItems, HoldsItems}
 use Rattle.rv_select.specs.Laws.{value_of}
 use Rattle.rv_select.proofs.Runs.{Reach, Later, wider}
@@ -46,7 +51,7 @@ use Rattle.rv_select.proofs.Landing.{AreBytes, Keeps, has_same, has_more, went_c
 use Rattle.rv_select.proofs.Making.{open_length, framed, bound}
 use Rattle.rv_select.proofs.Reaching.{frame_small, reach_length, reached}
 use Rattle.rv_select.proofs.Indexing.{used}
-use Rattle.rv_select.proofs.Evaluating.{runs_eval, runs_set}
+use Rattle.rv_select.proofs.Evaluating.{IsAgain, goes_value, taken_by, goes_set, goes_for, runs_straight}
 
 -- ---- a byte of input
 
@@ -79,7 +84,7 @@ module _ (code : PeCode) (w : Code) (sel : IsSelected code w) (help : Helpers) w
       (subst (λ (k : List ℕ). ContextIsLaid code k is (arg_c t) newest) (sym words) (record { outside_is = out; parts = (two, w3.here ∙ pay, good) }))
       room top f bytes keeps leads deep
 
-  module _ (s : ItemState) (e : Data) (h : HoldsItems code s.newest s.items e) (here : Pointer) (d : ℕ) (at : Place) (f : e.named.frame ≡ frame_word here.frame) (deep : frames_from s.items here.frame ≡ Some d) (most : d ≤ 512) (c : ℕ) (enough : 100 ≤ c) where
+  module _ (s : ItemState) (e : Data) (h : HoldsItems code s.newest s.items e) (here : Pointer) (d : ℕ) (at : Place) (f : e.named.frame ≡ frame_word here.frame) (deep : frames_from s.items here.frame ≡ Some d) (most : d ≤ 512) (c : ℕ) (enough : 600 ≤ c) where
     abbrev pub Stands : PeInsn → Type 0
     Stands i = item_at code here.address ≡ Some (record { insn = i; depth = d; place = at })
 
@@ -604,6 +609,34 @@ module _ (code : PeCode) (w : Code) (sel : IsSelected code w) (help : Helpers) w
             })
             (frames_more (context (esc_c 0) s.newest) s.items here.frame d deep) most (sound.body y refl) (omega arith) (record { input_is = refl; output_is = refl; size_is = size }) (omega arith)
 
+    -- ---- straight code
+
+    runs_eval : (ss : List StraightPart) → Stands (insn.Eval ss) → Sound (insn.Eval ss) → AreInRange ss → Runs (executed code (insn.Eval ss) d at here s)
+    runs_eval ss stands sound range =
+        runs_straight code w sel help s e h here d f deep (record { insn = insn.Eval ss; depth = d; place = at }) (main_block code here.address d (insn.Eval ss) ∷ []) ss (Jump meet ∷ []) (λ v. item.focused (value v) s) 9 (300 + c) stands
+        (sound.straight ss refl) range refl refl (omega arith) (omega arith) (λ v m k. goes_value code w sel help s e h here d f deep v m k)
+
+    runs_set : (k : ℕ) (ss : List StraightPart) → Stands (insn.Set k ss) → Sound (insn.Set k ss) → AreInRange ss → Runs (executed code (insn.Set k ss) d at here s)
+    runs_set k ss stands sound range =
+        runs_straight code w sel help s e h here d f deep (record { insn = insn.Set k ss; depth = d; place = at }) (main_block code here.address d (insn.Set k ss) ∷ []) ss (taken_by code w sel help s e h here d f deep k)
+        (λ v. own_cell_set (frame_from s.items k here.frame) v s) 63 (300 + c) stands (sound.straight ss refl) range refl refl (omega arith) (omega arith)
+        (λ v m l. goes_set code w sel help s e h here d f deep k v m (sound.variable k refl) l)
+
+    for_purpose : (ss : List StraightPart) (u : Purpose) (before : List (List Micro)) → Stands (insn.EvalFor ss u) → Sound (insn.EvalFor ss u) → AreInRange ss
+        → main_block code here.address d (insn.EvalFor ss u) ≡ straight_code ss 0 (label_of code here.address + length before) ++ purpose_block code here.address d u → blocks_of code here.address d (insn.EvalFor ss u) ≡ before ++ fault_blocks ss
+        → IsAgain code w sel help s e h here d f deep u → Runs (executed code (insn.EvalFor ss u) d at here s)
+    for_purpose ss u before stands sound range main blocks again =
+        runs_straight code w sel help s e h here d f deep (record { insn = insn.EvalFor ss u; depth = d; place = at }) before ss (purpose_block code here.address d u) (λ v. item.datum_meets code v (waiting u here) s) 609 (300 + c) stands
+        (sound.straight ss refl) range main blocks (omega arith) (omega arith) (λ v m k. goes_for code w sel help s e h here d f deep u v m k sound.beside_it again)
+
+    runs_for : (ss : List StraightPart) (u : Purpose) → Stands (insn.EvalFor ss u) → Sound (insn.EvalFor ss u) → AreInRange ss → Runs (executed code (insn.EvalFor ss u) d at here s)
+    runs_for ss (purpose.Repeat y) stands sound range =
+        for_purpose ss (purpose.Repeat y) (main_block code here.address d (insn.EvalFor ss (purpose.Repeat y)) ∷ again_block code here.address d ∷ []) stands sound range refl refl
+        (λ w3. inr (d, y, ss, at, record { entry = record { stands = stands; entry = refl }; deep = deep; frame = refl }))
+    runs_for ss (purpose.Choose y z) stands sound range = for_purpose ss (purpose.Choose y z) (main_block code here.address d (insn.EvalFor ss (purpose.Choose y z)) ∷ []) stands sound range refl refl tt
+    runs_for ss (purpose.Store x) stands sound range = for_purpose ss (purpose.Store x) (main_block code here.address d (insn.EvalFor ss (purpose.Store x)) ∷ []) stands sound range refl refl tt
+    runs_for ss (purpose.Write kind) stands sound range = for_purpose ss (purpose.Write kind) (main_block code here.address d (insn.EvalFor ss (purpose.Write kind)) ∷ []) stands sound range refl refl tt
+
     -- ---- all of them
 
     pub runs : (i : PeInsn) → Stands i → Sound i → ForSome (value_of i) IsDatum → ForSome (straight_of i) AreInRange → ((y : ℕ) → body_of i ≡ Some y → 109 + 16 * d ≤ c) → Runs (executed code i d at here s)
@@ -641,7 +674,6 @@ module _ (code : PeCode) (w : Code) (sel : IsSelected code w) (help : Helpers) w
     runs (insn.Accept y) stands sound good range cost = runs_accept y (newest_of s) refl stands sound (cost y refl)
     runs (insn.Put kind x) stands sound good range cost = runs_put kind x stands sound
     runs (insn.Read x) stands sound good range cost = runs_read x stands sound
-    runs (insn.Eval ss) stands sound good range cost =
-        runs_eval code w sel help s e h here d f deep c enough (record { insn = insn.Eval ss; depth = d; place = at }) ss stands refl (sound.straight ss refl) (range ss refl) (sel.main here.address _ stands)
-    runs (insn.Set k ss) stands sound good range cost =
-        runs_set code w sel help s e h here d f deep c enough (record { insn = insn.Set k ss; depth = d; place = at }) k ss stands refl (sound.straight ss refl) (range ss refl) (sound.variable k refl) (sel.main here.address _ stands)
+    runs (insn.Eval ss) stands sound good range cost = runs_eval ss stands sound (range ss refl)
+    runs (insn.Set k ss) stands sound good range cost = runs_set k ss stands sound (range ss refl)
+    runs (insn.EvalFor ss u) stands sound good range cost = runs_for ss u stands sound (range ss refl)

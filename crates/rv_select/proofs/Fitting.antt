@@ -7,6 +7,7 @@ use Rattle.std.specs.Prelude.{slice_get, slice_index_or, nat_le, nat_eq}
 use Rattle.std.specs.Option.{ForSome}
 use Rattle.pe_code.specs.declared.code.PeInsn.{PeInsn}
 use Rattle.pe_code.specs.declared.code.PeInsn.TheVariants as insn
+use Rattle.pe_code.specs.declared.code.Purpose.TheVariants as purpose
 use Rattle.pe_code.specs.declared.code.StraightPart.{StraightPart}
 use Rattle.pe_code.specs.declared.code.StraightPart.TheVariants as part
 use Rattle.pe_code.specs.declared.code.PeItem.{PeItem}
@@ -18,7 +19,7 @@ use Rattle.rv_operators.specs.Operators.{word_of}
 use Rattle.rv_operators.specs.Laws.{IsDatum}
 use Rattle.rv_straight.specs.Straight.{fault_blocks}
 use Rattle.rv_straight.specs.Laws.{IsInRange, AreInRange, IsFine}
-use Rattle.rv_select.specs.Numbers.{first_item, block_count, blocks_in, entries_in, label_of, entry_number, row_words, column_word, place_in, column_of, row_address}
+use Rattle.rv_select.specs.Numbers.{first_item, block_count, first_fault, blocks_in, entries_in, label_of, entry_number, row_words, column_word, place_in, column_of, row_address}
 use Rattle.rv_select.specs.Blocks.{blocks_of}
 use Rattle.rv_select.specs.Program.{item_blocks, word_code}
 use Rattle.rv_select.specs.Laws.{value_of, IsSelectable}
@@ -48,10 +49,17 @@ block_inside [] a k i h lt = absurd (cc)
 block_inside (j ∷ is) zero k i h lt = let same = ap (λ (z : PeItem). block_count z.insn) (same_Some j i h) in omega arith
 block_inside (j ∷ is) (suc a) k i h lt = let rest = block_inside is a k i h lt in omega arith
 
--- straight code has a block for each fault behind its own
-faults_counted : (i : PeInsn) (ss : List StraightPart) → straight_of i ≡ Some ss → block_count i ≡ suc (length (fault_blocks ss))
-faults_counted (insn.Eval qs) ss e = ap (λ (z : List StraightPart). suc (length (fault_blocks z))) (same_Some qs ss e)
-faults_counted (insn.Set k qs) ss e = ap (λ (z : List StraightPart). suc (length (fault_blocks z))) (same_Some qs ss e)
+blocks_inside : (is : List PeItem) (a : ℕ) (i : PeItem) → slice_get is a ≡ Some i → blocks_in (take a is) + block_count i.insn ≤ blocks_in is
+blocks_inside [] a i h = absurd (cc)
+blocks_inside (j ∷ is) zero i h = let same = ap (λ (z : PeItem). block_count z.insn) (same_Some j i h) in omega arith
+blocks_inside (j ∷ is) (suc a) i h = let rest = blocks_inside is a i h in omega arith
+
+-- straight code has a block for each fault, the last ones of its item
+faults_counted : (i : PeInsn) (ss : List StraightPart) → straight_of i ≡ Some ss → block_count i ≡ first_fault i + length (fault_blocks ss)
+faults_counted (insn.Eval qs) ss e = let same = ap (λ (z : List StraightPart). length (fault_blocks z)) (same_Some qs ss e) in omega arith
+faults_counted (insn.Set k qs) ss e = let same = ap (λ (z : List StraightPart). length (fault_blocks z)) (same_Some qs ss e) in omega arith
+faults_counted (insn.EvalFor qs (purpose.Repeat x)) ss e = let same = ap (λ (z : List StraightPart). length (fault_blocks z)) (same_Some qs ss e) in omega arith
+faults_counted (insn.EvalFor qs u) ss e = let same = ap (λ (z : List StraightPart). length (fault_blocks z)) (same_Some qs ss e) in omega arith
 faults_counted i ss e = absurd cc
 
 -- ---- other numbers
@@ -144,14 +152,14 @@ module _ (code : PeCode) (ok : IsSelectable code) where
   fine_part depth (part.Binary op a) le sound range = item_place a sound.item sound.stands
 
   -- its faults' labels are those of blocks
-  faults_within : (a count : ℕ) (i : PeItem) → item_at code a ≡ Some i → block_count i.insn ≡ suc count → label_of code a + 1 + count ≤ (bounds code).blocks
-  faults_within a count i h is =
-      let within = block_inside code.items a count i h (omega arith) in
+  blocks_within : (a : ℕ) (i : PeItem) → item_at code a ≡ Some i → label_of code a + block_count i.insn ≤ (bounds code).blocks
+  blocks_within a i h =
+      let all = blocks_inside code.items a i h in
       let number = blocks_number code in
       omega arith
 
-  faults_fit : (a : ℕ) (i : PeItem) (ss : List StraightPart) → item_at code a ≡ Some i → straight_of i.insn ≡ Some ss → label_of code a + 1 + length (fault_blocks ss) ≤ (bounds code).blocks
-  faults_fit a i ss h e = faults_within a (length (fault_blocks ss)) i h (faults_counted i.insn ss e)
+  faults_fit : (a : ℕ) (i : PeItem) (ss : List StraightPart) → item_at code a ≡ Some i → straight_of i.insn ≡ Some ss → label_of code a + first_fault i.insn + length (fault_blocks ss) ≤ (bounds code).blocks
+  faults_fit a i ss h e = let all = blocks_within a i h in let count = faults_counted i.insn ss e in omega arith
 
   pub insn_fits : (a : ℕ) (i : PeItem) → item_at code a ≡ Some i → InsnFits code (bounds code) a i.depth i.insn
   insn_fits a i h =

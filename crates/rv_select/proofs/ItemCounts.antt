@@ -9,6 +9,7 @@ use Rattle.fy_base.specs.declared.data.BinOp.{BinOp}
 use Rattle.fy_base.specs.declared.data.BinOp.TheVariants.{Add, Sub, Mul, Div, Rem}
 use Rattle.pe_code.specs.declared.code.PeInsn.{PeInsn}
 use Rattle.pe_code.specs.declared.code.PeInsn.TheVariants as insn
+use Rattle.pe_code.specs.declared.code.Purpose.TheVariants as purpose
 use Rattle.pe_code.specs.declared.code.PeItem.{PeItem}
 use Rattle.pe_code.specs.Valid.{parts_run_by, all_parts_run}
 use Rattle.rv_asm.specs.declared.items.Item.{Item}
@@ -95,6 +96,8 @@ insn_blocks (insn.Op1 op x) = let few = unary_blocks op x in omega arith
 insn_blocks (insn.Op2 op x y) = let few = binary_blocks op x y in omega arith
 insn_blocks (insn.Eval ss) = let faults = faults_few ss in omega arith
 insn_blocks (insn.Set k ss) = let faults = faults_few ss in omega arith
+insn_blocks (insn.EvalFor ss (purpose.Repeat x)) = let faults = faults_few ss in omega arith
+insn_blocks (insn.EvalFor ss u) = let faults = faults_few ss in omega arith
 insn_blocks i = omega arith
 
 all_blocks : (is : List PeItem) → blocks_in is ≤ length is + entries_in is + 2 * all_parts_run is

@@ -13,23 +13,26 @@ use Rattle.fy_base.specs.declared.data.PutKind.{PutKind}
 use Rattle.fy_base.specs.declared.data.PutKind.TheVariants as kind
 use Rattle.pe_code.specs.declared.code.PeInsn.{PeInsn}
 use Rattle.pe_code.specs.declared.code.PeInsn.TheVariants as insn
+use Rattle.pe_code.specs.declared.code.Purpose.{Purpose}
+use Rattle.pe_code.specs.declared.code.Purpose.TheVariants as purpose
 use Rattle.pe_code.specs.declared.code.PeCode.{PeCode}
 use Rattle.pe_code.specs.declared.code.StraightPart.{StraightPart}
-use Rattle.pe_code.specs.Code.{beside, body_of, variable_of, shape_of, picked_from, straight_of}
+use Rattle.pe_code.specs.Code.{served_by, beside, body_of, variable_of, shape_of, picked_from, straight_of}
 use Rattle.pe_frame.specs.Frames.{frame_words, display_start, words_of_context}
 use Rattle.fy_base.specs.declared.data.FaultKind.TheVariants as fault
 use Rattle.rv_word.specs.declared.micros.Micro.{Micro}
-use Rattle.rv_word.specs.declared.micros.Micro.TheVariants.{Window, Save, Jump, Fault}
-use Rattle.rv_word.specs.declared.micros.Register.TheVariants.{Frame, Datum, First}
+use Rattle.rv_insn.specs.declared.instructions.BranchOp.TheVariants.{Beq, Bne}
+use Rattle.rv_word.specs.declared.micros.Micro.TheVariants.{Window, Save, Room, Test, Jump, Put, Fault}
+use Rattle.rv_word.specs.declared.micros.Register.TheVariants.{Zero, Frame, Context, Top, Datum, First}
 use Rattle.rv_word.specs.Word.{zeros}
 use Rattle.rv_word.specs.Discipline.{Bounds, is_disciplined_from, are_disciplined, are_below}
-use Rattle.rv_runtime.specs.Routines.{exhausted, make_frame}
+use Rattle.rv_runtime.specs.Routines.{exhausted, put_true, put_false, put_int, make_frame}
 use Rattle.rv_operators.specs.Operators.{word_of, unary_label, binary_label}
 use Rattle.rv_straight.specs.Straight.{word_of_frame, fault_blocks}
 use Rattle.rv_straight.specs.Laws.{IsFine}
 use Rattle.rv_straight.proofs.Fine.{reach_needs, disciplined, faults_fine}
-use Rattle.rv_select.specs.Numbers.{meet, first_operator, pop_label, count_label, first_item, block_count, label_of, entry_number, entry_word, column_word, column_of, row_address}
-use Rattle.rv_select.specs.Blocks.{move, push, push_frame, bind, reach, put_entry, main_block, left_block, if_block, case_block, then_block, assign_block, while_block, again_block, new_block, unary_fault_blocks, binary_fault_blocks, blocks_of, entries_of}
+use Rattle.rv_select.specs.Numbers.{meet, first_operator, pop_label, count_label, first_item, block_count, faults_from, first_fault, label_of, entry_number, entry_word, column_word, column_of, row_address}
+use Rattle.rv_select.specs.Blocks.{move, open_context, push, push_frame, bind, reach, put_entry, main_block, left_block, if_block, case_block, then_block, assign_block, while_block, again_block, new_block, unary_fault_blocks, binary_fault_blocks, blocks_of, entries_of}
 use Rattle.rv_select.specs.Laws.{value_of}
 use Rattle.rv_select.proofs.Judging.{IsLabel, IsWord, chained, reach_fine, push_fine, push_frame_fine, bind_fine}
 
@@ -55,7 +58,7 @@ pub record InsnFits (code : PeCode) (b : Bounds) (a d : ℕ) (i : PeInsn) : Type
   pub parts : IsWord (length (picked_from i))
   pub value : ForSome (value_of i) (λ v. IsWord (word_of v))
   pub straight : ForSome (straight_of i) (λ ss. All (λ s. IsFine b.places s) ss)
-  pub faults : ForSome (straight_of i) (λ ss. label_of code a + 1 + length (fault_blocks ss) ≤ b.blocks)
+  pub faults : ForSome (straight_of i) (λ ss. label_of code a + first_fault i + length (fault_blocks ss) ≤ b.blocks)
 
 -- ---- the blocks of an item
 
@@ -142,6 +145,22 @@ module _ (code : PeCode) (b : Bounds) (fits : Fits code b) where
         disciplined b zeros ss (label_of code a + 1) (Window Frame (display_start + suc k)) (word_of_frame First (display_start + k) ++ (Window First 3 ∷ Save First 2 Datum ∷ Jump meet ∷ [])) fine fits
         (λ w. chained b w (reach (suc k)) (Window First 3) (Save First 2 Datum ∷ Jump meet ∷ []) (reach_needs b 1 (suc k) w lt) (λ v. simp (low meet (omega arith))))
 
+    -- straight code for a purpose
+    for_fine : (ss : List StraightPart) (u : Purpose) → All (λ s. IsFine b.places s) ss → label_of code a + faults_from u + length (fault_blocks ss) ≤ b.blocks → All (λ x. IsLabel b (label_of code x)) (served_by u)
+        → is_disciplined_from b zeros (main_block code a d (insn.EvalFor ss u)) ≡ true
+    for_fine ss (purpose.Choose x y) fine fits beside =
+        disciplined b zeros ss (label_of code a + 1) (Test Beq Datum Zero (label_of code y)) (Jump (label_of code x) ∷ []) fine fits (λ w. simp (beside 0 0 (omega arith), beside 1 0 (omega arith)))
+    for_fine ss (purpose.Repeat x) fine fits beside =
+        disciplined b zeros ss (label_of code a + 2) (Test Beq Datum Zero meet) (push_frame (entry_number code a + 1) (label_of code x)) fine fits
+        (λ w. simp (low meet (omega arith), low exhausted (omega arith), entry_fits a 1 (omega arith), beside 0 0 (omega arith)))
+    for_fine ss (purpose.Store x) fine fits beside =
+        disciplined b zeros ss (label_of code a + 1) (Room words_of_context exhausted) (Window Top words_of_context ∷ Save Top 1 Context ∷ Save Top 2 Datum ∷ open_context (label_of code x)) fine fits
+        (λ w. simp (low exhausted (omega arith), beside 0 0 (omega arith)))
+    for_fine ss (purpose.Write kind.Int) fine fits beside = disciplined b zeros ss (label_of code a + 1) (Jump put_int) [] fine fits (λ w. simp (low put_int (omega arith)))
+    for_fine ss (purpose.Write kind.Char) fine fits beside = disciplined b zeros ss (label_of code a + 1) (Put Datum) (Jump meet ∷ []) fine fits (λ w. simp (low meet (omega arith)))
+    for_fine ss (purpose.Write kind.Bool) fine fits beside =
+        disciplined b zeros ss (label_of code a + 1) (Test Bne Datum Zero put_true) (Jump put_false ∷ []) fine fits (λ w. simp (low put_true (omega arith), low put_false (omega arith)))
+
     pub blocks_fine : (i : PeInsn) → InsnFits code b a d i → are_disciplined b (blocks_of code a d i) ≡ true
     blocks_fine (insn.UseVar k s) h =
         let shape = h.shape s refl in
@@ -199,6 +218,13 @@ module _ (code : PeCode) (b : Bounds) (fits : Fits code b) where
         let fine = h.straight ss refl in
         and_from (is_disciplined_from b zeros (main_block code a d (insn.Set k ss))) (are_disciplined b (fault_blocks ss))
         (set_fine k ss (h.variable k refl) fine (h.faults ss refl)) (faults_fine b ss fine)
+    blocks_fine (insn.EvalFor ss (purpose.Repeat x)) h =
+        let fine = h.straight ss refl in
+        let others : are_disciplined b (again_block code a d ∷ fault_blocks ss) ≡ true = and_from (is_disciplined_from b zeros (again_block code a d)) (are_disciplined b (fault_blocks ss)) (simp h.here) (faults_fine b ss fine) in
+        and_from (is_disciplined_from b zeros (main_block code a d (insn.EvalFor ss (purpose.Repeat x)))) (are_disciplined b (again_block code a d ∷ fault_blocks ss)) (for_fine ss (purpose.Repeat x) fine (h.faults ss refl) h.beside) others
+    blocks_fine (insn.EvalFor ss u) h =
+        let fine = h.straight ss refl in
+        and_from (is_disciplined_from b zeros (main_block code a d (insn.EvalFor ss u))) (are_disciplined b (fault_blocks ss)) (for_fine ss u fine (h.faults ss refl) h.beside) (faults_fine b ss fine)
 
     -- ---- its entries
 
@@ -227,6 +253,8 @@ module _ (code : PeCode) (b : Bounds) (fits : Fits code b) where
     entries_fine (insn.Assign x y) h = simp (h.own 0 (omega arith), h.own 1 (omega arith))
     entries_fine (insn.While x y) h = simp (h.own 0 (omega arith), h.own 1 (omega arith), h.own 2 (omega arith))
     entries_fine (insn.Loop x) h = simp (h.own 0 (omega arith), h.own 1 (omega arith))
+    entries_fine (insn.EvalFor ss (purpose.Repeat x)) h = simp (h.own 0 (omega arith), h.own 1 (omega arith))
+    entries_fine (insn.EvalFor ss u) h = simp (h.own 0 (omega arith))
     entries_fine (insn.New x y) h = simp (h.own 0 (omega arith), h.own 1 (omega arith))
     entries_fine (insn.Cells x y) h = simp (h.own 0 (omega arith), low count_label (omega arith), h.own 1 (omega arith), low pop_label (omega arith), h.own 2 (omega arith))
     entries_fine i h = simp (h.own 0 (omega arith))

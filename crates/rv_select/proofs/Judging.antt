@@ -1,18 +1,15 @@
 -- Parts of blocks of selected code are disciplined.
-use Rattle.std.proofs.Common.{◌≡◌, ℕ, zero, suc, ◌+◌, ◌-◌, ◌*◌, ◌^◌, ◌<◌, ◌≤◌, Bool, true, ◌&&◌, List, [], ◌∷◌, ◌++◌, refl, arith, lt-ltb}
-use Rattle.std.proofs.lemmas.Bool.{and_from, and_parts, cond_both, le-leb, ltb-true, ltb-false}
-use Rattle.std.specs.Prelude.{nat_lt, if◌then◌else◌}
-use Rattle.pe_frame.specs.Frames.{frame_words, display_start}
-use Rattle.rv_word.specs.declared.micros.Register.TheVariants.{Frame, First}
-use Rattle.rv_word.specs.declared.micros.Micro.{Micro}
-use Rattle.rv_word.specs.declared.micros.Micro.TheVariants.{Window, Get}
+use Rattle.std.proofs.Common.{◌≡◌, ℕ, zero, suc, ◌*◌, ◌^◌, ◌<◌, ◌≤◌, true, arith, lt-ltb}
+use Rattle.std.proofs.lemmas.Bool.{le-leb}
+use Rattle.std.specs.Prelude.{nat_lt}
+use Rattle.pe_frame.specs.Frames.{frame_words}
 use Rattle.rv_word.specs.Word.{Named, zeros}
-use Rattle.rv_word.specs.Discipline.{Bounds, has_needs, windows_behind, is_disciplined_from, are_disciplined}
+use Rattle.rv_word.specs.Discipline.{Bounds, is_disciplined_from}
 use Rattle.rv_runtime.specs.Routines.{exhausted, make_frame}
 pub use Rattle.rv_straight.proofs.Fine.{have_needs, chained, joined}
 use Rattle.rv_straight.proofs.Fine.{reach_needs}
 use Rattle.rv_select.specs.Numbers.{entry_word}
-use Rattle.rv_select.specs.Blocks.{behind, reach, push, push_frame, bind}
+use Rattle.rv_select.specs.Blocks.{reach, push, push_frame, bind}
 
 -- the label is a block's, and the number a word of 64 bits
 abbrev pub IsLabel : Bounds → ℕ → Type 0

@@ -443,7 +443,7 @@ module _ (code : PeCode) (w : Code) (sel : IsSelected code w) (help : Helpers) (
                   renewed (body_c loop) c d 40 e.words (record (with_value First k (with_value Frame (frame_word loop.frame) e)) { words = n1 }) met.memory met.room (same_wrote y e.words n1 (y + 0) k w1 (omega arith))
                   (record {
                     outside_is = unwritten e.words n1 y 0 1 k (word_address outside) w1 (λ q. omega (arith, q)) met.here.outside_is;
-                    parts = (d, x, c.address, at, record { entry = record { stands = stands; entry = w1.here }; deep = deep; frame = unwritten e.words n1 y 0 2 k (frame_word loop.frame) w1 (λ q. omega (arith, q)) f });
+                    parts = inl (d, x, c.address, at, record { entry = record { stands = stands; entry = w1.here }; deep = deep; frame = unwritten e.words n1 y 0 2 k (frame_word loop.frame) w1 (λ q. omega (arith, q)) f });
                   })
                   met.newest_is (ap frame_word (sym same)) met.bytes (record { input_is = keeps.input_is; output_is = keeps.output_is; size_is = w1.size ∙ keeps.size_is }) leads (ap (frames_from older) same ∙ deep),
             ),

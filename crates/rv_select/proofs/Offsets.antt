@@ -6,12 +6,15 @@ use Rattle.std.specs.List.{list_all}
 use Rattle.std.proofs.lemmas.Bool.{and_from, and_parts}
 use Rattle.std.proofs.lemmas.List.Folds.{list_all-append}
 use Rattle.fy_base.specs.declared.data.FaultKind.TheVariants.{Range}
+use Rattle.fy_base.specs.declared.data.PutKind.TheVariants as put
 use Rattle.fy_base.specs.declared.data.UnOp.{UnOp}
 use Rattle.fy_base.specs.declared.data.UnOp.TheVariants.{Neg, Chr}
 use Rattle.fy_base.specs.declared.data.BinOp.{BinOp}
 use Rattle.fy_base.specs.declared.data.BinOp.TheVariants.{Add, Sub, Mul, Div, Rem, And, Or}
 use Rattle.pe_code.specs.declared.code.PeInsn.{PeInsn}
 use Rattle.pe_code.specs.declared.code.PeInsn.TheVariants as insn
+use Rattle.pe_code.specs.declared.code.Purpose.{Purpose}
+use Rattle.pe_code.specs.declared.code.Purpose.TheVariants as purpose
 use Rattle.pe_code.specs.declared.code.PeCode.{PeCode}
 use Rattle.pe_code.specs.declared.code.StraightPart.{StraightPart}
 use Rattle.pe_code.specs.declared.code.StraightPart.TheVariants as part
@@ -24,9 +27,9 @@ use Rattle.rv_flow.specs.Emission.{is_near, are_near}
 use Rattle.rv_straight.specs.Straight.{straight_code, fault_blocks}
 use Rattle.rv_straight.specs.Laws.{IsNear}
 use Rattle.rv_straight.proofs.Fine.{reach_near, straight_near, faults_near}
-use Rattle.rv_select.specs.Numbers.{label_of, entry_number}
+use Rattle.rv_select.specs.Numbers.{faults_from, label_of, entry_number}
 use Rattle.rv_select.specs.Emission.{IsSmallStraight}
-use Rattle.rv_select.specs.Blocks.{reach, open_frame, bind, main_block, left_block, new_block, unary_fault_blocks, binary_fault_blocks, blocks_of}
+use Rattle.rv_select.specs.Blocks.{reach, open_frame, bind, purpose_block, main_block, left_block, again_block, new_block, unary_fault_blocks, binary_fault_blocks, blocks_of}
 
 both_near : (xs ys : List Micro) → are_near xs ≡ true → are_near ys ≡ true → are_near (xs ++ ys) ≡ true
 both_near xs ys h k = list_all-append is_near xs ys ∙ and_from (are_near xs) (are_near ys) h k
@@ -50,6 +53,14 @@ frame_is_near (suc d) label entry = refl
 -- ---- the blocks of an instruction
 
 module _ (code : PeCode) (a d : ℕ) where
+  purpose_is_near : (u : Purpose) → are_near (purpose_block code a d u) ≡ true
+  purpose_is_near (purpose.Choose x y) = refl
+  purpose_is_near (purpose.Repeat x) = refl
+  purpose_is_near (purpose.Store x) = refl
+  purpose_is_near (purpose.Write put.Int) = refl
+  purpose_is_near (purpose.Write put.Char) = refl
+  purpose_is_near (purpose.Write put.Bool) = refl
+
   main_is_near : (i : PeInsn) → ForSome (variable_of i) (λ k. k < 512) → ForSome (straight_of i) IsSmallStraight → are_near (main_block code a d i) ≡ true
   main_is_near (insn.UseVar k s) h q = both_near (reach k) _ (reach_near First k (h k refl)) refl
   main_is_near (insn.PassVar k y) h q = both_near (reach k) _ (reach_near First k (h k refl)) refl
@@ -63,6 +74,7 @@ module _ (code : PeCode) (a d : ℕ) where
   main_is_near (insn.Eval ss) h q = both_near (straight_code ss 0 (label_of code a + 1)) _ (straight_near ss 0 (label_of code a + 1) (q ss refl).near) refl
   main_is_near (insn.Set k ss) h q =
       both_near (straight_code ss 0 (label_of code a + 1)) _ (straight_near ss 0 (label_of code a + 1) (q ss refl).near) (both_near (reach k) _ (reach_near First k (h k refl)) refl)
+  main_is_near (insn.EvalFor ss u) h q = both_near (straight_code ss 0 (label_of code a + faults_from u)) (purpose_block code a d u) (straight_near ss 0 (label_of code a + faults_from u) (q ss refl).near) (purpose_is_near u)
   main_is_near i h q = refl
 
   left_is_near : (op : BinOp) (y : ℕ) → are_near (left_block code a d op y) ≡ true
@@ -100,6 +112,9 @@ module _ (code : PeCode) (a d : ℕ) where
   all_are_near (insn.Loop x) h q = refl
   all_are_near (insn.Eval ss) h q = before_others (main_block code a d (insn.Eval ss)) (fault_blocks ss) (main_is_near (insn.Eval ss) h q) (faults_near ss)
   all_are_near (insn.Set k ss) h q = before_others (main_block code a d (insn.Set k ss)) (fault_blocks ss) (main_is_near (insn.Set k ss) h q) (faults_near ss)
+  all_are_near (insn.EvalFor ss (purpose.Repeat x)) h q =
+      before_others (main_block code a d (insn.EvalFor ss (purpose.Repeat x))) (again_block code a d ∷ fault_blocks ss) (main_is_near (insn.EvalFor ss (purpose.Repeat x)) h q) (faults_near ss)
+  all_are_near (insn.EvalFor ss u) h q = before_others (main_block code a d (insn.EvalFor ss u)) (fault_blocks ss) (main_is_near (insn.EvalFor ss u) h q) (faults_near ss)
   all_are_near i h q = before_others (main_block code a d i) [] (main_is_near i h q) refl
 
 near_at : (bs : List (List Micro)) (k : ℕ) → list_all are_near bs ≡ true → are_near (slice_index_or bs k []) ≡ true

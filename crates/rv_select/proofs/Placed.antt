@@ -10,6 +10,7 @@ use Rattle.fy_base.specs.declared.data.BinOp.{BinOp}
 use Rattle.fy_base.specs.declared.data.BinOp.TheVariants.{Add, Sub, Mul, Div, Rem, And, Or}
 use Rattle.pe_code.specs.declared.code.PeInsn.{PeInsn}
 use Rattle.pe_code.specs.declared.code.PeInsn.TheVariants as insn
+use Rattle.pe_code.specs.declared.code.Purpose.TheVariants as purpose
 use Rattle.pe_code.specs.declared.code.PeItem.{PeItem}
 use Rattle.pe_code.specs.declared.code.PeCode.{PeCode}
 use Rattle.pe_code.specs.Code.{item_at, entry_of, picked_from}
@@ -42,6 +43,8 @@ binary_blocks code a d x y op = refl
 pub blocks_length : (code : PeCode) (a d : ℕ) (i : PeInsn) → length (blocks_of code a d i) ≡ block_count i
 blocks_length code a d (insn.Op1 op x) = unary_blocks code a d x op
 blocks_length code a d (insn.Op2 op x y) = binary_blocks code a d x y op
+blocks_length code a d (insn.EvalFor ss (purpose.Repeat x)) = refl
+blocks_length code a d (insn.EvalFor ss u) = refl
 blocks_length code a d i = refl
 
 unary_entries_length : (code : PeCode) (a d x : ℕ) (op : UnOp) → length (entries_of code a d (insn.Op1 op x)) ≡ entry_count (insn.Op1 op x)
@@ -59,26 +62,36 @@ binary_entries_length code a d x y op = refl
 pub entries_length : (code : PeCode) (a d : ℕ) (i : PeInsn) → length (entries_of code a d i) ≡ entry_count i
 entries_length code a d (insn.Op1 op x) = unary_entries_length code a d x op
 entries_length code a d (insn.Op2 op x y) = binary_entries_length code a d x y op
+entries_length code a d (insn.EvalFor ss (purpose.Repeat x)) = refl
+entries_length code a d (insn.EvalFor ss u) = refl
 entries_length code a d (insn.Case x ys) = let parts = length-map ys (label_of code) in omega arith
 entries_length code a d i = refl
 
 first_block : (code : PeCode) (a d : ℕ) (i : PeInsn) → slice_index_or (blocks_of code a d i) 0 [] ≡ main_block code a d i
 first_block code a d (insn.Op1 op x) = refl
+first_block code a d (insn.EvalFor ss (purpose.Repeat x)) = refl
+first_block code a d (insn.EvalFor ss u) = refl
 first_block code a d i = refl
 
 pub some_blocks : (i : PeInsn) → 0 < block_count i
 some_blocks (insn.Op1 op x) = omega arith
 some_blocks (insn.Op2 op x y) = omega arith
+some_blocks (insn.EvalFor ss (purpose.Repeat x)) = omega arith
+some_blocks (insn.EvalFor ss u) = omega arith
 some_blocks i = omega arith
 
 first_entry_is : (code : PeCode) (a d : ℕ) (i : PeInsn) → slice_index (entries_of code a d i) 0 ≡ label_of code a
 first_entry_is code a d (insn.Op1 op x) = let e : label_of code a + 0 ≡ label_of code a = omega arith in e
+first_entry_is code a d (insn.EvalFor ss (purpose.Repeat x)) = let e : label_of code a + 0 ≡ label_of code a = omega arith in e
+first_entry_is code a d (insn.EvalFor ss u) = let e : label_of code a + 0 ≡ label_of code a = omega arith in e
 first_entry_is code a d i = let e : label_of code a + 0 ≡ label_of code a = omega arith in e
 
 some_entries : (i : PeInsn) → 0 < entry_count i
 some_entries (insn.Op1 op x) = omega arith
 some_entries (insn.Op2 op x y) = omega arith
 some_entries (insn.Case x ys) = omega arith
+some_entries (insn.EvalFor ss (purpose.Repeat x)) = omega arith
+some_entries (insn.EvalFor ss u) = omega arith
 some_entries i = omega arith
 
 -- ---- where they stand
@@ -154,6 +167,8 @@ entry_count_few : (i : PeInsn) → entry_count i ≤ 5 + length (picked_from i)
 entry_count_few (insn.Op1 op x) = let few = unary_entries_few op x in omega arith
 entry_count_few (insn.Op2 op x y) = let few = binary_entries_few op x y in omega arith
 entry_count_few (insn.Case x ys) = omega arith
+entry_count_few (insn.EvalFor ss (purpose.Repeat x)) = omega arith
+entry_count_few (insn.EvalFor ss u) = omega arith
 entry_count_few i = omega arith
 
 pub entries_few : (is : List PeItem) → entries_in is ≤ 5 * length is + all_picked_from is

@@ -13,6 +13,7 @@ use Rattle.fy_base.specs.declared.data.PutKind.{PutKind}
 use Rattle.fy_base.specs.declared.data.PutKind.TheVariants as puts
 use Rattle.fy_phrase.specs.Contexts.{op_1, op_l, op_r, if_c, case_c, then_c, assign_c, while_c, body_c, loop_c, new_c, drop_c, put_c, esc_c, cells_c, fill_c, element_c}
 use Rattle.pe_code.specs.declared.code.PeInsn.TheVariants as insn
+use Rattle.pe_code.specs.declared.code.Purpose.TheVariants as purpose
 use Rattle.pe_code.specs.declared.code.PeItem.{PeItem}
 use Rattle.pe_code.specs.declared.code.PeCode.{PeCode}
 use Rattle.pe_code.specs.Code.{item_at, body_of, straight_of}
@@ -29,7 +30,7 @@ use Rattle.rv_operators.specs.Operators.{word_of, binary_label, unary_label}
 use Rattle.rv_operators.specs.Laws.{IsDatum}
 use Rattle.rv_select.specs.Numbers.{meet, first_operator, right_entries, pop_label, count_label, put_int_label, put_char_label, put_bool_label, pop_entry, put_int_entry, put_char_entry, put_bool_entry, element_entry, label_of, entry_number, entry_word}
 use Rattle.rv_select.specs.Blocks.{behind, blocks_of, entries_of}
-use Rattle.rv_select.specs.Layout.{word_in, frame_word, frames_from, DropsCells, HoldsItems, RunsItem, HasFocus, Stands}
+use Rattle.rv_select.specs.Layout.{word_in, frame_word, frames_from, DropsCells, HasParts, HoldsItems, RunsItem, HasFocus, Stands}
 use Rattle.rv_straight.specs.Laws.{AreInRange}
 use Rattle.rv_select.specs.Laws.{value_of, IsSelectable, frame_depth, deepest}
 use Rattle.rv_select.proofs.Runs.{Reach, wider}
@@ -278,6 +279,23 @@ module _ (code : PeCode) (w : Code) (sel : IsSelected code w) (help : Helpers) (
         (met_at mv older k pop_label 40 found.spot found.within mine.entry (sel.entries a _ 3 mine.stands (omega arith))
         (popped code w sel help e0 s older outside (drop_c n) (with_value First (entry_word k) e0) (met_of (drop_c n) outside k older found) (kept_of k)))
 
+    -- a loop again, by parts or with its condition straight
+    again_by : (loop : Pointer) (outside : ℕ) (older : List Item) → StandsAt code e0.words s.items s.newest (record { content = body_c loop; outside = outside; older = older })
+        → HasParts code (frames_from older) (body_c loop) (word_in e0.words (address_on older) 0) (word_in e0.words (address_on older) 2) (word_in e0.words (address_on older) 3) → Ends (body_c loop) outside older
+    again_by loop outside older found (inl r) =
+        let k = entry_number code loop.address + 2 in
+        let mv = completion_meets (body_c loop) (cut code w sel help e0 s older outside) in
+        wide mv 87 (omega arith)
+        (met_at mv older k (label_of code loop.address + 2) 60 found.spot found.within r.4.entry.entry (sel.entries loop.address (record { insn = insn.While r.1 r.2; depth = r.0; place = r.3 }) 2 r.4.entry.stands (omega arith))
+        (met_again code w sel help e0 s older outside (body_c loop) loop (insn.While r.1 r.2) 2 (with_value First (entry_word k) e0) r.0 r.3 r.4.entry.stands (omega arith) refl r.4.deep r.4.frame (met_of (body_c loop) outside k older found) (kept_of k)))
+    again_by loop outside older found (inr r) =
+        let i = insn.EvalFor r.2 (purpose.Repeat r.1) in
+        let k = entry_number code loop.address + 1 in
+        let mv = completion_meets (body_c loop) (cut code w sel help e0 s older outside) in
+        wide mv 87 (omega arith)
+        (met_at mv older k (label_of code loop.address + 1) 60 found.spot found.within r.4.entry.entry (sel.entries loop.address (record { insn = i; depth = r.0; place = r.3 }) 1 r.4.entry.stands (omega arith))
+        (met_again code w sel help e0 s older outside (body_c loop) loop i 1 (with_value First (entry_word k) e0) r.0 r.3 r.4.entry.stands (omega arith) refl r.4.deep r.4.frame (met_of (body_c loop) outside k older found) (kept_of k)))
+
     completed_by : (c : PeContext) (outside : ℕ) (older : List Item) → StandsAt code e0.words s.items s.newest (record { content = c; outside = outside; older = older }) → Ends c outside older
     completed_by (then_c q) outside older found =
         let r = found.here.parts in
@@ -288,13 +306,7 @@ module _ (code : PeCode) (w : Code) (sel : IsSelected code w) (help : Helpers) (
         (met_then code w sel help e0 s older outside q (with_value First (entry_word k) e0) r.0 r.1 r.2 r.3 r.4.entry.stands
         ((sound_of r.0 (record { insn = insn.Seq r.2 q.address; depth = r.1; place = r.3 }) r.4.entry.stands).beside_it 1 0 (omega arith))
         r.4.deep r.4.frame (met_of (then_c q) outside k older found) (kept_of k)))
-    completed_by (body_c loop) outside older found =
-        let r = found.here.parts in
-        let k = entry_number code loop.address + 2 in
-        let mv = completion_meets (body_c loop) (cut code w sel help e0 s older outside) in
-        wide mv 87 (omega arith)
-        (met_at mv older k (label_of code loop.address + 2) 60 found.spot found.within r.4.entry.entry (sel.entries loop.address (record { insn = insn.While r.1 r.2; depth = r.0; place = r.3 }) 2 r.4.entry.stands (omega arith))
-        (met_again code w sel help e0 s older outside (body_c loop) loop (insn.While r.1 r.2) 2 (with_value First (entry_word k) e0) r.0 r.3 r.4.entry.stands (omega arith) refl r.4.deep r.4.frame (met_of (body_c loop) outside k older found) (kept_of k)))
+    completed_by (body_c loop) outside older found = again_by loop outside older found found.here.parts
     completed_by (loop_c loop) outside older found =
         let r = found.here.parts in
         let k = entry_number code loop.address + 1 in
@@ -321,8 +333,8 @@ module _ (code : PeCode) (w : Code) (sel : IsSelected code w) (help : Helpers) (
     item_runs here i stands deep f =
         let sound = sound_of here.address i stands in
         let bounds = deepest_bounds code.items here.address i stands in
-        wider w (Q code w sel help e0 (item.executed code i.insn i.depth i.place here s)) (300 + (109 + 16 * deepest code.items)) (step_cost (deepest code.items)) (record { rest = block w (label_of code here.address); held = e0 }) (omega arith)
-        (runs code w sel help s e0 h here i.depth i.place f deep sound.depth (109 + 16 * deepest code.items) (omega arith) i.insn stands sound
+        wider w (Q code w sel help e0 (item.executed code i.insn i.depth i.place here s)) (300 + (600 + 16 * deepest code.items)) (step_cost (deepest code.items)) (record { rest = block w (label_of code here.address); held = e0 }) (omega arith)
+        (runs code w sel help s e0 h here i.depth i.place f deep sound.depth (600 + 16 * deepest code.items) (omega arith) i.insn stands sound
         (all_found (λ j. ForSome (value_of j.insn) IsDatum) code.items here.address i ok.values stands)
         (all_found (λ j. ForSome (straight_of j.insn) AreInRange) code.items here.address i ok.straight stands)
         (λ y body. let same = frame_is_deep i y body in omega arith))

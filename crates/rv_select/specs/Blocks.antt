@@ -15,10 +15,11 @@ use Rattle.rv_insn.specs.declared.instructions.BranchOp.TheVariants.{Beq, Bne, B
 use Rattle.rv_insn.specs.Program.{stack_start}
 use Rattle.pe_code.specs.declared.code.PeInsn.{PeInsn}
 use Rattle.pe_code.specs.declared.code.PeInsn.TheVariants as insn
+use Rattle.pe_code.specs.declared.code.Purpose.{Purpose}
+use Rattle.pe_code.specs.declared.code.Purpose.TheVariants as purpose
 use Rattle.pe_code.specs.declared.code.PeCode.{PeCode}
 use Rattle.pe_code.specs.declared.code.StraightPart.{StraightPart}
 use Rattle.pe_frame.specs.Frames.{frame_words, words_of_context}
-use Rattle.rv_word.specs.declared.micros.Register.{Register}
 use Rattle.rv_word.specs.declared.micros.Register.TheVariants.{Zero, Frame, Context, Top, Datum, First, Second, Third}
 use Rattle.rv_word.specs.declared.micros.Micro.{Micro}
 use Rattle.rv_word.specs.declared.micros.Micro.TheVariants.{Set, Imm, Shift, Alu, Window, Get, Save, Look, Room, Test, Jump, Enter, Put, Take, End, Fault}
@@ -26,7 +27,7 @@ use Rattle.rv_runtime.specs.Routines.{exhausted, put_true, put_false, put_int, m
 use Rattle.rv_operators.specs.Operators.{word_of, unary_label, binary_label}
 pub use Rattle.rv_straight.specs.Straight.{move, behind}
 use Rattle.rv_straight.specs.Straight.{reach_in, straight_code, fault_blocks}
-use Rattle.rv_select.specs.Numbers.{meet, first_operator, leave_label, pop_label, count_label, no_count_label, fill_label, filled_label, outside_label, no_room_label, pop_entry, put_int_entry, put_char_entry, put_bool_entry, end_entry, element_entry, label_of, entry_number, entry_word, column_word, datum_column, cell_column, escape_column, sequence_column, column_of, row_address}
+use Rattle.rv_select.specs.Numbers.{meet, first_operator, faults_from, leave_label, pop_label, count_label, no_count_label, fill_label, filled_label, outside_label, no_room_label, pop_entry, put_int_entry, put_char_entry, put_bool_entry, end_entry, element_entry, label_of, entry_number, entry_word, column_word, datum_column, cell_column, escape_column, sequence_column, column_of, row_address}
 
 -- ---- shared parts
 
@@ -79,6 +80,12 @@ put_entry kind.Int = put_int_entry
 put_entry kind.Char = put_char_entry
 put_entry kind.Bool = put_bool_entry
 
+-- the datum in Datum is put
+abbrev pub put_block : PutKind → List Micro
+put_block kind.Int = Jump put_int ∷ []
+put_block kind.Char = Put Datum ∷ Jump meet ∷ []
+put_block kind.Bool = Test Bne Datum Zero put_true ∷ Jump put_false ∷ []
+
 -- straight code, whose faults are at labels from one on, puts its datum in focus, or a variable's own cell takes it
 abbrev pub eval_block : ℕ → List StraightPart → List Micro
 eval_block faults ss = straight_code ss 0 faults ++ (Jump meet ∷ [])
@@ -102,6 +109,13 @@ module _ (code : PeCode) (a d : ℕ) where
   -- a frame for its body
   abbrev pub bind_body : ℕ → List Micro
   bind_body y = bind d (label_of code y) (entry_number code y)
+
+  -- what comes behind straight code for a purpose: a choice, a loop's turn under the context of its body, an acceptor under that of its datum
+  abbrev pub purpose_block : Purpose → List Micro
+  purpose_block (purpose.Choose x y) = Test Beq Datum Zero (label_of code y) ∷ to_item x ∷ []
+  purpose_block (purpose.Repeat x) = Test Beq Datum Zero meet ∷ push_frame (own_entry 1) (label_of code x)
+  purpose_block (purpose.Store x) = at_top ++ (Save Top 1 Context ∷ Save Top 2 Datum ∷ open_context (label_of code x))
+  purpose_block (purpose.Write kind) = put_block kind
 
   -- its own block
   abbrev pub main_block : PeInsn → List Micro
@@ -147,6 +161,7 @@ module _ (code : PeCode) (a d : ℕ) where
       at_top ++ (Take First ∷ Save Top 1 Context ∷ Save Top 2 First ∷ open_context (label_of code x))
   main_block (insn.Eval ss) = eval_block (block_label 1) ss
   main_block (insn.Set k ss) = set_block (block_label 1) k ss
+  main_block (insn.EvalFor ss u) = straight_code ss 0 (block_label (faults_from u)) ++ purpose_block u
 
   -- ---- the blocks of its contexts
 
@@ -216,6 +231,8 @@ module _ (code : PeCode) (a d : ℕ) where
   blocks_of (insn.Cells x y) = main_block (insn.Cells x y) ∷ bind_body y ∷ (Fault fault.Range a ∷ []) ∷ []
   blocks_of (insn.Eval ss) = main_block (insn.Eval ss) ∷ fault_blocks ss
   blocks_of (insn.Set k ss) = main_block (insn.Set k ss) ∷ fault_blocks ss
+  blocks_of (insn.EvalFor ss (purpose.Repeat x)) = main_block (insn.EvalFor ss (purpose.Repeat x)) ∷ again_block ∷ fault_blocks ss
+  blocks_of (insn.EvalFor ss u) = main_block (insn.EvalFor ss u) ∷ fault_blocks ss
   blocks_of i = main_block i ∷ []
 
   abbrev pub unary_entries : UnOp → List ℕ
@@ -242,6 +259,7 @@ module _ (code : PeCode) (a d : ℕ) where
   entries_of (insn.Assign x y) = block_label 0 ∷ block_label 1 ∷ []
   entries_of (insn.While x y) = block_label 0 ∷ block_label 1 ∷ block_label 2 ∷ []
   entries_of (insn.Loop x) = block_label 0 ∷ block_label 1 ∷ []
+  entries_of (insn.EvalFor ss (purpose.Repeat x)) = block_label 0 ∷ block_label 1 ∷ []
   entries_of (insn.New x y) = block_label 0 ∷ block_label 1 ∷ []
   entries_of (insn.Cells x y) = block_label 0 ∷ count_label ∷ block_label 1 ∷ pop_label ∷ block_label 2 ∷ []
   entries_of i = block_label 0 ∷ []
@@ -341,7 +359,7 @@ own_blocks code =
     ∷ write_block
     ∷ (Window Frame 3 ∷ Get Context Frame 2 ∷ Jump pop_label ∷ [])
     ∷ (answer ++ (Jump meet ∷ []))
-    ∷ (answer ++ (Jump put_int ∷ []))
-    ∷ (answer ++ (Put Datum ∷ Jump meet ∷ []))
-    ∷ (answer ++ (Test Bne Datum Zero put_true ∷ Jump put_false ∷ []))
+    ∷ (answer ++ put_block kind.Int)
+    ∷ (answer ++ put_block kind.Char)
+    ∷ (answer ++ put_block kind.Bool)
     ∷ sequence_blocks code

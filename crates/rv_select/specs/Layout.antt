@@ -7,6 +7,8 @@ use Rattle.fy_base.specs.declared.data.Datum.TheVariants.{Int}
 use Rattle.fy_phrase.specs.Contexts.{op_1, op_l, op_r, if_c, case_c, arg_c, pick_c, then_c, assign_c, store_c, while_c, body_c, loop_c, new_c, drop_c, put_c, esc_c, cells_c, fill_c, element_c}
 use Rattle.pe_code.specs.declared.code.PeInsn.{PeInsn}
 use Rattle.pe_code.specs.declared.code.PeInsn.TheVariants as insn
+use Rattle.pe_code.specs.declared.code.Purpose.TheVariants as purpose
+use Rattle.pe_code.specs.declared.code.StraightPart.{StraightPart}
 use Rattle.pe_code.specs.declared.code.PeCode.{PeCode}
 use Rattle.pe_code.specs.Code.{item_at}
 use Rattle.pe_code.specs.Valid.{LeadsTo, IsThunkNode}
@@ -134,7 +136,9 @@ HasParts code depths (assign_c p) w0 w2 w3 = (a depth y : ℕ) × (at : Place) �
 HasParts code depths (store_c v) w0 w2 w3 = (w2 ≡ word_of v) × IsDatum v
 HasParts code depths (while_c loop c) w0 w2 w3 =
     (depth x : ℕ) × (at : Place) × IsHeldBy code depths loop.address depth (insn.While x c.address) at loop.frame 1 w0 w2 × (c.frame ≡ loop.frame)
-HasParts code depths (body_c loop) w0 w2 w3 = (depth x y : ℕ) × (at : Place) × IsHeldBy code depths loop.address depth (insn.While x y) at loop.frame 2 w0 w2
+HasParts code depths (body_c loop) w0 w2 w3 =
+    ((depth x y : ℕ) × (at : Place) × IsHeldBy code depths loop.address depth (insn.While x y) at loop.frame 2 w0 w2)
+    ⊎ ((depth x : ℕ) × (ss : List StraightPart) × (at : Place) × IsHeldBy code depths loop.address depth (insn.EvalFor ss (purpose.Repeat x)) at loop.frame 1 w0 w2)
 HasParts code depths (loop_c loop) w0 w2 w3 = (depth x : ℕ) × (at : Place) × IsHeldBy code depths loop.address depth (insn.Loop x) at loop.frame 1 w0 w2
 HasParts code depths (new_c d body) w0 w2 w3 = (a x : ℕ) × (at : Place) × IsHeldBy code depths a d (insn.New x body.address) at body.frame 1 w0 w2
 HasParts code depths (drop_c n) w0 w2 w3 = (w0 ≡ entry_word pop_entry) ⊎ ((at : Place) × DropsCells code at w0)

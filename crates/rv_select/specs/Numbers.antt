@@ -6,6 +6,8 @@ use Rattle.fy_base.specs.declared.data.BinOp.{BinOp}
 use Rattle.fy_base.specs.declared.data.BinOp.TheVariants.{Add, Sub, Mul, Div, Rem, And, Or}
 use Rattle.pe_code.specs.declared.code.PeInsn.{PeInsn}
 use Rattle.pe_code.specs.declared.code.PeInsn.TheVariants as insn
+use Rattle.pe_code.specs.declared.code.Purpose.{Purpose}
+use Rattle.pe_code.specs.declared.code.Purpose.TheVariants as purpose
 use Rattle.pe_code.specs.declared.code.PeItem.{PeItem}
 use Rattle.pe_code.specs.declared.code.PeCode.{PeCode}
 use Rattle.rv_word.specs.Word.{table_address}
@@ -196,7 +198,18 @@ block_count (insn.New x y) = 2
 block_count (insn.Cells x y) = 3
 block_count (insn.Eval ss) = suc (length (fault_blocks ss))
 block_count (insn.Set k ss) = suc (length (fault_blocks ss))
+block_count (insn.EvalFor ss (purpose.Repeat x)) = suc (suc (length (fault_blocks ss)))
+block_count (insn.EvalFor ss u) = suc (length (fault_blocks ss))
 block_count _ = 1
+
+-- the number of the first block of straight code's faults
+abbrev pub faults_from : Purpose → ℕ
+faults_from (purpose.Repeat x) = 2
+faults_from _ = 1
+
+abbrev pub first_fault : PeInsn → ℕ
+first_fault (insn.EvalFor ss u) = faults_from u
+first_fault _ = 1
 
 -- its own entry first, then those of its contexts, each operator's followed by those of its faults; of a case then those of its parts.
 -- Of a sequence of cells: of its number's context, of that while its cells are made, of that which drops them, and of its fault
@@ -211,6 +224,7 @@ entry_count (insn.While x y) = 3
 entry_count (insn.Loop x) = 2
 entry_count (insn.New x y) = 2
 entry_count (insn.Cells x y) = 5
+entry_count (insn.EvalFor ss (purpose.Repeat x)) = 2
 entry_count _ = 1
 
 abbrev pub blocks_in : List PeItem → ℕ

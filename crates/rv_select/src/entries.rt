@@ -15,7 +15,7 @@ use crate::fixed::{
 use crate::numbers::Numbers;
 use crate::sites::Site;
 use fy_base::{BinOp, OutOfMemory, UnOp};
-use pe_code::PeInsn;
+use pe_code::{PeInsn, Purpose};
 use rv_operators::{label_of_binary, label_of_unary};
 use std::alloc::Global;
 
@@ -76,7 +76,8 @@ fn add_entries(labels: &mut Vec<u32>, site: &Site<'_, '_>, insn: &PeInsn) -> Res
         | PeInsn::Seq(_, _)
         | PeInsn::Assign(_, _)
         | PeInsn::Loop(_)
-        | PeInsn::New(_, _) => add_one(labels, site.label(1)),
+        | PeInsn::New(_, _)
+        | PeInsn::EvalFor(_, Purpose::Repeat(_)) => add_one(labels, site.label(1)),
         _ => Ok(()),
     }
 }

@@ -9,7 +9,7 @@ use crate::fixed::{CELL_COLUMN, POP_ENTRY, POP_LABEL};
 use crate::parts::{add_answer_frame, add_bind, add_open_frame, add_renew, word_of_entry};
 use crate::sites::Site;
 use fy_base::{BinOp, FaultKind, OutOfMemory, UnOp};
-use pe_code::PeInsn;
+use pe_code::{PeInsn, Purpose};
 use pe_frame::plan_frame;
 use rv_insn::{BranchOp, RegOp, ShiftOp};
 use rv_runtime::{EXHAUSTED, MEET};
@@ -54,6 +54,11 @@ pub fn add_further(
         },
         PeInsn::Eval(parts) => add_fault_block(block, parts.as_slice(), number - 1),
         PeInsn::Set(_, parts) => add_fault_block(block, parts.as_slice(), number - 1),
+        PeInsn::EvalFor(parts, Purpose::Repeat(_)) => match number {
+            1 => add_again(block, site),
+            _ => add_fault_block(block, parts.as_slice(), number - 2),
+        },
+        PeInsn::EvalFor(parts, _) => add_fault_block(block, parts.as_slice(), number - 1),
         _ => unreachable!(),
     }
 }

@@ -2,27 +2,30 @@
 
 ghost use Rattle.std.specs.Prelude.{◌≡◌, ℕ, ◌+◌, ◌<◌, ◌≤◌, [], ◌∷◌, ◌++◌, length, All, OnOk};
 ghost use Rattle.std.specs.Option.{ForSome};
+ghost use Rattle.pe_code.specs.declared.code.Purpose.{Purpose};
 ghost use Rattle.pe_code.specs.Code.{shape_of, straight_of, variable_of};
 ghost use Rattle.rv_straight.specs.Laws.{IsNear};
-ghost use Rattle.rv_select.specs.Numbers.{label_of};
-ghost use Rattle.rv_select.specs.Blocks.{eval_block, main_block, open_argument, put_entry, set_block};
+ghost use Rattle.rv_straight.specs.Straight.{straight_code};
+ghost use Rattle.rv_select.specs.Numbers.{faults_from, label_of};
+ghost use Rattle.rv_select.specs.Blocks.{eval_block, main_block, open_argument, purpose_block, put_block, put_entry, set_block};
 ghost use Rattle.rv_select.specs.Emission.{Adds, IsSmallStraight};
 
 use crate::fixed::{
     DATUM_COLUMN, ESCAPE_COLUMN, POP_ENTRY, PUT_BOOL_ENTRY, PUT_CHAR_ENTRY, PUT_INT_ENTRY,
 };
+use crate::numbers::faults_from;
 use crate::parts::{
     add_at_top, add_bind, add_open_context, add_open_frame, add_push, add_push_frame, word_of_entry,
 };
 use crate::sites::Site;
 use fy_base::{Datum as Value, OutOfMemory, PutKind};
-use pe_code::{PeInsn, StraightPart};
+use pe_code::{PeInsn, Purpose, StraightPart};
 use pe_frame::plan_frame;
-use rv_insn::RegOp;
-use rv_runtime::{EXHAUSTED, MEET};
+use rv_insn::{BranchOp, RegOp};
+use rv_runtime::{EXHAUSTED, MEET, PUT_FALSE, PUT_INT, PUT_TRUE};
 use rv_straight::{add_reach, add_straight, copy, word_of, words_behind};
 use rv_word::Micro;
-use rv_word::Register::{Context, Datum, First, Frame, Second, Third, Top};
+use rv_word::Register::{Context, Datum, First, Frame, Second, Third, Top, Zero};
 
 /// A variable that is entered at a shape.
 pub fn add_use(
@@ -305,6 +308,79 @@ pub fn add_set(
     Ok(())
 }
 
+/// Straight code, and what its datum is for.
+pub fn add_eval_for(
+    block: &mut Vec<Micro>,
+    site: &Site<'_, '_>,
+    parts: &[StraightPart],
+    purpose: Purpose,
+) -> Result<(), OutOfMemory>
+    requires short { length parts.now ≤ 16 }
+    requires near { All IsNear parts.now }
+    ensures { OnOk result (Adds site.now (λ code a d. straight_code parts.now 0 (label_of code a + faults_from purpose) ++ purpose_block code a d purpose) block.old.items block.new.items) }
+{
+    add_straight(block, parts, site.label(faults_from(purpose)))?;
+    add_purpose(block, site, purpose)
+}
+
+fn add_purpose(
+    block: &mut Vec<Micro>,
+    site: &Site<'_, '_>,
+    purpose: Purpose,
+) -> Result<(), OutOfMemory>
+    ensures { OnOk result (Adds site.now (λ code a d. purpose_block code a d purpose) block.old.items block.new.items) }
+{
+    match purpose {
+        Purpose::Choose(x, y) => add_choice(block, site, x, y),
+        Purpose::Repeat(x) => {
+            block.push(Micro::Test(BranchOp::Beq, Datum, Zero, MEET))?;
+            add_push_frame(block, site.entry(1), site.start(x).label)
+        }
+        Purpose::Store(x) => add_store(block, site, x),
+        Purpose::Write(kind) => add_put(block, kind),
+    }
+}
+
+// Two branches.
+fn add_choice(
+    block: &mut Vec<Micro>,
+    site: &Site<'_, '_>,
+    yes: u32,
+    no: u32,
+) -> Result<(), OutOfMemory>
+    ensures { OnOk result (Adds site.now (λ code a d. purpose_block code a d (Purpose.Choose yes no)) block.old.items block.new.items) }
+{
+    block.extend_from_slice(&[
+        Micro::Test(BranchOp::Beq, Datum, Zero, site.start(no).label),
+        Micro::Jump(site.start(yes).label),
+    ])?;
+    Ok(())
+}
+
+// An acceptor, under the context of the datum.
+fn add_store(block: &mut Vec<Micro>, site: &Site<'_, '_>, target: u32) -> Result<(), OutOfMemory>
+    ensures { OnOk result (Adds site.now (λ code a d. purpose_block code a d (Purpose.Store target)) block.old.items block.new.items) }
+{
+    add_at_top(block)?;
+    block.extend_from_slice(&[Micro::Save(Top, 1, Context), Micro::Save(Top, 2, Datum)])?;
+    add_open_context(block, site.start(target).label)
+}
+
+// The datum is put.
+fn add_put(block: &mut Vec<Micro>, kind: PutKind) -> Result<(), OutOfMemory>
+    ensures { OnOk result (block.new.items ≡ block.old.items ++ put_block kind) }
+{
+    match kind {
+        PutKind::Int => block.push(Micro::Jump(PUT_INT))?,
+        PutKind::Char => block.extend_from_slice(&[Micro::Put(Datum), Micro::Jump(MEET)])?,
+        PutKind::Bool => block.extend_from_slice(&[
+            Micro::Test(BranchOp::Bne, Datum, Zero, PUT_TRUE),
+            Micro::Jump(PUT_FALSE),
+        ])?,
+    }
+    Ok(())
+}
+
 /// The own block of an instruction.
 pub fn add_main(
     block: &mut Vec<Micro>,
@@ -345,6 +421,7 @@ pub fn add_main(
         PeInsn::Read(x) => add_read(block, site, *x),
         PeInsn::Eval(parts) => add_eval(block, site, parts.as_slice()),
         PeInsn::Set(variable, parts) => add_set(block, site, *variable, parts.as_slice()),
+        PeInsn::EvalFor(parts, purpose) => add_eval_for(block, site, parts.as_slice(), *purpose),
     }
 }
 

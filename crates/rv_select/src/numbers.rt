@@ -5,13 +5,13 @@ ghost use Rattle.std.specs.Option.{ForSome};
 ghost use Rattle.fy_base.specs.declared.data.BinOp.{BinOp};
 ghost use Rattle.pe_code.specs.Code.{picked_from, straight_of};
 ghost use Rattle.pe_code.specs.Valid.{all_parts_run, all_picked_from, all_places_in, IsValid};
-ghost use Rattle.rv_select.specs.Numbers.{binary_faults, block_count, column_of, column_word, entry_count, place_in, row_address, unary_faults};
+ghost use Rattle.rv_select.specs.Numbers.{binary_faults, block_count, column_of, column_word, entry_count, faults_from as first_of_faults, place_in, row_address, unary_faults};
 ghost use Rattle.rv_select.specs.Numbering.{AreColumns, AreStarts, IsStart};
 
 use crate::fixed::{FIRST_ITEM, FIRST_ITEM_ENTRY, FIXED_COLUMNS};
 use fy_base::{BinOp, OutOfMemory, UnOp};
 use indexmap::IndexMap;
-use pe_code::{PeCode, PeInsn, PeItem};
+use pe_code::{PeCode, PeInsn, PeItem, Purpose};
 use rv_straight::fault_count;
 use std::alloc::Global;
 use std::marker::Model;
@@ -151,11 +151,13 @@ fn columns_of(alloc: Global, nodes: &[u32]) -> Result<IndexMap<u32, usize>, OutO
 pub fn block_count(insn: &PeInsn) -> u32
     requires { ForSome (straight_of insn.now) (λ ss. length ss ≤ 16) }
     ensures is { result ≡ block_count insn.now }
-    ensures few { result ≤ 33 }
+    ensures few { result ≤ 34 }
 {
     match insn {
         PeInsn::Eval(parts) => 1 + fault_count(parts.as_slice()),
         PeInsn::Set(_, parts) => 1 + fault_count(parts.as_slice()),
+        PeInsn::EvalFor(parts, Purpose::Repeat(_)) => 2 + fault_count(parts.as_slice()),
+        PeInsn::EvalFor(parts, _) => 1 + fault_count(parts.as_slice()),
         PeInsn::Op1(op, _) => 1 + unary_faults(*op),
         PeInsn::Op2(op, ..) => 2 + binary_faults(*op),
         PeInsn::Case(..) | PeInsn::While(..) | PeInsn::Cells(..) => 3,
@@ -185,7 +187,20 @@ pub fn entry_count(insn: &PeInsn) -> u32
         | PeInsn::Seq(..)
         | PeInsn::Assign(..)
         | PeInsn::Loop(_)
-        | PeInsn::New(..) => 2,
+        | PeInsn::New(..)
+        | PeInsn::EvalFor(_, Purpose::Repeat(_)) => 2,
+        _ => 1,
+    }
+}
+
+/// The number of the first block of straight code's faults: behind its own, and that of a loop's
+/// context.
+pub fn faults_from(purpose: Purpose) -> u32
+    ensures is { result ≡ first_of_faults purpose }
+    ensures few { result ≤ 2 }
+{
+    match purpose {
+        Purpose::Repeat(_) => 2,
         _ => 1,
     }
 }
