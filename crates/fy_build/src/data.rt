@@ -42,6 +42,7 @@ fn read_straight(insn: &PeInsn)
     match insn {
         PeInsn::Eval(parts) => read_parts(parts.as_slice()),
         PeInsn::Set(_, parts) => read_parts(parts.as_slice()),
+        PeInsn::EvalFor(parts, _) => read_parts(parts.as_slice()),
         _ => {}
     }
 }
