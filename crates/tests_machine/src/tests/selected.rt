@@ -4,7 +4,7 @@ use fy_base::{
 };
 use fy_image::Image;
 use pe_code::{
-    EntryList, NodeList, PeCode, PeInsn, PeItem, PeItemList, SequenceShapes, StraightList,
+    EntryList, NodeList, PeCode, PeInsn, PeItem, PeItemList, Purpose, SequenceShapes, StraightList,
     StraightPart, is_valid,
 };
 use pe_machine::run_pe;
@@ -265,5 +265,137 @@ fn faults_of_assignments_agree(rt: HostRuntime) -> Result<(), Fail> {
     };
     assert_eq!(rt; end, due);
     assert!(rt; agree(alloc, &code)?);
+    Ok(())
+}
+
+// Appends an item with straight code for a purpose, under two variables.
+fn add_for(
+    alloc: Global,
+    items: &mut PeItemList,
+    parts: &[StraightPart],
+    purpose: Purpose,
+) -> Result<(), OutOfMemory> {
+    let insn = PeInsn::EvalFor(straight(alloc, parts)?, purpose);
+    add(items, insn, 2, PLACE)
+}
+
+// The code of `new a := 10 in new b := 20 in while t do ((if u then putint a else put v); a := e)`, all of it straight, where
+// the acceptor is entered, and item 11 has the place of the operators.
+fn loop_code(
+    alloc: Global,
+    test: &[StraightPart],
+    choice: &[StraightPart],
+    other: (PutKind, Datum),
+    next: &[StraightPart],
+) -> Result<PeCode, OutOfMemory> {
+    let (kind, value) = other;
+    let mut items = PeItemList::new(alloc);
+    add(&mut items, PeInsn::New(1, 2), 0, PLACE)?;
+    add(&mut items, PeInsn::Answer(Datum::Int(10)), 0, PLACE)?;
+    add(&mut items, PeInsn::New(3, 4), 1, PLACE)?;
+    add(&mut items, PeInsn::Answer(Datum::Int(20)), 1, PLACE)?;
+    add_for(alloc, &mut items, test, Purpose::Repeat(5))?;
+    add(&mut items, PeInsn::Seq(6, 9), 2, PLACE)?;
+    add_for(alloc, &mut items, choice, Purpose::Choose(7, 8))?;
+    add_for(alloc, &mut items, &[A], Purpose::Write(PutKind::Int))?;
+    let shown = [StraightPart::Literal(value)];
+    add_for(alloc, &mut items, &shown, Purpose::Write(kind))?;
+    add_for(alloc, &mut items, next, Purpose::Store(10))?;
+    add(&mut items, PeInsn::UseVar(1, 0), 2, PLACE)?;
+    for _ in 0..32 {
+        add(&mut items, PeInsn::Done, 2, OPERATOR)?;
+    }
+    Ok(PeCode {
+        items,
+        entries: EntryList::new(alloc),
+        shapes: 1,
+        assignment: Some(0),
+        sequences: SequenceShapes {
+            value: None,
+            element: None,
+            assigned_element: None,
+            row_length: None,
+        },
+        thunks: NodeList::new(alloc),
+    })
+}
+
+// What is put in the turns that don't put `a`, the operators of the test, the choice and the next `a`, how the run ends, and
+// all that it puts.
+const LOOPS: &[(PutKind, Datum, BinOp, BinOp, BinOp, Option<FaultKind>, &str)] = &[
+    (
+        PutKind::Char,
+        Datum::Char(b'.'),
+        BinOp::Gt,
+        BinOp::Eq,
+        BinOp::Sub,
+        None,
+        "...7....",
+    ),
+    (
+        PutKind::Bool,
+        Datum::Bool(false),
+        BinOp::Gt,
+        BinOp::Gt,
+        BinOp::Sub,
+        None,
+        "1098falsefalsefalsefalsefalse",
+    ),
+    (
+        PutKind::Bool,
+        Datum::Bool(true),
+        BinOp::Ge,
+        BinOp::Eq,
+        BinOp::Div,
+        None,
+        "truetrue",
+    ),
+    (
+        PutKind::Int,
+        Datum::Int(-5),
+        BinOp::Le,
+        BinOp::Eq,
+        BinOp::Sub,
+        None,
+        "",
+    ),
+    (
+        PutKind::Int,
+        Datum::Int(i64::MIN),
+        BinOp::Ne,
+        BinOp::Ge,
+        BinOp::Mul,
+        Some(FaultKind::Overflow),
+        "10",
+    ),
+];
+
+#[test]
+fn purposes_agree(rt: HostRuntime) -> Result<(), Fail> {
+    let alloc = rt.alloc();
+    for (kind, value, test, choice, next, fault, text) in LOOPS {
+        let step = match fault {
+            Some(_) => i64::MAX,
+            None => 1 + (*next == BinOp::Div) as i64 * 4,
+        };
+        let code = loop_code(
+            alloc,
+            &[A, literal(2), StraightPart::Binary(*test, 11)],
+            &[A, literal(7), StraightPart::Binary(*choice, 11)],
+            (*kind, *value),
+            &[A, literal(step), StraightPart::Binary(*next, 11)],
+        )?;
+        let (end, output) = ran_as_image(alloc, &code)?;
+        let due = match fault {
+            Some(kind) => Ending::Fault {
+                kind: *kind,
+                place: OPERATOR,
+            },
+            None => Ending::Ended,
+        };
+        assert_eq!(rt; end, due, "{text}");
+        assert_eq!(rt; output.bytes(), text.as_bytes());
+        assert!(rt; agree(alloc, &code)?, "{text}");
+    }
     Ok(())
 }
