@@ -11,8 +11,8 @@ use std::alloc::Global;
 use std::process::Abort;
 use std::test::Fail;
 
-// A circle of 36 words with each known pattern of words once.
-const CIRCLE: [u32; 36] = [
+// A circle of 47 words with each known pattern of words once.
+const CIRCLE: [u32; 47] = [
     // addi x5, x2, 16
     0x0101_0293,
     // addi x6, x4, 0
@@ -37,7 +37,7 @@ const CIRCLE: [u32; 36] = [
     0x000f_9063,
     // sd x5, 0(x5)
     0x0052_b023,
-    // 8 bytes from x9 on lie in the stack, by a near check
+    // 8 bytes from x9 on lie in the stack, by a near check, and the store there
     0x0024_e063,
     0xff81_8f93,
     0x009f_e063,
@@ -45,6 +45,20 @@ const CIRCLE: [u32; 36] = [
     0x000f_9063,
     // sd x9, 0(x9)
     0x0094_b023,
+    // 16 bytes from x5 on do, by a near check, and the load there
+    0x0022_e063,
+    0xff01_8f93,
+    0x005f_e063,
+    0x0072_ff93,
+    0x000f_9063,
+    // ld x5, 0(x5)
+    0x0002_b283,
+    // 24 bytes do
+    0x0022_e063,
+    0xfe81_8f93,
+    0x005f_e063,
+    0x0072_ff93,
+    0x000f_9063,
     // x6 is the address of a table word
     0x0043_6063,
     0x2000_0fb7,
@@ -76,18 +90,21 @@ const STAYS: &[([u32; 4], u64)] = &[
     ([0x0101_0293, 0x0002_0313, 0x0000_0413, 0x0100_0493], 16),
     ([0x0101_0293, 0x0002_0313, 0x0000_0413, 0xffc1_8493], 18),
     ([0x0101_0293, 0x0002_0313, 0x0000_0413, 0x0141_0493], 20),
+    // addi x5, x3, -8; addi x5, x3, -16
+    ([0xff81_8293, 0x0002_0313, 0x0000_0413, 0x0101_0493], 24),
+    ([0xff01_8293, 0x0002_0313, 0x0000_0413, 0x0101_0493], 30),
     // addi x6, x0, 0; addi x6, x4, 16; addi x6, x4, 4
-    ([0x0101_0293, 0x0000_0313, 0x0000_0413, 0x0101_0493], 22),
-    ([0x0101_0293, 0x0102_0313, 0x0000_0413, 0x0101_0493], 25),
-    ([0x0101_0293, 0x0042_0313, 0x0000_0413, 0x0101_0493], 27),
+    ([0x0101_0293, 0x0000_0313, 0x0000_0413, 0x0101_0493], 33),
+    ([0x0101_0293, 0x0102_0313, 0x0000_0413, 0x0101_0493], 36),
+    ([0x0101_0293, 0x0042_0313, 0x0000_0413, 0x0101_0493], 38),
     // addi x8, x0, 8
-    ([0x0101_0293, 0x0002_0313, 0x0080_0413, 0x0101_0493], 32),
+    ([0x0101_0293, 0x0002_0313, 0x0080_0413, 0x0101_0493], 43),
 ];
 
 // A machine with these words, and two words of table.
 fn machine(alloc: Global, words: &[u32]) -> Result<Machine, OutOfMemory>
     requires some { 1 ≤ length words.now }
-    requires few { length words.now ≤ 36 }
+    requires few { length words.now ≤ 47 }
     ensures { IfOk result (λ m. m.core.status ≡ Running) }
 {
     let mut table = DoubleList::new(alloc);
@@ -129,12 +146,12 @@ fn goes_on(rt: &impl Abort, alloc: Global, m: &mut Machine, count: u64) -> Resul
 #[test]
 fn patterns_end_where_they_are_cut(rt: HostRuntime) -> Result<(), Fail> {
     for count in 0..80 {
-        for first in 0..36 {
+        for first in 0..47 {
             let mut m = machine(rt.alloc(), &CIRCLE)?;
             goes_on(&rt, rt.alloc(), &mut m, first)?;
             assert!(rt; m.pc() == 65536 + 4 * first);
             goes_on(&rt, rt.alloc(), &mut m, count)?;
-            assert!(rt; m.pc() == 65536 + 4 * ((first + count) % 36));
+            assert!(rt; m.pc() == 65536 + 4 * ((first + count) % 47));
         }
         for (firsts, last) in STAYS {
             let mut words = CIRCLE;
@@ -145,7 +162,7 @@ fn patterns_end_where_they_are_cut(rt: HostRuntime) -> Result<(), Fail> {
             goes_on(&rt, rt.alloc(), &mut m, count)?;
             assert!(rt; m.pc() == 65536 + 4 * count.min(*last));
         }
-        for size in 1..36 {
+        for size in 1..47 {
             let mut m = machine(rt.alloc(), &CIRCLE[..size])?;
             let run = run(rt.alloc(), &mut m, count)?;
             let size = size as u64;
@@ -165,7 +182,7 @@ fn patterns_end_where_they_are_cut(rt: HostRuntime) -> Result<(), Fail> {
 // After each number of instructions a run is where as many single steps are.
 fn runs_as_steps(rt: &impl Abort, alloc: Global, words: &[u32]) -> Result<(), Fail>
     requires some { 1 ≤ length words.now }
-    requires few { length words.now ≤ 36 }
+    requires few { length words.now ≤ 47 }
 {
     let mut stepped = machine(alloc, words)?;
     for count in 0..80 {
@@ -188,13 +205,21 @@ fn runs_as_steps(rt: &impl Abort, alloc: Global, words: &[u32]) -> Result<(), Fa
     Ok(())
 }
 
-// Jumps into each word of each pattern.
+// Jumps into each word of each pattern, and then a store and a load behind a near check that trap.
 #[test]
 fn patterns_are_entered_at_each_word(rt: HostRuntime) -> Result<(), Fail> {
-    for words_on in 1..32 {
+    for words_on in 1..43 {
         let mut words = CIRCLE;
         words[4] = 0x6f + 0x0040_0000 * words_on;
         runs_as_steps(&rt, rt.alloc(), &words)?;
     }
+    // sd x9, -24(x9)
+    let mut words = CIRCLE;
+    words[21] = 0xfe94_b423;
+    runs_as_steps(&rt, rt.alloc(), &words)?;
+    // ld x5, -24(x5)
+    let mut words = CIRCLE;
+    words[27] = 0xfe82_b283;
+    runs_as_steps(&rt, rt.alloc(), &words)?;
     Ok(())
 }
