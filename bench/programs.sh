@@ -3,7 +3,7 @@
 #     bench/programs.sh [ROUNDS]
 # For each: the proved machine on its image (`exec`), the plain interpreter on the same image, `run`, `copy`, and the same written
 # in Python and in Algol 68 (Debian's algol68g; left out where it is missing). The least user time of each counts. The copied
-# file has a million bytes. FORSYTHE names another built program than bin/forsythe, and RUSTC another rustc.
+# file has a million bytes. Images have the stack that `run` gives by default. FORSYTHE names another built program than bin/forsythe, and RUSTC another rustc.
 set -eu
 here=$(cd "$(dirname "$0")" && pwd -P)
 rounds=${1:-5}
@@ -32,7 +32,7 @@ least() {
 
 for source in "$here"/programs/*.fy; do
     name=$(basename "$source" .fy)
-    "$program" build "$source" --image="$work/$name.img" --stack=16777216
+    "$program" build "$source" --image="$work/$name.img"
     for _ in $(seq "$rounds"); do
         timed "$name" plain "$work/plain" "$work/$name.img" --steps="$steps"
         timed "$name" proved "$program" exec "$work/$name.img" --steps="$steps"
