@@ -1,0 +1,9 @@
+pub mod Mnemonics
+pub mod Stubs
+pub mod Notes
+pub mod Code
+pub mod File
+pub mod Process
+pub mod Memory
+pub mod Runs
+pub mod Laws
