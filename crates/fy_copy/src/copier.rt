@@ -183,14 +183,14 @@ pub fn give(state: &mut CopyState, byte: Option<u8>)
 }
 
 /// Whether a state is at its end.
-pub(crate) fn is_over(state: &CopyState) -> bool
+pub fn is_over(state: &CopyState) -> bool
     ensures { standing_of (seen state.now).state ≡ (if result then ended else going) }
 {
     is_at_end(&state.core)
 }
 
 /// The load of a state.
-pub(crate) fn load_of(state: &CopyState) -> u64
+pub fn load_of(state: &CopyState) -> u64
     ensures { result ≡ (seen state.now).state.load }
 {
     state.core.load
