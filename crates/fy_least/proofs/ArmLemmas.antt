@@ -15,7 +15,7 @@ use Rattle.fy_phrase.specs.declared.phrase.Phrase.TheVariants.{rolls-Lit, rolls-
 use Rattle.fy_phrase.specs.Tree.{Tree, Trees, lit, skip, mark}
 use Rattle.fy_phrase.specs.Reads.{reads, reads_form, reads_list}
 use Rattle.fy_derive.specs.Least.{visits}
-use Rattle.fy_written.specs.declared.table.Table.{Table}
+use Rattle.fy_memo.specs.declared.table.Table.{Table}
 use Rattle.fy_least.specs.declared.bound.Bound.{Bound}
 use Rattle.fy_least.specs.declared.error.LeastError.{LeastError}
 use Rattle.fy_least.specs.declared.error.LeastError.TheVariants.{TypeTooLarge}

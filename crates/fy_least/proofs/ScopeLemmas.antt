@@ -10,7 +10,7 @@ use Rattle.fy_types.specs.Reading.{plain_paths}
 use Rattle.fy_derive.specs.Derivations.{by_ns, rule, no_derivations}
 use Rattle.fy_derive.specs.Least.{forms_of, paths_at}
 use Rattle.fy_least.specs.Forms.{variable_rule}
-use Rattle.fy_written.specs.declared.table.Table.{Table}
+use Rattle.fy_memo.specs.declared.table.Table.{Table}
 use Rattle.fy_least.specs.declared.bound.Bound.{Bound}
 use Rattle.fy_least.specs.declared.context.Context.{Context}
 use Rattle.fy_least.specs.declared.outer.Outer.{Outer}

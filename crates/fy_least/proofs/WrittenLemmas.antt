@@ -11,7 +11,7 @@ use Rattle.fy_types.specs.Bounds.{meet_of}
 use Rattle.fy_types.specs.Limits.{all_nodes, all_nesting, IsTooLarge}
 use Rattle.fy_types.proofs.Making.{all_paths-append, first_paths, first_paths-more}
 use Rattle.fy_types.proofs.TypeForms.{reads_arrow, reads_field}
-use Rattle.fy_written.proofs.EachLemmas.{same-itself}
+use Rattle.fy_memo.proofs.EachLemmas.{same-itself}
 use Rattle.fy_least.proofs.DistinctLemmas.{distinct-once, once-distinct}
 use Rattle.fy_least.proofs.CallLemmas.{meet-once, large-part, large-front}
 

@@ -5,8 +5,8 @@ ghost use Rattle.fy_types.specs.Once.{are_same, once as once_of};
 ghost use Rattle.fy_types.specs.Reading.{plain_paths};
 
 use fy_base::OutOfMemory;
+use fy_memo::Form;
 use fy_types::{Paths, copy_paths};
-use fy_written::Form;
 use std::alloc::Global;
 
 /// A path form, and each of its paths once, as each use of the variable has them.

@@ -25,10 +25,9 @@ use crate::found::{Found, to_type};
 use crate::least::found_in;
 use crate::scope::Scope;
 use fy_derive::Derivation;
-use fy_memo::Memo;
+use fy_memo::{Memo, Table};
 use fy_phrase::Phrase;
 use fy_types::{Atom, Ty, TyList, copy_ty, is_below, ty_of};
-use fy_written::Table;
 use std::alloc::Global;
 
 /// A derivation that the phrase is a command, with no variable in scope.

@@ -29,10 +29,9 @@ use crate::scope::{Scope, form_at};
 use fy_base::{OutOfMemory, Place};
 use fy_derive::{Demand, Derivation, DerivationList};
 use fy_forms::{field_form, meet_with};
-use fy_memo::Memo;
+use fy_memo::{Form, Memo};
 use fy_order::{are_paths_below, has, others, rests_of_field};
 use fy_types::{Atom, Name, Paths, Ty, copy_paths, copy_ty};
-use fy_written::Form;
 use std::alloc::Global;
 
 /// A variable.

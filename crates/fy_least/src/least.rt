@@ -28,11 +28,10 @@ use fy_base::{BinOp, OutOfMemory, Place, PutKind, UnOp};
 use fy_derive::{
     acceptor_atom, data_atom, datum_atom, demand_of, operand_atom, put_atom, unary_atom,
 };
-use fy_memo::Memo;
+use fy_memo::{Form, Memo};
 use fy_order::one_end;
 use fy_phrase::{DataTy, Parts, Phrase};
 use fy_types::{Atom, ElemList, Name, Path, Paths, Ty, TyList};
-use fy_written::Form;
 use std::alloc::Global;
 
 /// What is found of a phrase, where the variables have the paths of the scope.

@@ -10,8 +10,8 @@ ghost use Rattle.fy_least.specs.Outers.{has_once};
 use crate::error::LeastError;
 use crate::written::once_in;
 use fy_base::OutOfMemory;
+use fy_memo::Form;
 use fy_types::{Paths, Ty, copy_paths};
-use fy_written::Form;
 use std::alloc::Global;
 
 /// The type of a variable around the whole phrase, and its paths, each once, which each use of the

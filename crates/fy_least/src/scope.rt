@@ -12,8 +12,8 @@ use crate::bound::Bound;
 use crate::context::Context;
 use crate::error::LeastError;
 use fy_base::Place;
+use fy_memo::{Form, Table};
 use fy_types::{Paths, Ty};
-use fy_written::{Form, Table};
 use std::alloc::Global;
 
 /// The path forms of the types of the variables in scope, the innermost first.

@@ -17,7 +17,7 @@ use Rattle.fy_derive.specs.Least.{if_passed, rest_of_call, rests_of_call}
 use Rattle.fy_derive.specs.Subsumption.{path_below, some_below, paths_below, all_pass, some_passes}
 use Rattle.fy_order.specs.Demands.{takes_argument, takes}
 use Rattle.fy_order.proofs.DemandLemmas.{takes-call, takes-field, takes-at}
-use Rattle.fy_written.proofs.EachLemmas.{same-lists}
+use Rattle.fy_memo.proofs.EachLemmas.{same-lists}
 use Rattle.fy_memo.specs.Bases.{IsMadeOf, Sees, IsIn, IsParted, IsRest, IsSkipped, IsFound, first_of, is_same_flag, are_takers}
 
 -- Arguments that the same paths of a procedure take have the same rests.

@@ -2,7 +2,7 @@
 use Rattle.std.proofs.Common.{◌≡◌, true, sym, ap, ◌∙◌, subst}
 use Rattle.fy_types.specs.Once.{are_same}
 use Rattle.fy_types.specs.Paths.{PlainPaths}
-use Rattle.fy_written.proofs.EachLemmas.{same-itself, same-lists}
+use Rattle.fy_memo.proofs.EachLemmas.{same-itself, same-lists}
 
 pub right-made : (f : PlainPaths → PlainPaths → PlainPaths) (A B C P Q R : PlainPaths) → A ≡ P → B ≡ Q → C ≡ R → R ≡ f P Q →
     are_same C (f A B) ≡ true

@@ -4,5 +4,4 @@ mod lexer;
 mod made;
 mod show;
 mod syntax;
-mod told;
-mod why;
+mod units;

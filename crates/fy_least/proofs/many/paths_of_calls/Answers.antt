@@ -3,7 +3,7 @@ use Rattle.std.proofs.lemmas.Result.{err_from_is_err_and}
 use Rattle.fy_types.specs.Reading.{plain_paths}
 use Rattle.fy_types.specs.Once.{once}
 use Rattle.fy_types.specs.Limits.{IsTooLarge}
-use Rattle.fy_written.proofs.EachLemmas.{empty-paths}
+use Rattle.fy_memo.proofs.EachLemmas.{empty-paths}
 use Rattle.fy_least.proofs.AnswerLemmas.{large-error}
 use Rattle.fy_least.proofs.CallLemmas.{called-all, called-next, large-body, large-bodies}
 use Rattle.fy_least.proofs.many.paths_of_calls.Goals as goal

@@ -6,7 +6,7 @@ use Rattle.fy_types.specs.Paths.{paths, all_paths}
 use Rattle.fy_types.specs.Reading.{plain_paths}
 use Rattle.fy_types.proofs.Making.{first_paths, first_paths-all}
 use Rattle.fy_types.proofs.TypeForms.{reads_ns, reads_atom}
-use Rattle.fy_written.proofs.EachLemmas.{empty-paths}
+use Rattle.fy_memo.proofs.EachLemmas.{empty-paths}
 use Rattle.fy_least.proofs.DistinctLemmas.{distinct-once, once-distinct}
 use Rattle.fy_least.proofs.AnswerLemmas.{large-error}
 use Rattle.fy_least.proofs.ErrorLemmas.{large-again}

@@ -2,7 +2,7 @@ use Rattle.std.proofs.Common.{sym, ◌∙◌}
 use Rattle.std.proofs.lemmas.Result.{IfOk-weaker}
 use Rattle.fy_types.specs.Once.{once}
 use Rattle.fy_types.specs.Reading.{plain_paths}
-use Rattle.fy_written.proofs.EachLemmas.{same-lists}
+use Rattle.fy_memo.proofs.EachLemmas.{same-lists}
 use Rattle.fy_least.proofs.bound.Bound.each.Goals as goal
 
 pub returns : goal.returns

@@ -1,7 +1,7 @@
 use Rattle.std.proofs.Common.{◌≡◌, true, sym, subst}
 use Rattle.fy_types.specs.Once.{are_same}
 use Rattle.fy_types.specs.Reading.{plain_paths}
-use Rattle.fy_written.proofs.EachLemmas.{same-itself}
+use Rattle.fy_memo.proofs.EachLemmas.{same-itself}
 use Rattle.fy_least.proofs.bound.Bound.of_distinct.Goals as goal
 
 pub invariant_of-result : goal.invariant_of-result

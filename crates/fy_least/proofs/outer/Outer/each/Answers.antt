@@ -1,6 +1,6 @@
 use Rattle.std.proofs.Common.{◌≡◌, true, ◌∙◌, subst}
 use Rattle.fy_types.specs.Reading.{plain_type}
-use Rattle.fy_written.proofs.EachLemmas.{same-lists}
+use Rattle.fy_memo.proofs.EachLemmas.{same-lists}
 use Rattle.fy_least.specs.Outers.{has_once}
 use Rattle.fy_least.proofs.outer.Outer.each.Goals as goal
 

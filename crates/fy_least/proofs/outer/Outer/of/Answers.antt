@@ -6,7 +6,7 @@ use Rattle.fy_types.specs.Once.{are_same, once}
 use Rattle.fy_types.specs.Paths.{paths}
 use Rattle.fy_types.specs.Reading.{plain_paths, plain_type}
 use Rattle.fy_types.specs.Types.{PlainType}
-use Rattle.fy_written.proofs.EachLemmas.{same-itself}
+use Rattle.fy_memo.proofs.EachLemmas.{same-itself}
 use Rattle.fy_least.specs.declared.error.LeastError.{LeastError}
 use Rattle.fy_least.specs.Outers.{has_once}
 use Rattle.fy_least.proofs.outer.Outer.of.Goals as goal

@@ -1,7 +1,7 @@
 use Rattle.std.proofs.Common.{◌≡◌, true, subst}
 use Rattle.fy_types.specs.Once.{are_same}
 use Rattle.fy_types.specs.Reading.{plain_paths}
-use Rattle.fy_written.proofs.EachLemmas.{same-itself}
+use Rattle.fy_memo.proofs.EachLemmas.{same-itself}
 use Rattle.fy_memo.proofs.BaseLemmas.{takers-made}
 use Rattle.fy_memo.proofs.known.Known.new.Goals as goal
 

@@ -4,7 +4,7 @@ use Rattle.fy_types.specs.Limits.{all_nesting}
 use Rattle.fy_types.specs.Nested.{type_nesting}
 use Rattle.fy_types.specs.Paths.{paths}
 use Rattle.fy_types.specs.Reading.{plain_paths, plain_type}
-use Rattle.fy_written.proofs.EachLemmas.{same-lists}
+use Rattle.fy_memo.proofs.EachLemmas.{same-lists}
 use Rattle.fy_memo.proofs.types.Types.find.Goals as goal
 
 pub returns-then-are_same_paths : goal.returns-then-are_same_paths

@@ -3,7 +3,7 @@ use Rattle.fy_types.specs.Nested.{IsTypeOf}
 use Rattle.fy_types.specs.Once.{are_same}
 use Rattle.fy_types.specs.Paths.{paths}
 use Rattle.fy_types.specs.Reading.{plain_paths, plain_type}
-use Rattle.fy_written.proofs.EachLemmas.{same-itself}
+use Rattle.fy_memo.proofs.EachLemmas.{same-itself}
 use Rattle.fy_memo.proofs.types.Types.keep.Goals as goal
 
 pub invariant_of-typed : goal.invariant_of-typed

@@ -11,7 +11,7 @@ use Rattle.fy_types.proofs.Making.{count-in}
 use Rattle.fy_types.proofs.OnceLemmas.{both_true, is_same-iff, is_same-refl}
 use Rattle.fy_types.proofs.ReadLemmas.{plain_paths-at}
 use Rattle.fy_types.proofs.Sizes.{count}
-use Rattle.fy_written.specs.Forms.{has_each}
+use Rattle.fy_memo.specs.Forms.{has_each}
 
 without-few : (p : PlainPath) (Q : PlainPaths) → count (without p Q) ≤ count Q
 without-few p no_paths = omega arith

@@ -5,7 +5,7 @@ ghost use Rattle.fy_types.specs.Limits.{IsTooLarge, IsWithinLimits};
 ghost use Rattle.fy_types.specs.Once.{once as once_of};
 ghost use Rattle.fy_types.specs.Paths.{paths as paths_in_type};
 ghost use Rattle.fy_types.specs.Reading.{plain_paths, plain_type};
-ghost use Rattle.fy_written.specs.Forms.{has_each};
+ghost use Rattle.fy_memo.specs.Forms.{has_each};
 
 use fy_forms::{TypeError, meet, paths_of};
 use fy_types::{Paths, Ty};

@@ -1,5 +1,5 @@
-use Rattle.fy_written.proofs.EachLemmas.{each-none, each-some}
-use Rattle.fy_written.proofs.form.Form.each.Goals as goal
+use Rattle.fy_memo.proofs.EachLemmas.{each-none, each-some}
+use Rattle.fy_memo.proofs.form.Form.each.Goals as goal
 
 pub returns-in-None : goal.returns-in-None
 returns-in-None c = each-none c.args.self.now.paths c.args.self.now.others c.in-None.is c.args.self.now.each_once

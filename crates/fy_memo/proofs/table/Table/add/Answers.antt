@@ -1,8 +1,8 @@
 use Rattle.std.proofs.Common.{◌≡◌, true, subst}
 use Rattle.fy_types.specs.Once.{are_same}
 use Rattle.fy_types.specs.Reading.{plain_paths}
-use Rattle.fy_written.proofs.EachLemmas.{same-itself}
-use Rattle.fy_written.proofs.table.Table.add.Goals as goal
+use Rattle.fy_memo.proofs.EachLemmas.{same-itself}
+use Rattle.fy_memo.proofs.table.Table.add.Goals as goal
 
 pub invariant_of-push : goal.invariant_of-push
 invariant_of-push c =

@@ -1,5 +1,5 @@
-use Rattle.tests_units.proofs.TwoUnits.{two_units}
-use Rattle.tests_units.proofs.tests.units.two_units_are_linked_to_one_text.Goals as goal
+use Rattle.tests_text.proofs.TwoUnits.{two_units}
+use Rattle.tests_text.proofs.tests.units.two_units_are_linked_to_one_text.Goals as goal
 
 pub link-requires-clause-units : goal.link-requires-clause-units
 link-requires-clause-units g c =

@@ -4,9 +4,9 @@ use Rattle.fy_types.specs.Bounds.{meet_of}
 use Rattle.fy_types.specs.Limits.{IsTooLarge}
 use Rattle.fy_types.specs.Once.{are_same, once}
 use Rattle.fy_types.specs.Reading.{plain_paths}
-use Rattle.fy_written.proofs.EachLemmas.{each-once, empty-paths, large-again, same-itself}
-use Rattle.fy_written.proofs.SmallerLemmas.{once-large}
-use Rattle.fy_written.proofs.form.Form.of.Goals as goal
+use Rattle.fy_memo.proofs.EachLemmas.{each-once, empty-paths, large-again, same-itself}
+use Rattle.fy_memo.proofs.SmallerLemmas.{once-large}
+use Rattle.fy_memo.proofs.form.Form.of.Goals as goal
 
 pub returns-in_err-each-clause-large : goal.returns-in_err-each-clause-large
 returns-in_err-each-clause-large c =

@@ -1,8 +1,8 @@
 use Rattle.std.proofs.Common.{ap}
 use Rattle.fy_types.specs.Paths.{paths}
 use Rattle.fy_types.specs.Reading.{plain_paths, plain_type}
-use Rattle.fy_written.proofs.EachLemmas.{form-same}
-use Rattle.fy_written.proofs.table.Table.find.Goals as goal
+use Rattle.fy_memo.proofs.EachLemmas.{form-same}
+use Rattle.fy_memo.proofs.table.Table.find.Goals as goal
 
 pub returns-then-same_ty-clause-form : goal.returns-then-same_ty-clause-form
 returns-then-same_ty-clause-form c =
