@@ -1,2 +1,4 @@
+-- The core phrase of a judged text has few nodes
 pub mod Nodes
+-- Texts that are checked
 pub mod Checking

@@ -1,1 +1,2 @@
+-- Statement by statement, and how long a sample is
 pub mod SampleLemmas

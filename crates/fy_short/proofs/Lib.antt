@@ -1,2 +1,4 @@
+-- The blanks at the end of a text
 pub mod BlankLemmas
+-- Meets of two members, and of another number
 pub mod TypeLemmas

@@ -1,1 +1,2 @@
+-- Options and operands, word by word
 pub mod WordLemmas

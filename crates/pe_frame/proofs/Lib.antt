@@ -1,1 +1,2 @@
+-- Bounds on the words of a frame
 pub mod Words

@@ -5,7 +5,7 @@ use Rattle.fy_base.specs.declared.data.BinOp.{BinOp}
 use Rattle.fy_types.specs.declared.types.Atom.{Atom}
 use Rattle.fy_types.specs.declared.types.Atom.TheVariants.{Int, Bool as Truth, Comm, Compl, IntAcc}
 use Rattle.fy_types.specs.Types.{PlainType, PlainTypes, ns, atom, arrow, field as field_type, meet}
-use Rattle.fy_types.specs.Paths.{PlainPath, PlainPaths, end, no_paths, and_path, append, called, picked, paths, all_paths}
+use Rattle.fy_types.specs.Paths.{PlainPath, PlainPaths, end, no_paths, and_path, paths, all_paths}
 use Rattle.fy_types.specs.PathOrder.{HasBelow}
 use Rattle.fy_types.specs.Reading.{types_from}
 use Rattle.fy_types.proofs.Laws.{IsSubtype-paths}
@@ -27,7 +27,7 @@ use Rattle.fy_derive.proofs.SubsumptionLemmas.{or_cases, is_below-iff}
 use Rattle.fy_derive.proofs.RuleLemmas.{same_type-true}
 use Rattle.fy_derive.proofs.JudgeLemmas.{rule_judged}
 use Rattle.fy_derive.proofs.SoundLemmas.{append-none, append-push, some_same, provided-some, judge-inner, others-inner, node-inner, premises-inner, form-inner, all-same}
-use Rattle.fy_derive.proofs.PathTyping.{paths_at, EachPath}
+use Rattle.fy_derive.proofs.PathTyping.{EachPath}
 use Rattle.fy_derive.proofs.TypedAnswers.{variable_paths, EachPath-self, EachPath-append, EachPath-both, EachPath-called, called-EachPath, EachPath-picked, picked-EachPath, EachPath-unit, not_true, paths_at-get}
 use Rattle.pe_right.specs.Typed.{IsTableOf}
 use Rattle.pe_right.proofs.Demanding.{Answers, EachAnswers}

@@ -6,7 +6,7 @@ use Rattle.rv_word.specs.declared.micros.Micro.TheVariants.{Jump, Enter, End, Ex
 use Rattle.rv_word.specs.Word.{Named, Code, zeros}
 use Rattle.rv_word.specs.Discipline.{Bounds, has_needs, windows_behind, closes, is_disciplined_from, are_disciplined, are_below, bounds_of}
 use Rattle.rv_flow.proofs.Parts.{Part, mark, far, parts_of, micros_parts, blocks_parts, entry_parts, parts_in}
-use Rattle.rv_flow.proofs.Starts.{LastLeadsAway}
+use Rattle.rv_flow.proofs.PieceStarts.{LastLeadsAway}
 
 away_append : (xs ys : List Part) → LastLeadsAway ys → LastLeadsAway (xs ++ ys)
 away_append [] ys h = h

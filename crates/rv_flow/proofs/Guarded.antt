@@ -28,7 +28,7 @@ use Rattle.rv_flow.proofs.Chosen.{AreForms, EachForm, forms_from, AreChosen, cho
 use Rattle.rv_flow.proofs.Safe.{AreSafe, AreGood, all_good, all_cut}
 use Rattle.rv_flow.proofs.SafeMicros.{Suits, code_safe}
 use Rattle.rv_flow.proofs.Opened.{IsOpen, label_open, aims}
-use Rattle.rv_flow.proofs.Starts.{LastLeadsAway, parts_start, open_start, parts_closed, AllJump, all_jump}
+use Rattle.rv_flow.proofs.PieceStarts.{LastLeadsAway, parts_start, open_start, parts_closed, AllJump, all_jump}
 use Rattle.rv_flow.proofs.Away.{code_away}
 use Rattle.rv_flow.proofs.Accesses.{HaveAccess}
 use Rattle.rv_flow.proofs.Disciplined.{code_access}

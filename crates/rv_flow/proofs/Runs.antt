@@ -28,7 +28,7 @@ use Rattle.rv_flow.proofs.Reached.{IsPlaced}
 use Rattle.rv_flow.proofs.Chained.{entry_comes}
 use Rattle.rv_flow.proofs.Placed.{item_at, label_at, placed}
 use Rattle.rv_flow.proofs.Simulates.{Moves, Simulated, looser, from_reached, run_simulated}
-use Rattle.rv_flow.proofs.Started.{start_scratch, start_shows, start_sound}
+use Rattle.rv_flow.proofs.StartLemmas.{start_scratch, start_shows, start_sound}
 
 -- ---- the word machine stops by an end, a fault or exhaustion alone
 

@@ -23,7 +23,7 @@ use Rattle.rv_select.specs.Laws.{IsSelectable, deepest, IsSameAs}
 use Rattle.rv_select.proofs.Runs.{Reach}
 use Rattle.rv_select.proofs.Wp.{with_value, by_block, by_blocks}
 use Rattle.rv_select.proofs.SelectedCode.{IsSelected}
-use Rattle.rv_select.proofs.Follows.{Helpers, ComesTo, Follows, step_cost}
+use Rattle.rv_select.proofs.ItemSteps.{Helpers, ComesTo, Follows, step_cost}
 use Rattle.rv_select.proofs.Step.{step}
 
 -- the word machine stands for a run that hasn't ended otherwise

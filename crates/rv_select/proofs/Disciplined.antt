@@ -16,8 +16,8 @@ use Rattle.rv_select.specs.Numbers.{meet, first_operator, start_label, end_label
 use Rattle.rv_select.specs.Blocks.{index_block, blocks_of, entries_of, caller_blocks, sequence_blocks, own_blocks}
 use Rattle.rv_select.specs.Program.{item_blocks, item_entries, word_code}
 use Rattle.rv_select.specs.Laws.{IsSelectable, SelectionIsDisciplined}
-use Rattle.rv_select.proofs.Judging.{IsLabel, IsWord, joined}
-use Rattle.rv_select.proofs.Judged.{Fits, InsnFits, low, blocks_fine, entries_fine}
+use Rattle.rv_select.proofs.PartDiscipline.{IsLabel, IsWord, joined}
+use Rattle.rv_select.proofs.BlockDiscipline.{Fits, InsnFits, low, blocks_fine, entries_fine}
 use Rattle.rv_select.proofs.Fitting.{bounds, led_label, fits, insn_fits}
 
 below_joined : (n : ℕ) (xs ys : List ℕ) → are_below n xs ≡ true → are_below n ys ≡ true → are_below n (xs ++ ys) ≡ true

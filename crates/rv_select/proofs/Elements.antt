@@ -31,7 +31,7 @@ use Rattle.rv_select.proofs.Wp.{Wp, with_value, by_blocks}
 use Rattle.rv_select.proofs.Values.{moves, moves_by, moves_back, adds, eightfold, taken_above, untaken_above}
 use Rattle.rv_select.proofs.Memory.{SequenceIs, sequence_is}
 use Rattle.rv_select.proofs.SelectedCode.{IsEntry, IsSelected}
-use Rattle.rv_select.proofs.Follows.{Helpers}
+use Rattle.rv_select.proofs.ItemSteps.{Helpers}
 use Rattle.rv_select.proofs.Landing.{Keeps}
 use Rattle.rv_select.proofs.Entering.{cell_block, cell_by}
 use Rattle.rv_select.proofs.Meeting.{IsMet, Q, From, Kept, negative_small, nothing, fault_told, cut}

@@ -15,7 +15,7 @@ use Rattle.rv_select.specs.Numbers.{label_of}
 use Rattle.rv_select.specs.Blocks.{blocks_of}
 use Rattle.rv_select.specs.Program.{item_blocks, word_code}
 use Rattle.rv_select.specs.Emission.{AddsBlocks}
-use Rattle.rv_select.proofs.Counted.{blocks_more}
+use Rattle.rv_select.proofs.NumberingLemmas.{blocks_more}
 use Rattle.rv_select.proofs.Placed.{blocks_length}
 
 -- three parts behind one another

@@ -34,7 +34,7 @@ use Rattle.rv_select.proofs.Values.{moves, adds}
 use Rattle.rv_select.proofs.Around.{alike_with}
 use Rattle.rv_select.proofs.Memory.{StandsAt, stands_at, EscapeIs, escape_is, cell_spot, value_is, laid_value}
 use Rattle.rv_select.proofs.SelectedCode.{IsEntry, IsSelected}
-use Rattle.rv_select.proofs.Follows.{Follows}
+use Rattle.rv_select.proofs.ItemSteps.{Follows}
 use Rattle.rv_select.proofs.Landing.{Keeps, went_code, went_value, went_completed}
 use Rattle.rv_select.proofs.Reaching.{word_small}
 

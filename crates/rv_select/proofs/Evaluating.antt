@@ -50,7 +50,7 @@ use Rattle.rv_select.proofs.Around.{frame_room, from_itself, from_none, alike_wi
 use Rattle.rv_select.proofs.Memory.{same_then, same_wrote, unwritten, shows_frames, CellIs, cell_is, own_found, laid_value}
 use Rattle.rv_select.proofs.SelectedCode.{IsSelected}
 use Rattle.rv_select.proofs.Placed.{blocks_length}
-use Rattle.rv_select.proofs.Follows.{Helpers, Follows}
+use Rattle.rv_select.proofs.ItemSteps.{Helpers, Follows}
 use Rattle.rv_select.proofs.Landing.{AreBytes, went_code, went_value, went_completed, no_room, opened, pushed_frame}
 use Rattle.rv_select.proofs.Reaching.{reach_length, reached}
 

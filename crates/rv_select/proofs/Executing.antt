@@ -46,7 +46,7 @@ use Rattle.rv_select.proofs.Values.{moves, moves_on}
 use Rattle.rv_select.proofs.Around.{frame_room, frames_more, thunk_deeper}
 use Rattle.rv_select.proofs.Memory.{IsSameBelow, same_then, same_wrote, unwritten, hands_on, StandsAt, stands_at}
 use Rattle.rv_select.proofs.SelectedCode.{IsSelected}
-use Rattle.rv_select.proofs.Follows.{Helpers, ComesTo, Follows}
+use Rattle.rv_select.proofs.ItemSteps.{Helpers, ComesTo, Follows}
 use Rattle.rv_select.proofs.Landing.{AreBytes, Keeps, has_same, has_more, went_code, went_value, went_completed, no_room, opened, pushed, pushed_frame}
 use Rattle.rv_select.proofs.Making.{open_length, framed, bound}
 use Rattle.rv_select.proofs.Reaching.{frame_small, reach_length, reached}

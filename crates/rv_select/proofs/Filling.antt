@@ -31,7 +31,7 @@ use Rattle.rv_select.proofs.Values.{moves, moves_on, moves_by, taken_other, unta
 use Rattle.rv_select.proofs.Around.{frames_more}
 use Rattle.rv_select.proofs.Memory.{same_then, same_wrote, unwritten}
 use Rattle.rv_select.proofs.SelectedCode.{IsSelected}
-use Rattle.rv_select.proofs.Follows.{Helpers, ComesTo, Follows}
+use Rattle.rv_select.proofs.ItemSteps.{Helpers, ComesTo, Follows}
 use Rattle.rv_select.proofs.Landing.{has_same, has_more, has_cells, no_room}
 use Rattle.rv_select.proofs.Making.{open_length, bound}
 use Rattle.rv_select.proofs.Meeting.{IsMet, Q, From, Kept, negative_small, nothing, fault_told, cut}

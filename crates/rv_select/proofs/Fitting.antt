@@ -26,9 +26,9 @@ use Rattle.rv_select.specs.Laws.{value_of, IsSelectable}
 use Rattle.rv_select.proofs.Reaching.{word_small}
 use Rattle.rv_select.proofs.Placed.{blocks_length, some_blocks, entries_few, rows_length}
 use Rattle.rv_select.proofs.Step.{all_found}
-use Rattle.rv_select.proofs.Judging.{IsLabel, IsWord}
-use Rattle.rv_select.proofs.Judged.{Fits, InsnFits}
-use Rattle.rv_select.proofs.Counting.{IsSmall}
+use Rattle.rv_select.proofs.PartDiscipline.{IsLabel, IsWord}
+use Rattle.rv_select.proofs.BlockDiscipline.{Fits, InsnFits}
+use Rattle.rv_select.proofs.BlockSizes.{IsSmall}
 
 -- ---- labels
 

@@ -29,7 +29,7 @@ use Rattle.rv_select.proofs.Values.{moves, moves_on, taken_other, untaken_other}
 use Rattle.rv_select.proofs.Around.{frames_more, thunk_deeper}
 use Rattle.rv_select.proofs.Memory.{same_then, same_wrote, unwritten, hands_on, StandsAt, stands_at, escape_is, sequence_is}
 use Rattle.rv_select.proofs.SelectedCode.{IsSelected}
-use Rattle.rv_select.proofs.Follows.{Helpers, Follows}
+use Rattle.rv_select.proofs.ItemSteps.{Helpers, Follows}
 use Rattle.rv_select.proofs.Landing.{Keeps, has_more, went_value, no_room}
 use Rattle.rv_select.proofs.Reaching.{reach_length, reached}
 use Rattle.rv_select.proofs.Asking.{asked_word, sequence_word_is}

@@ -29,7 +29,7 @@ use Rattle.rv_select.specs.Numbers.{block_count, entry_count, blocks_in, entries
 use Rattle.rv_select.specs.Program.{word_code}
 use Rattle.rv_straight.proofs.Sizes.{faults_few}
 use Rattle.rv_select.specs.Sizes.{SelectionIsCounted}
-use Rattle.rv_select.proofs.Counted.{places_few}
+use Rattle.rv_select.proofs.NumberingLemmas.{places_few}
 use Rattle.rv_select.proofs.Placed.{entries_total, rows_length}
 use Rattle.rv_select.proofs.Fitting.{blocks_number}
 use Rattle.rv_select.proofs.Short.{words_few}

@@ -21,7 +21,7 @@ use Rattle.rv_select.proofs.Values.{moves, moves_on}
 use Rattle.rv_select.proofs.Around.{frames_more}
 use Rattle.rv_select.proofs.Memory.{IsSameBelow, same_then, same_wrote, unwritten, parts_along, laid_same}
 use Rattle.rv_select.proofs.SelectedCode.{IsSelected}
-use Rattle.rv_select.proofs.Follows.{Helpers, IsAt, ComesTo}
+use Rattle.rv_select.proofs.ItemSteps.{Helpers, IsAt, ComesTo}
 
 abbrev pub AreBytes : Bytes → Type 0
 AreBytes input = All (λ byte. byte < 256) input

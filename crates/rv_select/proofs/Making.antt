@@ -23,7 +23,7 @@ use Rattle.rv_select.proofs.Values.{moves, moves_on}
 use Rattle.rv_select.proofs.Around.{frame_room, frames_none, frames_here, from_itself}
 use Rattle.rv_select.proofs.Memory.{IsSameBelow, same_itself, same_then, same_wrote, same_less, unwritten, ShowsFrames, shows_frames}
 use Rattle.rv_select.proofs.SelectedCode.{IsSelected}
-use Rattle.rv_select.proofs.Follows.{Helpers, ComesTo}
+use Rattle.rv_select.proofs.ItemSteps.{Helpers, ComesTo}
 use Rattle.rv_select.proofs.Landing.{AreBytes, Keeps, has_same, went_code, no_room}
 
 -- the binding of a frame stands at word x

@@ -50,7 +50,7 @@ use Rattle.rv_select.proofs.Values.{moves, moves_on, adds, eightfold, taken_same
 use Rattle.rv_select.proofs.Around.{frame_room, frames_more}
 use Rattle.rv_select.proofs.Memory.{IsSameBelow, same_then, same_wrote, unwritten}
 use Rattle.rv_select.proofs.SelectedCode.{IsSelected}
-use Rattle.rv_select.proofs.Follows.{Helpers, Follows}
+use Rattle.rv_select.proofs.ItemSteps.{Helpers, Follows}
 use Rattle.rv_select.proofs.Landing.{AreBytes, Keeps, has_same, has_more, went_code, went_value, went_completed, no_room}
 use Rattle.rv_select.proofs.Making.{open_length, framed}
 

@@ -32,7 +32,7 @@ use Rattle.rv_select.specs.Blocks.{entries_of}
 use Rattle.rv_select.specs.Layout.{word_in, HasItems}
 use Rattle.rv_select.proofs.Runs.{wider, known, known_later}
 use Rattle.rv_select.proofs.SelectedCode.{IsSelected}
-use Rattle.rv_select.proofs.Follows.{Helpers}
+use Rattle.rv_select.proofs.ItemSteps.{Helpers}
 use Rattle.rv_select.proofs.Landing.{AreBytes, went_value}
 use Rattle.rv_select.proofs.Meeting.{IsMet, TellsFault, Q, From, Kept, nothing, fault_told, cut}
 

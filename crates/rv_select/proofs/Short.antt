@@ -20,7 +20,7 @@ use Rattle.rv_select.specs.Laws.{IsSelectable, code_words, SelectionIsShort}
 use Rattle.rv_select.proofs.Asking.{asked_word, sequence_word_is}
 use Rattle.rv_select.proofs.Placed.{entries_total, rows_length}
 use Rattle.rv_select.proofs.Fitting.{entry_small, small_at, index_small}
-use Rattle.rv_select.proofs.Counting.{IsSmall, insn_words, index_words, words_joined}
+use Rattle.rv_select.proofs.BlockSizes.{IsSmall, insn_words, index_words, words_joined}
 
 -- ---- words
 

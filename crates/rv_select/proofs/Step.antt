@@ -37,7 +37,7 @@ use Rattle.rv_select.proofs.Runs.{Reach, wider}
 use Rattle.rv_select.proofs.Wp.{with_value, by_blocks}
 use Rattle.rv_select.proofs.Memory.{StandsAt, stands_at}
 use Rattle.rv_select.proofs.SelectedCode.{IsEntry, IsSelected}
-use Rattle.rv_select.proofs.Follows.{Helpers, Follows, step_cost}
+use Rattle.rv_select.proofs.ItemSteps.{Helpers, Follows, step_cost}
 use Rattle.rv_select.proofs.Executing.{runs}
 use Rattle.rv_select.proofs.Meeting.{IsMet, Q, From, Kept, nothing, cut, popped, met_then, met_again, met_if, met_and, met_or, met_case, met_left, met_assign, met_while, met_new, met_put_int, met_put_char, met_put_truth}
 use Rattle.rv_select.proofs.Filling.{met_count, filling_steps}

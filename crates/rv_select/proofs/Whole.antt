@@ -21,11 +21,11 @@ use Rattle.rv_select.proofs.Runs.{spent_on, spent_is, runs_split, spent_split, R
 use Rattle.rv_select.proofs.Wp.{with_value, by_block}
 use Rattle.rv_select.proofs.Values.{moves, moves_on}
 use Rattle.rv_select.proofs.SelectedCode.{IsSelected}
-use Rattle.rv_select.proofs.Follows.{Helpers}
+use Rattle.rv_select.proofs.ItemSteps.{Helpers}
 use Rattle.rv_select.proofs.Placed.{selected}
 use Rattle.rv_select.proofs.ItemRuns.{both_more, run_grows, stuck_later}
 use Rattle.rv_select.proofs.Both.{Tracks}
-use Rattle.rv_select.proofs.Follow.{OnWay, still, already, on_way, forth, IsEnd, behind_more, back}
+use Rattle.rv_select.proofs.RunsAgree.{OnWay, still, already, on_way, forth, IsEnd, behind_more, back}
 
 -- the first block leads to where the program begins
 pub record Begins (code : PeCode) (size : ℕ) (input : Bytes) (led : Led) : Type 0 where

@@ -1,4 +1,4 @@
-use Rattle.fy_build.proofs.Selecting.{become_images}
+use Rattle.fy_build.proofs.SelectedLemmas.{become_images}
 use Rattle.fy_build.proofs.laws.selections_become_images.Goals as goal
 
 pub returns : goal.returns

@@ -1,4 +1,4 @@
-use Rattle.fy_build.proofs.Selecting.{can_be_assembled}
+use Rattle.fy_build.proofs.SelectedLemmas.{can_be_assembled}
 use Rattle.fy_build.proofs.laws.selections_can_be_assembled.Goals as goal
 
 pub returns : goal.returns

@@ -1,4 +1,4 @@
-use Rattle.rv_select.proofs.Follows.{Helpers}
+use Rattle.rv_select.proofs.ItemSteps.{Helpers}
 use Rattle.rv_select.proofs.Whole as whole
 use Rattle.rv_select.proofs.laws.runs_reach.Goals as goal
 

@@ -1,5 +1,5 @@
 use Rattle.std.proofs.Common.{◌≡◌, ◌-◌, suc, arith}
-use Rattle.rv_select.proofs.Counted.{placed_none, placed_more, all_placed}
+use Rattle.rv_select.proofs.NumberingLemmas.{placed_none, placed_more, all_placed}
 use Rattle.rv_select.proofs.numbers.columns_of.Goals as goal
 
 pub loop-place-init : goal.loop-place-init

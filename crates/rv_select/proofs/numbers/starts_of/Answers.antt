@@ -5,7 +5,7 @@ use Rattle.std.proofs.lemmas.Option.{slice_get_read}
 use Rattle.pe_code.specs.declared.code.PeItem.{PeItem}
 use Rattle.pe_code.specs.Code.{straight_of}
 use Rattle.rv_select.specs.Numbering.{start_in}
-use Rattle.rv_select.proofs.Counted.{start_next, next_label_fits, next_entry_fits, parts_fit, begun_more}
+use Rattle.rv_select.proofs.NumberingLemmas.{start_next, next_label_fits, next_entry_fits, parts_fit, begun_more}
 use Rattle.rv_select.proofs.numbers.starts_of.Goals as goal
 
 stands : (is : List PeItem) (k : ℕ) (i : PeItem) → k < length is → i ≡ get_or is k i → slice_get is k ≡ Some i

@@ -1,6 +1,6 @@
 use Rattle.std.proofs.Common.{ap}
 use Rattle.pe_code.specs.declared.code.PeCode.{PeCode}
-use Rattle.rv_select.proofs.Counted.{rows_more}
+use Rattle.rv_select.proofs.NumberingLemmas.{rows_more}
 use Rattle.rv_select.proofs.table.table_of.Goals as goal
 
 pub loop-shape-preserved : goal.loop-shape-preserved

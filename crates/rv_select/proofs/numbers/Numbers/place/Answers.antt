@@ -1,6 +1,6 @@
 use Rattle.std.proofs.Common.{◌≡◌, length, unwrap_or, ap, ◌∙◌, arith}
 use Rattle.rv_select.specs.Numbers.{place_in}
-use Rattle.rv_select.proofs.Counted.{place_inside}
+use Rattle.rv_select.proofs.NumberingLemmas.{place_inside}
 use Rattle.rv_select.proofs.numbers.Numbers.place.Goals as goal
 
 pub returns : goal.returns

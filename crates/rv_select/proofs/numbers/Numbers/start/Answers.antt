@@ -1,5 +1,5 @@
 use Rattle.std.proofs.Common.{◌≡◌, min, length, ap, ◌∙◌}
-use Rattle.rv_select.proofs.Counted.{start_at}
+use Rattle.rv_select.proofs.NumberingLemmas.{start_at}
 use Rattle.rv_select.proofs.numbers.Numbers.start.Goals as goal
 
 pub returns : goal.returns

@@ -16,7 +16,7 @@ use Rattle.rv_select.specs.Program.{word_code}
 use Rattle.rv_select.specs.Laws.{IsSelectable, deepest, IsSameAs, StandsAs}
 use Rattle.rv_select.proofs.Runs.{spent_on, spent_none, none_on, runs_split, spent_split, stopped_stays, Reach}
 use Rattle.rv_select.proofs.SelectedCode.{IsSelected}
-use Rattle.rv_select.proofs.Follows.{Helpers, step_cost}
+use Rattle.rv_select.proofs.ItemSteps.{Helpers, step_cost}
 use Rattle.rv_select.proofs.Placed.{selected}
 use Rattle.rv_select.proofs.ItemRuns.{none_more, first_more, both_more, run_stays, run_grows, stuck_later}
 use Rattle.rv_select.proofs.Both.{Tracks, Lands, lands_on, runs_out, is_told, is_lost, HasEnded, ends_so, goes_so}

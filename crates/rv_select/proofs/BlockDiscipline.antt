@@ -34,7 +34,7 @@ use Rattle.rv_straight.proofs.Fine.{reach_needs, disciplined, faults_fine}
 use Rattle.rv_select.specs.Numbers.{meet, first_operator, pop_label, count_label, first_item, block_count, faults_from, first_fault, label_of, entry_number, entry_word, column_word, column_of, row_address}
 use Rattle.rv_select.specs.Blocks.{move, open_context, push, push_frame, bind, reach, put_entry, main_block, left_block, if_block, case_block, then_block, assign_block, while_block, again_block, new_block, unary_fault_blocks, binary_fault_blocks, blocks_of, entries_of}
 use Rattle.rv_select.specs.Laws.{value_of}
-use Rattle.rv_select.proofs.Judging.{IsLabel, IsWord, chained, reach_fine, push_fine, push_frame_fine, bind_fine}
+use Rattle.rv_select.proofs.PartDiscipline.{IsLabel, IsWord, chained, reach_fine, push_fine, push_frame_fine, bind_fine}
 
 -- ---- what the numbers in blocks have to meet
 
