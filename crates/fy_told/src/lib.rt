@@ -10,3 +10,5 @@ mod types_told;
 mod wheres;
 
 pub use refusal::print_refusal;
+pub use table_types::put_cut_type;
+pub use wheres::put_variable;

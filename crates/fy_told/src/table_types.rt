@@ -17,7 +17,7 @@ use std::alloc::Global;
 pub(crate) const LINE_PART: usize = 60;
 
 /// Puts the short text of the type with the number behind the text, cut to 60 bytes.
-pub(crate) fn put_cut_type(
+pub fn put_cut_type(
     alloc: Global,
     text: &mut Vec<u8>,
     names: &Names,

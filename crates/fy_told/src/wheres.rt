@@ -153,7 +153,8 @@ fn is_hidden(inner: &[Option<&EntryText>], name: &[u8]) -> bool
     false
 }
 
-fn put_variable(
+/// Puts the variable with its type behind the text; of a `letrec` its fields.
+pub fn put_variable(
     text: &mut Vec<u8>,
     table: &TypeTable,
     view: &View<'_, '_>,

@@ -32,3 +32,5 @@ pub mod UnitCommands
 pub mod Judging
 -- From what was told of a text, to what is due for `why`
 pub mod Explaining
+-- From what drawing a derivation came to, to what is due for `tree`
+pub mod Drawing

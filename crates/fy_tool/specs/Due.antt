@@ -31,7 +31,7 @@ use Rattle.fy_link.specs.UnitBytes.{unit_bytes}
 use Rattle.fy_link.specs.declared.linking.Linked.{Linked}
 use Rattle.fy_link.specs.declared.unit.Unit.{Unit as UnitValue}
 use Rattle.fy_sample.specs.Sample.{sample_text}
-use Rattle.fy_words.specs.Order.{Order, stack_wanted, steps_wanted, copy_wanted, trace_steps_wanted, width_wanted}
+use Rattle.fy_words.specs.Order.{Order, stack_wanted, steps_wanted, copy_wanted, trace_steps_wanted, width_wanted, line_wanted, levels_wanted}
 use Rattle.fy_words.specs.Order as orders
 use Rattle.fy_world.specs.Runs.{Due, told, written, IsRun, ran, sampled, running_of, CopyEnd, IsCopyRun, copied, stepped, stepping_of}
 use Rattle.fy_world.specs.Note.{ended_lines, refusal_note, elf_note}
@@ -43,7 +43,7 @@ use Rattle.fy_base.specs.declared.data.Place.{Place}
 use Rattle.fy_front.specs.declared.refusal.Refusal.{Refusal}
 use Rattle.fy_front.specs.declared.refusal.Refusal.TheVariants as refusal
 use Rattle.fy_front.specs.Checked.{IsProgramText, IsInUse, IsAccepted, IsRefusedFor, HasNames}
-use Rattle.fy_tool.specs.Given.{IsGiven, IsStoppedAt, IsToldWhy, IsTurnedDown}
+use Rattle.fy_tool.specs.Given.{IsDrawn, IsGiven, IsStoppedAt, IsToldWhy, IsTurnedDown, form_of}
 use Rattle.fy_tool.specs.Units.{Listed, ListsUnits, names_of, IsUnitOfText, IsNoUnit, IsLinkedBy, IsNotLinked, PassesShapes}
 
 -- ---- what an order reads and keeps
@@ -85,6 +85,7 @@ signature_of (orders.check file) = taking (program_text file)
 signature_of (orders.derive file) = taking (program_text file)
 signature_of (orders.judge file named) = record (taking (program_text file)) { derivation = Some named }
 signature_of (orders.why file width) = taking (program_text file)
+signature_of (orders.tree file named latex levels below width) = record (taking (program_text file)) { derivation = named }
 signature_of (orders.build file image stack named) = record (taking (program_text file)) { derivation = named; keeps = Some image }
 signature_of (orders.exec image steps last) = record (taking (image_bytes image)) { runs_image = true; ready_first = is_none last }
 signature_of (orders.run file steps stack named image) = record (taking (program_text file)) { derivation = named; keeps = Some (kept_as file image); runs_image = true }
@@ -237,6 +238,10 @@ pub data IsDue (sources : Sources) (input : Bytes) : Option Order → Due → Ty
   explains : (file text : Bytes) (width : Option ℕ) (place : Place) (lines : Bytes) → sources.file ≡ Some text → IsRefusedFor text (refusal.NoType place)
       → IsToldWhy text (width_wanted width) lines
       → IsDue sources input (Some (orders.why file width)) (lined 2 (note.Refused (refusal.NoType place)) lines)
+  -- `tree` writes the derivation in use as a tree
+  draws : (file : Bytes) (named : Option Bytes) (latex : Bool) (levels node width : Option ℕ) (text lines : Bytes) → sources.file ≡ Some text
+      → IsDrawn text named sources.derivation (form_of latex) (line_wanted width) node (levels_wanted levels) lines
+      → IsDue sources input (Some (orders.tree file named latex levels node width)) (written lines)
   -- `build` keeps the image's bytes, in version 2
   builds : (file name : Bytes) (stack : Option ℕ) (named : Option Bytes) (text : Bytes) (image : Image) (bytes : Bytes) → sources.file ≡ Some text
       → IsBuilt text named sources.derivation (stack_wanted stack) image → IsSpelled Two image bytes

@@ -1,5 +1,5 @@
 -- Which phrase and which derivation an order works with: the derivation that it names, or else one that the text has; and why it does nothing.
-use Rattle.std.specs.Prelude.{◌≡◌, ℕ, ◌<◌, ◌≤◌, List, [], length, Some, None, Ok, Err}
+use Rattle.std.specs.Prelude.{◌≡◌, ℕ, ◌<◌, ◌≤◌, Bool, if◌then◌else◌, List, [], length, Some, None, Ok, Err}
 use Rattle.std.specs.declared.option.Option.{Option}
 use Rattle.fy_base.specs.Outside.{Bytes}
 use Rattle.fy_base.specs.declared.data.Place.{Place}
@@ -17,6 +17,9 @@ use Rattle.fy_show.specs.declared.binders.Binder.{Binder}
 use Rattle.fy_told.specs.ReasonTexts.{source_names, told_of}
 use Rattle.fy_causes.specs.Hollow.{Told, why_of}
 use Rattle.fy_why.specs.Texts.{why_text}
+use Rattle.fy_tree.specs.declared.style.Form.{Form}
+use Rattle.fy_tree.specs.declared.style.Form.TheVariants.{Plain, Latex}
+use Rattle.fy_tree.specs.Whole.{tree_text}
 use Rattle.fy_least.specs.Pairs.{HasAllPairs}
 use Rattle.fy_read.specs.FieldNames.{NumbersFields}
 use Rattle.fy_read.specs.Refusals.{IsReadFault, KeepsThroughout}
@@ -27,7 +30,7 @@ use Rattle.fy_world.specs.Note.{read_note}
 use Rattle.fy_world.specs.declared.note.Note.{Note}
 use Rattle.fy_world.specs.declared.note.Note.TheVariants as note
 use Rattle.fy_front.specs.declared.refusal.Refusal.{Refusal}
-use Rattle.fy_front.specs.Checked.{IsProgramText, IsRefusedFor, HasNames, told_as, shapes_refusal}
+use Rattle.fy_front.specs.Checked.{IsInUse, IsProgramText, IsRefusedFor, HasNames, told_as, shapes_refusal}
 
 -- the most bytes of the text of a derivation
 abbrev pub most_written : ℕ
@@ -94,3 +97,23 @@ pub record IsToldWhy (text : Bytes) (width : ℕ) (lines : Bytes) : Type 0 where
   pub binders : List Binder
   pub named : HasBinders text (place_of p) binders
   pub lines_are : lines ≡ why_text width (source_names names binders) (Some why)
+
+-- the names that number the fields of a derivation that is given for a text
+pub data HasGivenNames (text : Bytes) (d : PlainDerivation) : Option Bytes → Option Bytes → List Bytes → Type 0 where
+  of_text : (written : Option Bytes) (names : List Bytes) → HasNames text names → HasGivenNames text d None written names
+  of_both : (name written : Bytes) (spelled : Spells text written d) → HasGivenNames text d (Some name) (Some written) spelled.after
+
+abbrev pub form_of : Bool → Form
+form_of latex = if latex then Latex else Plain
+
+-- the lines show a derivation in use of the text as a tree: in a form, with lines of so many bytes, below a node, and down to so many levels
+pub record IsDrawn (text : Bytes) (named written : Option Bytes) (form : Form) (width : ℕ) (node : Option ℕ) (levels : ℕ) (lines : Bytes) : Type 0 where
+  pub p : Tree
+  pub d : PlainDerivation
+  pub given : IsGiven text p d named written
+  pub used : IsInUse p d
+  pub names : List Bytes
+  pub numbered : HasGivenNames text d named written names
+  pub binders : List Binder
+  pub has : HasBinders text (place_of p) binders
+  pub lines_are : lines ≡ tree_text (record { known = source_names names binders; form = form; width = width }) node levels d p

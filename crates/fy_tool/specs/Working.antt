@@ -12,6 +12,7 @@ use Rattle.fy_show.specs.declared.binders.Binder.{Binder}
 use Rattle.fy_told.specs.ReasonTexts.{source_names}
 use Rattle.fy_causes.specs.Hollow.{why_of}
 use Rattle.fy_why.specs.Texts.{why_text}
+use Rattle.fy_tree.specs.Whole.{tree_text}
 use Rattle.fy_phrase.specs.Reads.{reads}
 use Rattle.fy_phrase.specs.declared.shapes.ShapeTable.{ShapeTable}
 use Rattle.fy_expand.specs.Judged.{IsJudged, IsJudgedFrom}
@@ -64,8 +65,8 @@ use Rattle.fy_front.specs.declared.refusal.Refusal.TheVariants as refused
 use Rattle.fy_world.specs.declared.world.Stop.{Stop}
 use Rattle.fy_world.specs.declared.world.Stop.TheVariants.{Fetch}
 use Rattle.fy_front.specs.Checked.{IsAccepted, IsRefusedFor, shapes_refusal, IsCore, IsInUse, IsUnjudged, IsOfText, HasNames}
-use Rattle.fy_words.specs.Order.{judge, why}
-use Rattle.fy_tool.specs.Given.{HasBinders, IsGiven, IsStoppedAt, IsToldWhy, IsTurnedDown, Spells}
+use Rattle.fy_words.specs.Order.{judge, why, line_wanted, levels_wanted}
+use Rattle.fy_tool.specs.Given.{HasBinders, HasGivenNames, IsDrawn, IsGiven, IsStoppedAt, IsToldWhy, IsTurnedDown, Spells, form_of}
 use Rattle.fy_tool.specs.Due.{TellsNamed, AreListed, AreTold, tells_lines}
 use Rattle.fy_tool.specs.Fetched.{HasFetched, LastRose}
 use Rattle.fy_tool.specs.Units.{most_unit, Listed, names_of, ListsUnits, ListsNone, IsUnitOfText, IsNoUnit, AreUnitsRead, IsBadObject, IsLinkedBy, IsNotLinked, link_note}
@@ -75,6 +76,9 @@ use Rattle.fy_tool.specs.declared.given.TurnedDown.{TurnedDown}
 use Rattle.fy_tool.specs.declared.judge.Judgement.{Judgement}
 use Rattle.fy_tool.specs.declared.judge.Judgement.TheVariants as judgement
 use Rattle.fy_tool.specs.declared.texts.Source.{Source}
+use Rattle.fy_tool.specs.declared.tree.Drawing.{Drawing}
+use Rattle.fy_tool.specs.declared.tree.Drawn.{Drawn}
+use Rattle.fy_tool.specs.declared.tree.Drawn.TheVariants as drawn
 use Rattle.fy_tool.specs.declared.why.Telling.{Telling}
 use Rattle.fy_tool.specs.declared.why.Telling.TheVariants as telling
 use Rattle.fy_tool.specs.declared.link.Together.{Together}
@@ -204,6 +208,45 @@ pub record WasJudged (file name : Bytes) (files : Option Folder) (calls calls' :
 
 abbrev pub Judges : Bytes → Bytes → Option Folder → FileCalls → FileCalls → Result Judgement Stop → Type 0
 Judges file name files calls calls' result = IfOk result (WasJudged file name files calls calls')
+
+-- a derivation of a phrase as a tree, with these names, as is asked
+abbrev pub tree_shown : List Bytes → List Binder → Drawing → PlainDerivation → Tree → Bytes
+tree_shown names binders drawing d p =
+    tree_text (record { known = source_names names binders; form = drawing.style.form; width = drawing.style.width }) drawing.node drawing.levels d p
+
+-- how an order draws
+abbrev pub drawing_wanted : Bool → Option ℕ → Option ℕ → Option ℕ → Drawing
+drawing_wanted latex levels node width =
+    record { style = record { form = form_of latex; width = line_wanted width }; node = node; levels = levels_wanted levels }
+
+-- what drawing a derivation of a text comes to, as is asked: lines show it as a tree, or the text or the derivation is turned down
+abbrev pub IsDrawing : Bytes → Option Bytes → Option Bytes → Drawing → Drawn → Type 0
+IsDrawing text named written drawing (drawn.Down down) = IsDown text named written down
+IsDrawing text named written drawing (drawn.Lines lines) = IsDrawn text named written drawing.style.form drawing.style.width drawing.node drawing.levels lines
+
+-- the same of a derivation in use for the phrase of the text, whose fields these names number, however it is given
+abbrev pub DrawsUnder : Bytes → List Bytes → Drawing → Tree → PlainDerivation → Drawn → Type 0
+DrawsUnder text names drawing p d found = (named written : Option Bytes) → IsGiven text p d named written → IsInUse p d → HasGivenNames text d named written names → IsDrawing text named written drawing found
+
+-- of one that is written for the phrase of the text
+abbrev pub DrawsFor : Bytes → List Bytes → Drawing → Tree → PlainDerivation → Drawn → Type 0
+DrawsFor text names drawing p d found = (name written : Bytes) → IsJudged text (Ok p) → (spelled : Spells text written d) → spelled.after ≡ names → IsDrawing text (Some name) (Some written) drawing found
+
+-- and of what is written for a text, under whatever name
+abbrev pub DrawsWritten : Bytes → Bytes → Drawing → Drawn → Type 0
+DrawsWritten text written drawing found = (name : Bytes) → IsDrawing text (Some name) (Some written) drawing found
+
+-- a derivation of the text in a file was drawn
+pub record WasDrawn (file : Bytes) (named : Option Bytes) (files : Option Folder) (calls calls' : FileCalls) (drawing : Drawing) (found : Drawn) : Type 0 where
+  pub text : Bytes
+  pub told : Tells files file (Some text)
+  pub written : Option Bytes
+  pub told_named : TellsNamed files named written
+  pub called : HasFetched (Some file) named (Some text) [] calls calls'
+  pub is : IsDrawing text named written drawing found
+
+abbrev pub Draws : Bytes → Option Bytes → Option Folder → FileCalls → FileCalls → Drawing → Result Drawn Stop → Type 0
+Draws file named files calls calls' drawing result = IfOk result (WasDrawn file named files calls calls' drawing)
 
 -- the lines are those of the phrase of the text, with its names and with phrases in at most so many bytes
 pub record TellsWhy (text : Bytes) (width : ℕ) (lines : Bytes) : Type 0 where

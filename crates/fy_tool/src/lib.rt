@@ -22,6 +22,7 @@ mod serve;
 mod texts;
 mod top;
 mod trace;
+mod tree;
 mod unit;
 mod wanted;
 mod why;

@@ -18,6 +18,7 @@ use crate::migrate::migrate_file;
 use crate::run::run_file;
 use crate::sample::run_sample;
 use crate::trace::trace_file;
+use crate::tree::tree_file;
 use crate::unit::unit_file;
 use crate::why::why_file;
 use fy_words::Command;
@@ -35,6 +36,14 @@ pub(crate) fn serve<W: World>(alloc: Global, command: Command, world: &mut W) ->
         Command::Derive { file } => derive_file(alloc, file, world),
         Command::Judge { file, derivation } => judge_file(alloc, file, derivation, world),
         Command::Why { file, width } => why_file(alloc, file, width, world),
+        Command::Tree {
+            file,
+            derivation,
+            latex,
+            levels,
+            node,
+            width,
+        } => tree_file(alloc, file, derivation, latex, levels, node, width, world),
         Command::Build {
             file,
             image,

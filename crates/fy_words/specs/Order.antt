@@ -15,6 +15,7 @@ pub data Order : Type 0 where
   derive : (file : Bytes) → Order
   judge : (file derivation : Bytes) → Order
   why : (file : Bytes) (width : Option ℕ) → Order
+  tree : (file : Bytes) (derivation : Option Bytes) (latex : Bool) (levels node width : Option ℕ) → Order
   build : (file image : Bytes) (stack : Option ℕ) (derivation : Option Bytes) → Order
   exec : (image : Bytes) (steps last : Option ℕ) → Order
   run : (file : Bytes) (steps stack : Option ℕ) (derivation image : Option Bytes) → Order
@@ -36,6 +37,7 @@ order_of (command.Check file) = check file.now
 order_of (command.Derive file) = derive file.now
 order_of (command.Judge file derivation) = judge file.now derivation.now
 order_of (command.Why file width) = why file.now width
+order_of (command.Tree file derivation latex levels node width) = tree file.now (option_map (λ name. name.now) derivation) latex levels node width
 order_of (command.Build file image stack derivation) = build file.now image.now stack (option_map (λ name. name.now) derivation)
 order_of (command.Exec image steps last) = exec image.now steps last
 order_of (command.Run file steps stack derivation image) = run file.now steps stack (option_map (λ name. name.now) derivation) (option_map (λ name. name.now) image)
@@ -160,6 +162,18 @@ trace_option words = at_most_once (number_in 1 4096) (values (codes "--trace=") 
 abbrev pub width_option : List Bytes → Option (Option ℕ)
 width_option words = at_most_once (number_in 40 1000) (values (codes "--width=") words)
 
+-- rules of inference for LaTeX
+abbrev pub latex_option : List Bytes → Option Bool
+latex_option words = flag (values (codes "--form=latex") words)
+
+-- the levels of a tree
+abbrev pub levels_option : List Bytes → Option (Option ℕ)
+levels_option words = at_most_once (number_in 0 2048) (values (codes "--depth=") words)
+
+-- a node of a derivation
+abbrev pub node_option : List Bytes → Option (Option ℕ)
+node_option words = at_most_once (number_in 0 262143) (values (codes "--node=") words)
+
 -- ---- the commands
 
 -- `check FILE`
@@ -185,6 +199,17 @@ why_with _ _ = None
 
 abbrev pub why_from : List Bytes → Option Order
 why_from words = if are_known (codes "--width=" ∷ []) words then why_with (only_operand (operands words)) (width_option words) else None
+
+-- `tree FILE [--derivation=D] [--form=latex] [--depth=K] [--node=N] [--width=W]`
+abbrev pub tree_with : Option Bytes → Option (Option Bytes) → Option Bool → Option (Option ℕ) → Option (Option ℕ) → Option (Option ℕ) → Option Order
+tree_with (Some file) (Some derivation) (Some latex) (Some levels) (Some node) (Some width) = Some (tree file derivation latex levels node width)
+tree_with _ _ _ _ _ _ = None
+
+abbrev pub tree_from : List Bytes → Option Order
+tree_from words =
+    if are_known (codes "--derivation=" ∷ codes "--form=latex" ∷ codes "--depth=" ∷ codes "--node=" ∷ codes "--width=" ∷ []) words
+    then tree_with (only_operand (operands words)) (derivation_option words) (latex_option words) (levels_option words) (node_option words) (width_option words)
+    else None
 
 -- `build FILE --image=OUT [--stack=W] [--derivation=D]`
 abbrev pub build_with : Option Bytes → Option (Option Bytes) → Option (Option ℕ) → Option (Option Bytes) → Option Order
@@ -289,6 +314,7 @@ command_from (name ∷ words) =
     else (if bytes_eq name (codes "derive") then derive_from words
     else (if bytes_eq name (codes "judge") then judge_from words
     else (if bytes_eq name (codes "why") then why_from words
+    else (if bytes_eq name (codes "tree") then tree_from words
     else (if bytes_eq name (codes "build") then build_from words
     else (if bytes_eq name (codes "exec") then exec_from words
     else (if bytes_eq name (codes "run") then run_from words
@@ -303,7 +329,7 @@ command_from (name ∷ words) =
     else (if bytes_eq name (codes "unit") then unit_from words
     else (if bytes_eq name (codes "join") then join_from words
     else (if bytes_eq name (codes "link") then link_from words
-    else None)))))))))))))))))
+    else None))))))))))))))))))
 
 -- ---- what is wanted where no option says it
 
@@ -327,6 +353,14 @@ trace_steps_wanted steps = unwrap_or steps 10000
 abbrev pub width_wanted : Option ℕ → ℕ
 width_wanted width = unwrap_or width 78
 
+-- bytes of a line of a tree
+abbrev pub line_wanted : Option ℕ → ℕ
+line_wanted width = unwrap_or width 100
+
+-- levels of a tree: as many as derivations have
+abbrev pub levels_wanted : Option ℕ → ℕ
+levels_wanted levels = unwrap_or levels 2048
+
 -- a stack of a size that images have
 abbrev pub IsStackInRange : Option ℕ → Type 0
 IsStackInRange stack = (1024 ≤ stack_wanted stack) × (stack_wanted stack ≤ 67108864)
@@ -342,6 +376,7 @@ IsInRange (check file) = Unit {0}
 IsInRange (derive file) = Unit {0}
 IsInRange (judge file derivation) = Unit {0}
 IsInRange (why file width) = Unit {0}
+IsInRange (tree file derivation latex levels below width) = Unit {0}
 IsInRange (exec image steps last) = Unit {0}
 IsInRange (list file) = Unit {0}
 IsInRange (audit image) = Unit {0}

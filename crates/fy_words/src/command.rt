@@ -3,7 +3,7 @@
 ghost use Rattle.std.specs.Prelude.{◌≡◌, ◌≤◌, map, string_bytes, IfSome};
 ghost use Rattle.std.specs.Option.{option_map};
 ghost use Rattle.fy_words.specs.Order.{IsInRange, IsStackInRange, copy_wanted, trace_steps_wanted};
-ghost use Rattle.fy_words.specs.Order.{stack_option, trace_option, steps_option, check_from, build_from, exec_from, run_from, list_from, sample_from, command_from, order_of, copy_option, copy_from, trace_steps_option, trace_from, derive_from, judge_from, why_from, width_option, audit_from, migrate_from, elf_from, unelf_from, unit_from, join_from, link_from};
+ghost use Rattle.fy_words.specs.Order.{stack_option, trace_option, steps_option, check_from, build_from, exec_from, run_from, list_from, sample_from, command_from, order_of, copy_option, copy_from, trace_steps_option, trace_from, derive_from, judge_from, why_from, tree_from, latex_option, levels_option, node_option, width_option, audit_from, migrate_from, elf_from, unelf_from, unit_from, join_from, link_from};
 
 use crate::words::{
     are_known, both_names, both_operands, flag, name_option, number_in, number_option, only_operand,
@@ -28,6 +28,16 @@ pub enum Command<'a> {
     /// Tells why the text in the file has no type, with phrases of so many bytes.
     Why {
         file: &'a str,
+        width: Option<u32>,
+    },
+    /// Shows a derivation of the text in the file as a tree, as text or for LaTeX: below a node, down to so many levels, in lines of
+    /// so many bytes.
+    Tree {
+        file: &'a str,
+        derivation: Option<&'a str>,
+        latex: bool,
+        levels: Option<u32>,
+        node: Option<u32>,
         width: Option<u32>,
     },
     /// Builds an image of the text in the file, and keeps it.
@@ -165,6 +175,35 @@ fn width_option(words: &[String]) -> Option<Option<u32>>
     }
 }
 
+// Whether `--form=latex` is among the words.
+fn latex_option(words: &[String]) -> Option<bool>
+    ensures { result ≡ latex_option (map string_bytes words.now) }
+{
+    flag("--form=latex", words)
+}
+
+// The levels of a tree that `--depth=` allows.
+fn levels_option(words: &[String]) -> Option<Option<u32>>
+    ensures { result ≡ levels_option (map string_bytes words.now) }
+{
+    let levels = number_option("--depth=", 0, 2048, words)?;
+    match levels {
+        None => Some(None),
+        Some(count) => Some(Some(count as u32)),
+    }
+}
+
+// The node that `--node=` names.
+fn node_option(words: &[String]) -> Option<Option<u32>>
+    ensures { result ≡ node_option (map string_bytes words.now) }
+{
+    let node = number_option("--node=", 0, 262_143, words)?;
+    match node {
+        None => Some(None),
+        Some(number) => Some(Some(number as u32)),
+    }
+}
+
 // `check FILE`
 fn check_of(words: &[String]) -> Option<Command<'_>>
     ensures order { option_map order_of result ≡ check_from (map string_bytes words.now) }
@@ -213,6 +252,37 @@ fn why_of(words: &[String]) -> Option<Command<'_>>
     let file = only_operand(words)?;
     let width = width_option(words)?;
     Some(Command::Why { file, width })
+}
+
+// `tree FILE [--derivation=D] [--form=latex] [--depth=K] [--node=N] [--width=W]`
+fn tree_of(words: &[String]) -> Option<Command<'_>>
+    ensures order { option_map order_of result ≡ tree_from (map string_bytes words.now) }
+    ensures stack { IfSome result (λ command. IsInRange (order_of command)) }
+{
+    let keys = [
+        "--derivation=",
+        "--form=latex",
+        "--depth=",
+        "--node=",
+        "--width=",
+    ];
+    if !are_known(&keys, words) {
+        return None;
+    }
+    let file = only_operand(words)?;
+    let derivation = name_option("--derivation=", words)?;
+    let latex = latex_option(words)?;
+    let levels = levels_option(words)?;
+    let node = node_option(words)?;
+    let width = width_option(words)?;
+    Some(Command::Tree {
+        file,
+        derivation,
+        latex,
+        levels,
+        node,
+        width,
+    })
 }
 
 // `build FILE --image=OUT [--stack=W] [--derivation=D]`
@@ -438,6 +508,7 @@ pub fn command_of(words: &[String]) -> Option<Command<'_>>
         "derive" => derive_of(words),
         "judge" => judge_of(words),
         "why" => why_of(words),
+        "tree" => tree_of(words),
         "build" => build_of(words),
         "exec" => exec_of(words),
         "run" => run_of(words),
